@@ -1,0 +1,232 @@
+-- Document 01's worked cases, by computation from the definitions alone.
+use Prim.Native.Nat.{ℕ, Ordering, Ordering·lt, Ordering·eq, Ordering·gt}
+use Prim.Native.String.{String}
+use mathlib.Core.Path.{_≡_, refl}
+use mathlib.Core.List.{List, [], _∷_, _++_, map}
+use mathlib.Core.Bool.{Bool, true, false, _&&_}
+use lib.Dec.{eqb}
+use lib.ListN.{replicate}
+use lib.IntN.{pos}
+use Rattle.model.specs.Base.{Bytes, text, all}
+use Rattle.model.specs.Limits.{listRoom}
+use Rattle.model.specs.Values.{whole}
+use Rattle.model.specs.Fields.{orderKey, byOrder}
+use Rattle.model.specs.Refusals.{Result, refused, done}
+use Rattle.model.specs.Opening.{State, initial, Texts, Fault, opened, afterOpening}
+use Rattle.model.specs.Serving.{Act, line, save, Answer, refusal, session, length-is, accepted, outcome}
+use Rattle.model.specs.Runs.{end, events, only, sequence, own, others, got, answer, copy, delivery}
+use Rattle.model.specs.Program.{serve}
+use Rattle.model.specs.Program
+
+-- lines, each ended by 0A
+rows : List String → Bytes
+rows [] = []
+rows (s ∷ ss) = text s ++ (0x0A ∷ rows ss)
+
+-- ── "One afternoon in the hall" ──
+clubTexts : Texts
+unfolding rows
+clubTexts = record {
+  usersText = rows (
+      "user;role;key;allowance" ∷
+      "ann;repairer;k1;4" ∷
+      "bob;driver;k2;0" ∷
+      "cy;owner;k3;2" ∷ []);
+  environmentsText = rows (
+      "user;name;value" ∷
+      "cy;my-engine;e7" ∷ []);
+  policyText = rows (
+      "role;access;path" ∷
+      "*;READ;$.*.name" ∷
+      "repairer;WRITE;$.*.cv.*" ∷
+      "driver;READ;$.*.cv['1','29']" ∷
+      "owner;WRITE;$[=~my-engine].note" ∷ []);
+  recordText = rows ("{\"e7\":{\"name\":\"Tank 7\",\"cv\":{\"1\":3,\"29\":6},\"note\":\"shelf B\"},\"e9\":{\"name\":\"Mail\",\"cv\":{\"1\":12}}}" ∷ []);
+}
+
+clubInput : List String
+clubInput =
+    "LOGIN;bob;k2" ∷
+    "LOGIN;ann;k1" ∷
+    "PUSH;1;$['e7']['cv']['29'];38" ∷
+    "PUSH;1;$['e9']['cv']['3'];10" ∷
+    "PUSH;65537;$['e7']['cv']['1'];4" ∷
+    "GET;65537" ∷ []
+
+bobsCopy : List String
+bobsCopy =
+    "role;access;path" ∷
+    "driver;READ;$[*]['name']" ∷
+    "driver;READ;$[*]['cv']['1','29']" ∷
+    "name;value" ∷
+    "{\"e7\":{\"cv\":{\"1\":3,\"29\":38},\"name\":\"Tank 7\"},\"e9\":{\"cv\":{\"1\":12},\"name\":\"Mail\"}}" ∷ []
+
+clubOutput : List String
+clubOutput =
+    "OK;65537" ∷
+    "OK;1" ∷
+    "OK" ∷
+    "TO;65537;$['e7']['cv']['29'];38" ∷
+    "OK" ∷
+    "NO;16" ∷
+    "OK;167" ∷ []
+
+afternoon : serve clubTexts (rows clubInput) ≡ rows (clubOutput ++ bobsCopy)
+unfolding Program.Opened rows clubTexts clubInput clubOutput bobsCopy
+afternoon = refl
+
+-- ── "Wrong programs that look sound" ──
+-- a guest who may read one path, and a record
+guestTexts : String → String → Texts
+unfolding rows
+guestTexts path record-text = record {
+  usersText = rows ("user;role;key;allowance" ∷ "dee;guest;k;0" ∷ []);
+  environmentsText = rows ("user;name;value" ∷ []);
+  policyText = rows ("role;access;path" ∷ []) ++ (text "*;READ;" ++ rows (path ∷ []));
+  recordText = text record-text;
+}
+
+guestInput : Bytes
+unfolding rows
+guestInput = rows ("LOGIN;dee;k" ∷ "GET;1" ∷ [])
+
+-- "A policy path that runs past a value and still matches"
+pastValue : serve (guestTexts "$.*.b" "{\"a\":0,\"r\":{\"b\":true}}") guestInput ≡
+    rows ("OK;1" ∷ "OK;66" ∷ "role;access;path" ∷ "guest;READ;$[*]['b']" ∷ "name;value" ∷ "{\"r\":{\"b\":true}}" ∷ [])
+unfolding Program.Opened rows guestTexts guestInput
+pastValue = refl
+
+-- "A right to an object taken as a right to what is in it"
+insideObject : serve (guestTexts "$.r" "{\"a\":0,\"r\":{\"b\":true}}") guestInput ≡
+    rows ("OK;1" ∷ "OK;49" ∷ "role;access;path" ∷ "guest;READ;$['r']" ∷ "name;value" ∷ "{}" ∷ [])
+unfolding Program.Opened rows guestTexts guestInput
+insideObject = refl
+
+-- ── P1 to P10 and the further cases: entries of one list ──
+data Case : Type 0 where
+  -- after these lines, on the tables above, this line has this answer; the number is the buffer's length
+  answers : List String → String → ℕ → Answer → Case
+  -- the first key sorts before the second
+  sorts : String → String → Case
+  -- with these lines below the policy's head, the opening is refused by this number in this line
+  refuses : List String → ℕ → ℕ → Case
+
+sameAnswer : Answer → Answer → Bool
+sameAnswer (refusal m) (refusal n) = eqb m n
+sameAnswer (refusal m) (session n) = false
+sameAnswer (refusal m) (length-is n) = false
+sameAnswer (refusal m) accepted = false
+sameAnswer (session m) (refusal n) = false
+sameAnswer (session m) (session n) = eqb m n
+sameAnswer (session m) (length-is n) = false
+sameAnswer (session m) accepted = false
+sameAnswer (length-is m) (refusal n) = false
+sameAnswer (length-is m) (session n) = false
+sameAnswer (length-is m) (length-is n) = eqb m n
+sameAnswer (length-is m) accepted = false
+sameAnswer accepted (refusal n) = false
+sameAnswer accepted (session n) = false
+sameAnswer accepted (length-is n) = false
+sameAnswer accepted accepted = true
+
+asked : ℕ → String → Act
+asked room s = line (text s) (replicate room 0) (replicate listRoom 0)
+
+clubState : State
+unfolding clubTexts
+clubState = afterOpening initial clubTexts
+
+isFault : ℕ → ℕ → Result Fault State → Bool
+isFault n l (refused f) = eqb (f .number) n && eqb (f .inText) 3 && eqb (f .line) l
+isFault n l (done s) = false
+
+passes : Case → Bool
+unfolding sameAnswer asked clubState isFault rows clubTexts
+passes (answers earlier s room a) = sameAnswer (outcome (end clubState (map (asked room) earlier)) (asked room s) .answer) a
+passes (sorts a b) = byOrder (orderKey (text a) (text b)) true false false
+passes (refuses ls n l) = isFault n l (opened (record {
+  usersText = clubTexts .usersText;
+  environmentsText = clubTexts .environmentsText;
+  policyText = rows ("role;access;path" ∷ ls);
+  recordText = clubTexts .recordText;
+}))
+
+cases : List Case
+cases =
+    answers [] "LOGIN;bob;k1" 0 (refusal 12) ∷  -- P1
+    answers [] "LOGIN;cy;k3" 0 (session 131073) ∷  -- P2
+    answers ("LOGIN;cy;k3" ∷ []) "LOGIN;cy;k3" 0 (refusal 13) ∷  -- P3
+    answers [] "GET;2" 0 (refusal 14) ∷  -- P4
+    answers ("LOGIN;cy;k3" ∷ []) "PUSH;131073;$['e9']['note'];true" 0 (refusal 16) ∷  -- P5
+    sorts "29" "3" ∷  -- P6
+    answers ("LOGIN;ann;k1" ∷ []) "PUSH;1;$['e7']['cv']['1'];-2147483648" 0 accepted ∷  -- P7
+    answers ("LOGIN;ann;k1" ∷ []) "PUSH;1;$['e7']['cv']['1'];-2147483649" 0 (refusal 11) ∷  -- P8
+    refuses ("repairer;WRITE;$.*.cv" ∷ "repairer;WRITE;$.e7.cv.*" ∷ []) 5 3 ∷  -- P9
+    refuses ("driver;READ;$.29" ∷ []) 3 2 ∷  -- P10
+    []
+
+casesHold : all passes cases ≡ true
+unfolding Program.Opened cases passes
+casesHold = refl
+
+furtherCases : List Case
+unfolding clubInput
+furtherCases =
+    -- "Ann's fifth new field is refused 17, her fourth accepted"
+    answers ("LOGIN;ann;k1" ∷ "PUSH;1;$['a']['cv']['1'];1" ∷ "PUSH;1;$['a']['cv']['2'];1" ∷ "PUSH;1;$['a']['cv']['3'];1" ∷ []) "PUSH;1;$['a']['cv']['4'];1" 0 accepted ∷
+    answers ("LOGIN;ann;k1" ∷ "PUSH;1;$['a']['cv']['1'];1" ∷ "PUSH;1;$['a']['cv']['2'];1" ∷ "PUSH;1;$['a']['cv']['3'];1" ∷ "PUSH;1;$['a']['cv']['4'];1" ∷ []) "PUSH;1;$['a']['cv']['5'];1" 0 (refusal 17) ∷
+    -- "GET with 167 bytes succeeds, with 166 gives 15"
+    answers clubInput "GET;65537" 167 (length-is 167) ∷
+    answers clubInput "GET;65537" 166 (refusal 15) ∷
+    -- no "Separate answers for an unknown user and a wrong key"
+    answers [] "LOGIN;dee;k1" 0 (refusal 12) ∷
+    []
+
+furtherHold : all passes furtherCases ≡ true
+unfolding Program.Opened furtherCases passes
+furtherHold = refl
+
+-- ── What bob sends and gets in the afternoon ──
+clubActs : List Act
+unfolding asked clubInput
+clubActs = map (asked 200) clubInput
+
+bobsSequence : sequence (only 1) (events clubState clubActs) ≡
+    own (text "LOGIN;bob;k2") 0 ∷
+    others (text "e7" ∷ text "cv" ∷ text "29" ∷ []) (whole (pos 38)) ∷
+    own (text "PUSH;65537;$['e7']['cv']['1'];4") 32 ∷
+    own (text "GET;65537") 200 ∷ []
+unfolding Program.Opened clubState clubActs
+bobsSequence = refl
+
+bobGets : got (only 1) (events clubState clubActs) ≡
+    answer 1 (session 65537) ∷
+    delivery 1 (text "TO;65537;$['e7']['cv']['29'];38") ∷
+    answer 1 (refusal 16) ∷
+    answer 1 (length-is 167) ∷
+    copy 1 (rows bobsCopy) ∷ []
+unfolding Program.Opened clubState clubActs rows bobsCopy
+bobGets = refl
+
+-- another run that bob cannot tell from it: other acts of the others, refused ones and a save among them
+otherActs : List Act
+unfolding asked
+otherActs = map (asked 200) (
+    "GET;1" ∷
+    "nonsense" ∷
+    "LOGIN;ann;k1" ∷
+    "LOGIN;cy;k3" ∷
+    "LOGIN;bob;k2" ∷
+    "PUSH;131073;$['e7']['note'];\"hidden\"" ∷
+    "PUSH;1;$['e7']['cv']['29'];38" ∷
+    "PUSH;1;$['e7']['cv']['30'];0" ∷
+    "PUSH;65537;$['e7']['cv']['1'];4" ∷ []) ++
+    save [] ∷ line (text "GET;65537") (replicate 200 1) [] ∷ []
+
+bobsSequenceToo : sequence (only 1) (events clubState otherActs) ≡
+    own (text "LOGIN;bob;k2") 0 ∷
+    others (text "e7" ∷ text "cv" ∷ text "29" ∷ []) (whole (pos 38)) ∷
+    own (text "PUSH;65537;$['e7']['cv']['1'];4") 32 ∷
+    own (text "GET;65537") 200 ∷ []
+unfolding Program.Opened clubState otherActs
+bobsSequenceToo = refl

@@ -1,0 +1,80 @@
+-- Document 01, "Tables": what a user may read and write, and which paths conflict.
+use mathlib.Core.Option.{Option, none, some}
+use mathlib.Core.List.{List, [], _∷_, map}
+use mathlib.Core.Bool.{Bool, true, false, _&&_, _||_}
+use Rattle.model.specs.Base.{Bytes, any, keep, among, _==_}
+use Rattle.model.specs.Fields.{Keys}
+use Rattle.model.specs.Paths.{Environment, equals, isIn, Step, names, wildcard, environment, Steps}
+use Rattle.model.specs.Tables.{Binding, User, Access, READ, WRITE, Rule, everyRole}
+use Rattle.model.specs.Tables
+
+-- ── Matching ──
+-- "Lines with one user and name form a list": the user's values under the name n
+unfoldable pub listed : User → Bytes → List Bytes
+listed u n = map (λ b. b .value) (keep (λ b. b .name == n) (u .environment))
+
+unfoldable pub firstIs : Bytes → List Bytes → Bool
+firstIs k [] = false
+firstIs k (v ∷ vs) = k == v
+
+-- "a list that contains it, any key, `=~n` where it equals the first listed value of n for that user, `in~n` where it is any of them"
+unfoldable pub admits : User → Step → Bytes → Bool
+admits u (names ns) k = among k ns
+admits u wildcard k = true
+admits u (environment equals n) k = firstIs k (listed u n)
+admits u (environment isIn n) k = among k (listed u n)
+
+-- "A policy path matches a field path when both have as many steps and each step admits its key"
+unfoldable pub matches : User → Steps → Keys → Bool
+matches u [] [] = true
+matches u [] (k ∷ ks) = false
+matches u (t ∷ ts) [] = false
+matches u (t ∷ ts) (k ∷ ks) = let r = matches u ts ks in admits u t k && r
+
+-- ── Rights ──
+unfoldable pub isWriting : Access → Bool
+isWriting READ = false
+isWriting WRITE = true
+
+unfoldable pub isWrite : Rule → Bool
+isWrite r = isWriting (r .access)
+
+-- a line of the user's role or of every role
+unfoldable pub isFor : User → Rule → Bool
+isFor u r = r .role == u .role || r .role == everyRole
+
+-- "may read it if a line of either kind does"
+unfoldable pub mayRead : List Rule → User → Keys → Bool
+mayRead rs u p = any (λ r. isFor u r && matches u (r .path) p) rs
+
+-- "A user may write a path if a WRITE line of the role matches it"
+unfoldable pub mayWrite : List Rule → User → Keys → Bool
+mayWrite rs u p = any (λ r. isFor u r && isWrite r && matches u (r .path) p) rs
+
+-- ── Conflict; document 01: "tangle" ──
+-- "Lists overlap if they share a name; any key and own steps overlap everything"
+unfoldable pub overlap : Step → Step → Bool
+overlap (names a) (names b) = any (λ n. among n b) a
+overlap (names a) wildcard = true
+overlap (names a) (environment e n) = true
+overlap wildcard t = true
+overlap (environment e n) t = true
+
+-- the first is shorter, "and each of its steps overlaps the other's step there"
+unfoldable pub isAbove : Steps → Steps → Bool
+isAbove [] [] = false
+isAbove [] (u ∷ q) = true
+isAbove (t ∷ p) [] = false
+isAbove (t ∷ p) (u ∷ q) = let r = isAbove p q in overlap t u && r
+
+-- "Two paths tangle when one is shorter and each of its steps overlaps the other's step there"
+unfoldable pub conflict : Steps → Steps → Bool
+conflict p q = isAbove p q || isAbove q p
+
+-- a path in conflict with a WRITE line
+unfoldable pub conflictsWith : Steps → Rule → Bool
+conflictsWith p r = isWrite r && conflict p (r .path)
+
+unfoldable pub Opened : Unit {0}
+unfolding Tables.Opened listed firstIs admits matches isWriting isWrite isFor mayRead mayWrite overlap isAbove conflict conflictsWith
+Opened = tt
