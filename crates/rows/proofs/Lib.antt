@@ -1,0 +1,7 @@
+-- Laws that other crates use.
+pub mod Rows
+pub mod Table
+pub mod Moves
+pub mod Writing
+pub mod Parts
+pub mod Positions

@@ -1,0 +1,47 @@
+-- A position in a text stands for the text from there on.
+use Prim.Native.Nat.{ℕ, _+_, _≤_, _<_}
+use mathlib.Core.Path.{_≡_}
+use mathlib.Core.Bool.{Bool, cond, not}
+use mathlib.Core.Option.{Option, none, some}
+use mathlib.Core.List.{List, [], _∷_}
+use lib.ListN.{length, drop}
+use Rattle.rows.specs.Rows.{upTo}
+
+-- a reader takes a text to what it read and the rest, or to nothing
+abbrev pub Reader : Type 0 → Type 0 → Type 0
+Reader E A = List E → Option (A × List E)
+
+-- the reader f, at the position `at`, reads a and ends at e
+pub record Reads {E A : Type 0} (f : Reader E A) (s : List E) (at : ℕ) (a : A) (e : ℕ) : Type 0 where
+  pub from : at ≤ e
+  pub to : e ≤ length s
+  pub is : f (drop at s) ≡ some (a, drop e s)
+
+module _ {E A : Type 0} (f : Reader E A) (s : List E) (at : ℕ) where
+  -- the same, of a reader that takes at least one element
+  abbrev pub Takes : A → ℕ → Type 0
+  Takes a e = (at < e) × Reads f s at a e
+
+  -- an answer is right of f: what it reads and where it ends, or that it reads nothing
+  abbrev pub Answers : Option (A × ℕ) → Type 0
+  Answers none = f (drop at s) ≡ none
+  Answers (some p) = Takes (p .0) (p .1)
+
+  -- the same of an answer that does not say what was read
+  abbrev pub Ends : Option ℕ → Type 0
+  Ends none = f (drop at s) ≡ none
+  Ends (some e) = (a : A) × Takes a e
+
+module _ {E : Type 0} (ok : E → Bool) where
+  -- one element that passes
+  unfoldable pub one : Reader E E
+  one [] = none
+  one (x ∷ xs) = cond (ok x) (some (x, xs)) none
+
+  -- the longest beginning of elements that all pass
+  abbrev pub run : List E → List E
+  run xs = upTo (λ x. not (ok x)) xs
+
+  -- where the elements that pass end, from the position `at` on
+  unfoldable pub runEnd : List E → ℕ → ℕ
+  runEnd s at = at + length (run (drop at s))

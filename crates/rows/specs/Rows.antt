@@ -1,0 +1,37 @@
+-- Rows of a fixed size in a flat list and what they mean; elements put in, taken out and written over.
+use Prim.Native.Nat.{ℕ, zero, suc}
+use mathlib.Core.Bool.{Bool, cond}
+use mathlib.Core.List.{List, [], _∷_, _++_, map}
+use lib.ListN.{take, drop}
+use lib.Seq.{sets}
+
+module _ {ℓ} {A : Type ℓ} where
+  -- the first n rows of k elements each
+  unfoldable pub rows : ℕ → ℕ → List A → List (List A)
+  rows k zero xs = []
+  rows k (suc n) xs = take k xs ∷ rows k n (drop k xs)
+
+  -- the elements before the first that is a stop
+  unfoldable pub upTo : (A → Bool) → List A → List A
+  upTo stop [] = []
+  upTo stop (x ∷ xs) = let r = x ∷ upTo stop xs in cond (stop x) [] r
+
+  -- a at the place i, and what stood from there on after it
+  abbrev pub insertAt : ℕ → A → List A → List A
+  insertAt i a xs = take i xs ++ a ∷ drop i xs
+
+  -- the list without its element at i
+  abbrev pub removeAt : ℕ → List A → List A
+  removeAt i xs = take i xs ++ drop (suc i) xs
+
+  -- ys in the place of the k elements from a on: what a list is after a part of it was lent and came back as ys
+  abbrev pub replaced : ℕ → ℕ → List A → List A → List A
+  replaced a k ys xs = take a xs ++ (ys ++ drop k (drop a xs))
+
+  -- xs stored in the list l from the place i on: what falls outside is not stored
+  unfoldable pub written : ℕ → List A → List A → List A
+  written i xs l = sets l i xs
+
+-- what the first n rows of k elements mean: those before the first that is a stop, decoded
+unfoldable pub table {ℓ κ} : {A : Type ℓ} {B : Type κ} → (List A → Bool) → (List A → B) → ℕ → ℕ → List A → List B
+table stop decode k n xs = map decode (upTo stop (rows k n xs))
