@@ -1,0 +1,91 @@
+-- How long a copy is at most, from the limits of the tables.
+use Prim.Native.Nat.{ℕ, _*_, _≤_}
+use mathlib.Core.Path.{_≡_, subst}
+use mathlib.Core.Option.{some}
+use mathlib.Core.List.{List, [], _∷_, map}
+use mathlib.Core.Bool.{Bool, true}
+use lib.Dec.{leb}
+use lib.ListN.{length, length-append}
+use native.Mathlib.Nat.{mul-suc}
+use native.Mathlib.Omega.{arith}
+use borrow.Author.Tests.{leb-true}
+use Rattle.model.specs.Base.{Bytes, text, all, keep, joined, between, within}
+use Rattle.model.specs.Limits.{maxName, maxKey, maxPathText, maxCopy}
+use Rattle.model.specs.Names.{nameByte, isNameOf, isName, isKey}
+use Rattle.model.specs.Fields.{Fields}
+use Rattle.model.specs.SavedText.{saved}
+use Rattle.model.specs.Paths.{Steps, stepsText, stepsOf}
+use Rattle.model.specs.Tables.{Binding, User, Access, READ, WRITE, Rule, Tables, userAt}
+use Rattle.model.specs.Rights.{isFor}
+use Rattle.model.specs.Serving.{accessText, tableLine, ruleLine, bindingLine, copyOf}
+use Rattle.model.proofs.Lists.{and-both, All, all-imp, all-keep, all-elem, length-keep-le}
+use Rattle.model.proofs.Readers.{some-same, bind-some, check-some}
+use Rattle.model.proofs.TablesRead.{ValidBinding, ValidUser, ValidRule, ValidTables}
+
+-- ── Names and paths ──
+of-length : (m : ℕ) (n : Bytes) → isNameOf m n ≡ true → length n ≤ m
+unfolding isNameOf within
+of-length m n h = leb-true (length n) m (and-both (leb 1 (length n)) _ (and-both (within 1 m (length n)) (all nameByte n) h .0) .1)
+
+pub name-length : (n : Bytes) → isName n ≡ true → length n ≤ maxName
+unfolding isName
+name-length n h = of-length maxName n h
+
+pub key-length : (k : Bytes) → isKey k ≡ true → length k ≤ maxKey
+unfolding isKey
+key-length k h = of-length maxKey k h
+
+pub steps-length : (s : Bytes) (p : Steps) → stepsOf s ≡ some p → length (stepsText p) ≤ maxPathText
+unfolding stepsOf
+steps-length s p h =
+    let (q, read, k) = bind-some _ _ p h in
+    let (short, e) = check-some _ _ p k in
+    subst (λ (p : Steps). length (stepsText p) ≤ maxPathText) (some-same e) (leb-true _ _ short)
+
+-- ── Joining ──
+pub joined-length : {A B : Type 0} (f : A → List B) (k : ℕ) (xs : List A) →
+    All (λ x. length (f x) ≤ k) xs → length (joined (map f xs)) ≤ k * length xs
+unfolding joined
+joined-length f k [] h = omega arith
+joined-length f k (x ∷ xs) h =
+    omega (arith, h .0, joined-length f k xs (h .1), length-append (f x) (joined (map f xs)), mul-suc k (length xs))
+
+-- ── Lines ──
+access-length : (a : Access) → length (accessText a) ≤ 5
+unfolding accessText text
+access-length READ = omega arith
+access-length WRITE = omega arith
+
+-- 16 + 1 + 5 + 1 + 121 + 1
+rule-length : (u : User) (r : Rule) → ValidUser u → ValidRule r → length (ruleLine u r) ≤ 145
+unfolding ruleLine tableLine between text
+rule-length u r v w = simp length-append (omega (
+  arith,
+  name-length (u .role) (v .role),
+  access-length (r .access),
+  steps-length (w .read .0) (r .path) (w .read .1),
+))
+
+-- 16 + 1 + 16 + 1
+binding-length : (b : Binding) → ValidBinding b → length (bindingLine b) ≤ 34
+unfolding bindingLine tableLine between text
+binding-length b v = simp length-append (omega (arith, name-length (b .name) (v .name), key-length (b .value) (v .value)))
+
+-- ── The copy ──
+-- 17 + 64 * 145 + 11 + 16 * 34 + 41216 + 1
+pub copy-length : (ts : Tables) (i : ℕ) (u : User) (gs : Fields) → ValidTables ts → userAt (ts .users) i ≡ some u →
+    length (saved gs) ≤ 41216 → length (copyOf (ts .policy) u gs) ≤ maxCopy
+unfolding copyOf userAt tableLine between text joined
+copy-length ts i u gs v e k =
+    let w = all-elem ValidUser (ts .users) i u e (v .users .each) in
+    let rs = keep (isFor u) (ts .policy) in
+    let rules = all-imp ValidRule _ (λ r. rule-length u r w) rs (all-keep ValidRule (isFor u) (ts .policy) (v .policy .each)) in
+    let bindings = all-imp ValidBinding _ binding-length (u .environment) (w .environment .each) in
+    simp length-append (omega (
+      arith,
+      v .policy .few,
+      w .environment .few,
+      length-keep-le (isFor u) (ts .policy),
+      joined-length (ruleLine u) 145 rs rules,
+      joined-length bindingLine 34 (u .environment) bindings,
+    ))

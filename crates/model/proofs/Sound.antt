@@ -1,0 +1,271 @@
+-- What the fields of every state of a run have: they are valid, none is the beginning of another, and none conflicts with a WRITE line.
+use Prim.Native.Nat.{ℕ, _+_, _≤_, Ordering·lt, Ordering·eq, Ordering·gt}
+use mathlib.Core.Path.{_≡_, refl, sym, ap, ap₂, subst, _∙_}
+use mathlib.Core.Option.{Option, none, some}
+use mathlib.Core.List.{List, [], _∷_, _++_}
+use mathlib.Core.Bool.{Bool, true, false, not, _&&_, _||_}
+use lib.ListN.{length, replicate, length-take, length-replicate}
+use native.Mathlib.Omega.{arith}
+use borrow.Author.Tests.{not-false}
+use Rattle.model.specs.Base.{Bytes, text, any, among, isSome, _==_, _>>=_, _>>_, _<|>_, check, after, cut}
+use Rattle.model.specs.Limits.{maxFields, maxUsers}
+use Rattle.model.specs.Values.{Value, valueOf}
+use Rattle.model.specs.Fields.{Keys, Field, Fields, orderPath, valueAt, holds, put, store}
+use Rattle.model.specs.RecordText.{Node, leaf, object, Members, noMembers, member, count, countIn, storeNode, storeMembers}
+use Rattle.model.specs.Paths.{names, asSteps, keysOf}
+use Rattle.model.specs.Refusals.{done}
+use Rattle.model.specs.Tables.{User, Rule, Tables}
+use Rattle.model.specs.Rights.{matches, isWrite, isFor, mayWrite, overlap, isAbove, conflict, conflictsWith}
+use Rattle.model.specs.Opening.{LoginState, State, emptyLogin, emptyLogins, Texts, opened}
+use Rattle.model.specs.Requests.{Request, login, get, push, readLogin, readGet, readPush, requestOf}
+use Rattle.model.specs.Serving.{Change, enters, shows, stores, decide, apply, Act, outcome}
+use Rattle.model.proofs.Lists.{by-cases, never, none-some, and-both, or-neither, or-left, or-right, bytes-eq, bytes-refl, All, all-imp, all-replicate, any-true, any-false}
+use Rattle.model.proofs.Order.{Sorted, Behind, by-three, before-after, lt-gt, lt-eq, eq-gt, path-orders, put-less, put-same, put-more, all-put, value-less, value-same, value-more, behind-trans, one, absent, length-put}
+use Rattle.model.proofs.Valid.{Valid, validKeys, validValue}
+use Rattle.model.proofs.Diverge.{diverge, DivergesFrom, Diverging, diverging-put}
+use Rattle.model.proofs.Readers.{some-same, bind-some, check-some, else-some}
+use Rattle.model.proofs.Spelling.{keys-valid, value-valid, value-of-valid}
+use Rattle.model.proofs.Conflict.{conflict-matched, conflict-flip}
+use Rattle.model.proofs.TablesRead.{ValidTables, Apart, writes-apart, tables-valid, opened-inv, record-inv}
+use Rattle.model.proofs.TreeValid.{stored-sorted, stored-diverging, tree-valid}
+use Rattle.model.proofs.Decisions.{Entered, Stored, Decided, decided}
+use Rattle.model.proofs.Invariant.{Running, store-is-put, within-empty, total-empty, next-state, run-act}
+
+-- ── What a pushed field is ──
+login-push : {C : Type 0} {u k : Bytes} {n : ℕ} {p : Keys} {v : Value} → login u k ≡ push n p v → C
+login-push h = let z : _≡_ {A = ℕ} 0 1 = cc in absurd (omega arith)
+
+get-push : {C : Type 0} {m n : ℕ} {p : Keys} {v : Value} → get m ≡ push n p v → C
+get-push h = let z : _≡_ {A = ℕ} 0 1 = cc in absurd (omega arith)
+
+module _ (x : Bytes) (n : ℕ) (p : Keys) (v : Value) where
+  not-login : {C : Type 0} → readLogin x ≡ some (push n p v) → C
+  unfolding readLogin
+  not-login h =
+      let (r, e₁, h₁) = bind-some _ _ _ h in
+      let (t, e₂, h₂) = bind-some _ _ _ h₁ in
+      login-push (some-same (check-some _ _ _ h₂ .1))
+
+  not-get : {C : Type 0} → readGet x ≡ some (push n p v) → C
+  unfolding readGet
+  not-get h =
+      let (r, e₁, h₁) = bind-some _ _ _ h in
+      let (m, e₂, h₂) = bind-some _ _ _ h₁ in
+      get-push (some-same h₂)
+
+  read-push : readPush x ≡ some (push n p v) → Valid (record { path = p; value = v })
+  unfolding readPush
+  read-push h =
+      let (r, e₁, h₁) = bind-some _ _ _ h in
+      let (t, e₂, h₂) = bind-some _ _ _ h₁ in
+      let (w, e₃, h₃) = bind-some _ _ _ h₂ in
+      let (m, e₄, h₄) = bind-some _ _ _ h₃ in
+      let (q, e₅, h₅) = bind-some _ _ _ h₄ in
+      let (y, e₆, h₆) = bind-some _ _ _ h₅ in
+      let e : push m q y ≡ push n p v = some-same h₆ in
+      let i : q ≡ p = cc in
+      let j : y ≡ v = cc in
+      record { path = rw i at (keys-valid _ q e₅); value = rw j at (value-of-valid _ y e₆) }
+
+  pub push-valid : requestOf x ≡ some (push n p v) → Valid (record { path = p; value = v })
+  unfolding requestOf
+  push-valid h = else-some _ _ _ (check-some _ _ _ h .1) (λ e. else-some _ _ _ e not-login not-get) read-push
+
+-- ── A path that is not held is no field's ──
+absent-all : (p : Keys) (gs : Fields) → Sorted gs → holds p gs ≡ false → All (λ g. p ≡ g .path → ⊥) gs
+absent-all p [] s h = tt
+absent-all p (g ∷ gs) s h = by-three (orderPath p (g .path))
+    (λ e. (λ k. differ p (g .path) e k, all-imp _ _ (λ f b k. differ p (f .path) b k) gs (behind-trans _ _ gs e (s .0))))
+    (λ e. never (unfold holds isSome in (rw (value-same p g gs e) at h)))
+    (λ e. (λ k. same-after p (g .path) e k, absent-all p gs (s .1) (unfold holds in (rw (value-more p g gs e) at h))))
+  where
+    differ : (p q : Keys) → orderPath p q ≡ Ordering·lt → p ≡ q → ⊥
+    differ p q e k = lt-eq (sym e ∙ ap (orderPath p) (sym k) ∙ path-orders .self p)
+
+    same-after : (p q : Keys) → orderPath p q ≡ Ordering·gt → p ≡ q → ⊥
+    same-after p q e k = eq-gt (sym (ap (orderPath p) (sym k) ∙ path-orders .self p) ∙ e)
+
+-- a path that is held may be put again: what holds of the paths still does
+all-held : (P : Keys → Type 0) (f : Field) (gs : Fields) → holds (f .path) gs ≡ true → All (λ g. P (g .path)) gs → All (λ g. P (g .path)) (put f gs)
+all-held P f [] h a = never (unfold holds isSome valueAt in sym h)
+all-held P f (g ∷ gs) h a = by-three (orderPath (f .path) (g .path))
+    (λ e. never (sym (unfold holds isSome in (rw (value-less (f .path) g gs e) at h))))
+    (λ e. rw (put-same f g gs e) (subst P (sym (path-orders .same _ _ e)) (a .0), a .1))
+    (λ e. rw (put-more f g gs e) (a .0, all-held P f gs (unfold holds in (rw (value-more (f .path) g gs e) at h)) (a .1)))
+
+diverging-held : (f : Field) (gs : Fields) → holds (f .path) gs ≡ true → Diverging gs → Diverging (put f gs)
+diverging-held f [] h d = never (unfold holds isSome valueAt in sym h)
+diverging-held f (g ∷ gs) h d = by-three (orderPath (f .path) (g .path))
+    (λ e. never (sym (unfold holds isSome in (rw (value-less (f .path) g gs e) at h))))
+    (λ e. rw (put-same f g gs e) (subst (λ (p : Keys). DivergesFrom p gs) (sym (path-orders .same _ _ e)) (d .0), d .1))
+    (λ e. let k : holds (f .path) gs ≡ true = unfold holds in (rw (value-more (f .path) g gs e) at h) in
+    rw (put-more f g gs e) (all-held (λ q. diverge (g .path) q ≡ true) f gs k (d .0), diverging-held f gs k (d .1)))
+
+-- ── Two paths are the same, diverge, or conflict ──
+key-overlap : (k l : Bytes) → (k == l) ≡ true → overlap (names (k ∷ [])) (names (l ∷ [])) ≡ true
+unfolding overlap any among
+key-overlap k l e = rw e
+
+above-key : (k l : Bytes) (p q : Keys) → (k == l) ≡ true → isAbove (asSteps (k ∷ p)) (asSteps (l ∷ q)) ≡ isAbove (asSteps p) (asSteps q)
+unfolding isAbove asSteps
+above-key k l p q e = rw (key-overlap k l e)
+
+same-or-conflict : (p q : Keys) → diverge p q ≡ false → (p ≡ q → ⊥) → conflict (asSteps p) (asSteps q) ≡ true
+unfolding conflict
+same-or-conflict [] [] h n = absurd (n refl)
+same-or-conflict [] (l ∷ q) h n = unfold isAbove asSteps in refl
+same-or-conflict (k ∷ p) [] h n = unfold isAbove asSteps in refl
+same-or-conflict (k ∷ p) (l ∷ q) h n =
+    let w = or-neither (not (k == l)) (diverge p q) (unfold diverge in h) in
+    let e : (k == l) ≡ true = not-false _ (w .0) in
+    let z : k ≡ l = bytes-eq k l e in
+    rw (above-key k l p q e, above-key l k q p (rw z (bytes-refl l))) (same-or-conflict p q (w .1) (λ x. n (ap₂ _∷_ z x)))
+
+-- ── The invariant ──
+-- no WRITE line conflicts with the path
+abbrev pub Clear : Tables → Keys → Type 0
+Clear t p = any (conflictsWith (asSteps p)) (t .policy) ≡ false
+
+pub record Sound (s : State) : Type 0 where
+  pub tables : ValidTables (s .tables)
+  pub valid : All Valid (s .fields)
+  pub clear : All (λ f. Clear (s .tables) (f .path)) (s .fields)
+  pub apart : Diverging (s .fields)
+
+and-three : (a b c : Bool) → (a && b && c) ≡ true → (b ≡ true) × (c ≡ true)
+and-three a b c h = let w = and-both (a && b) c h in (and-both a b (w .0) .1, w .1)
+
+-- what a user may write is clear, and diverges from every clear path but itself
+module _ (t : Tables) (valid : ValidTables t) (u : User) (p : Keys) (writes : mayWrite (t .policy) u p ≡ true) where
+  -- a WRITE line that matches the path, with what holds of every line
+  record Line (P : Rule → Type 0) : Type 0 where
+    rule : Rule
+    isWriting : isWrite rule ≡ true
+    isMatching : matches u (rule .path) p ≡ true
+    has : P rule
+
+  line : (P : Rule → Type 0) → All P (t .policy) → Line P
+  unfolding mayWrite
+  line P h =
+      let (r, e, k) = any-true P _ (t .policy) h writes in
+      let w = and-three (isFor u r) (isWrite r) (matches u (r .path) p) e in
+      record { rule = r; isWriting = w .0; isMatching = w .1; has = k }
+
+  pub written-clear : Clear t p
+  written-clear = by-cases (any (conflictsWith (asSteps p)) (t .policy)) (λ e. absurd (meets e)) (λ e. e)
+    where
+      meets : any (conflictsWith (asSteps p)) (t .policy) ≡ true → ⊥
+      meets e =
+          let l = line (λ r. All (Apart r) (t .policy)) (writes-apart t valid) in
+          let (r, c, apart) = any-true (Apart (l .rule)) _ (t .policy) (l .has) e in
+          let w = and-both (isWrite r) (conflict (asSteps p) (r .path)) (unfold conflictsWith in c) in
+          never (sym (conflict-matched u (l .rule .path) (r .path) p (l .isMatching) (w .1)) ∙ apart (l .isWriting) (w .0))
+
+  writing-apart : (q : Keys) (r : Rule) → isWrite r ≡ true → conflictsWith (asSteps q) r ≡ false → conflict (asSteps q) (r .path) ≡ false
+  unfolding conflictsWith
+  writing-apart q r w h = rw w at h
+
+  pub written-diverges : (q : Keys) → Clear t q → (p ≡ q → ⊥) → diverge p q ≡ true
+  written-diverges q clear n = by-cases (diverge p q) (λ e. e) (λ e. absurd (meets e))
+    where
+      meets : diverge p q ≡ false → ⊥
+      meets e =
+          let l = line (λ r. conflictsWith (asSteps q) r ≡ false) (any-false _ (t .policy) clear) in
+          let c = conflict-matched u (l .rule .path) (asSteps q) p (l .isMatching) (same-or-conflict p q e n) in
+          never (sym c ∙ conflict-flip (l .rule .path) (asSteps q) ∙ writing-apart q (l .rule) (l .isWriting) (l .has))
+
+-- ── Each act keeps it ──
+module _ (loaded : ℕ) (s : State) (r : Running loaded s) (o : Sound s) where
+  module _ (n : ℕ) (p : Keys) (v : Value) (i : ℕ) (a : LoginState) (f : Field) (d : Stored s n p v i a f) (w : Valid (record { path = p; value = v })) where
+    diverges : holds p (s .fields) ≡ false → DivergesFrom p (s .fields)
+    diverges h = both (s .fields) (o .clear) (absent-all p (s .fields) (r .sorted) h)
+      where
+        both : (gs : Fields) → All (λ g. Clear (s .tables) (g .path)) gs → All (λ g. p ≡ g .path → ⊥) gs → DivergesFrom p gs
+        both [] c n = tt
+        both (g ∷ gs) c n = (written-diverges (s .tables) (o .tables) (d .user) p (d .writes) (g .path) (c .0) (n .0), both gs (c .1) (n .1))
+
+    apart-stores : Diverging (put f (s .fields))
+    apart-stores = rw (d .field) (by-cases (holds p (s .fields))
+        (λ h. diverging-held (record { path = p; value = v }) (s .fields) h (o .apart))
+        (λ h. diverging-put (record { path = p; value = v }) (s .fields) (diverges h) (o .apart)))
+
+    sound-stores : Sound (apply (stores i a f) s)
+    unfolding apply
+    sound-stores = rw (store-is-put loaded s r n p v i a f d) (record {
+      tables = o .tables;
+      valid = all-put _ f (s .fields) (subst Valid (sym (d .field)) w) (o .valid);
+      clear = all-put _ f (s .fields) (subst (λ (g : Field). Clear (s .tables) (g .path)) (sym (d .field)) (written-clear (s .tables) (o .tables) (d .user) p (d .writes))) (o .clear);
+      apart = apart-stores;
+    })
+
+  sound-apply : (t : Bytes) (q : Request) (c : Change) → requestOf t ≡ some q → Decided s q c → Sound (apply c s)
+  unfolding apply
+  sound-apply t (login n k) (enters i a) e d = record { tables = o .tables; valid = o .valid; clear = o .clear; apart = o .apart }
+  sound-apply t (login n k) (shows c) e d = absurd d
+  sound-apply t (login n k) (stores i a f) e d = absurd d
+  sound-apply t (get n) (enters i a) e d = absurd d
+  sound-apply t (get n) (shows c) e d = o
+  sound-apply t (get n) (stores i a f) e d = absurd d
+  sound-apply t (push n p v) (enters i a) e d = absurd d
+  sound-apply t (push n p v) (shows c) e d = absurd d
+  sound-apply t (push n p v) (stores i a f) e d = sound-stores n p v i a f d (push-valid t n p v e)
+
+-- a state of a run
+pub record Ran (loaded : ℕ) (s : State) : Type 0 where
+  pub running : Running loaded s
+  pub sound : Sound s
+
+pub ran-act : (loaded : ℕ) (s : State) (a : Act) → Ran loaded s → Ran loaded (outcome s a .state)
+ran-act loaded s a r = record {
+  running = run-act loaded s a (r .running);
+  sound = next-state Sound s (r .sound) (λ t q room c k h. sound-apply loaded s (r .running) (r .sound) t q c k (decided s q room c h)) a;
+}
+
+-- ── An accepted opening starts with it ──
+length-stored : (f : Field) (gs : Fields) → length (store f gs) ≤ length gs + 1
+unfolding store
+length-stored f gs = omega (arith, length-take maxFields (put f gs), length-put f gs, one-small (absent (f .path) gs))
+  where
+    one-small : (b : Bool) → one b ≤ 1
+    one-small true = unfold one in omega arith
+    one-small false = unfold one in omega arith
+
+mutual
+  unfolding storeNode count
+
+  length-node : (v : Node) (p : Keys) (fs : Fields) → length (storeNode p v fs) ≤ length fs + countIn v
+  length-node (leaf v) p fs = length-stored (record { path = p; value = v }) fs
+  length-node (object m) p fs = length-members m p fs
+
+  length-members : (m : Members) (p : Keys) (fs : Fields) → length (storeMembers p m fs) ≤ length fs + count m
+  length-members noMembers p fs = omega arith
+  length-members (member m k v) p fs = omega (arith, length-members m p fs, length-node v (p ++ k ∷ []) (storeMembers p m fs))
+
+no-logins : emptyLogin .logins ≤ 65535
+unfolding emptyLogin
+no-logins = omega arith
+
+pub ran-opened : (t : Texts) (s : State) → opened t ≡ done s → Ran (length (s .fields)) s
+ran-opened t s h =
+    let o = opened-inv t s h in
+    let f = record-inv (s .tables) (t .recordText) (s .fields) (o .fields) in
+    let v = tables-valid t (s .tables) (o .tables) in
+    let few : length (s .fields) ≤ count (f .tree) = omega (arith, ap length (f .stored), length-members (f .tree) [] []) in
+    let empty : s .logins ≡ replicate maxUsers emptyLogin = o .logins ∙ (unfold emptyLogins in refl) in
+    record {
+      running = record {
+        sorted = rw (f .stored) at (stored-sorted [] (f .tree) [] tt);
+        few = rw empty (all-replicate (λ a. a .logins ≤ 65535) maxUsers emptyLogin no-logins);
+        places = rw empty (length-replicate maxUsers emptyLogin);
+        users = v .users .few;
+        within = rw empty (within-empty (s .tables .users) maxUsers);
+        grown = rw empty (omega (arith, total-empty maxUsers));
+        fits = omega (arith, f .fits);
+      };
+      sound = record {
+        tables = v;
+        valid = rw (f .stored) at (tree-valid value-valid (t .recordText) (f .tree) (f .read));
+        clear = f .apart;
+        apart = rw (f .stored) at (stored-diverging (f .tree) (f .once));
+      };
+    }
