@@ -1,23 +1,22 @@
 -- Condition 1, what changes and what does not: refusals leave everything, a login changes one login state, a push one field.
 use Prim.Native.Nat.{ℕ, _≤_, _<_}
-use mathlib.Core.Path.{_≡_, refl, sym, ap, subst, _∙_}
+use mathlib.Core.Path.{_≡_, refl, sym, ap, _∙_}
 use mathlib.Core.Option.{Option, none, some}
-use mathlib.Core.List.{List, [], _∷_}
-use mathlib.Core.Bool.{Bool, true, false}
+use mathlib.Core.List.{List, []}
 use lib.ListN.{length, set, getD}
-use lib.Seq.{getD-set-other}
+use lib.Seq.{getD-set-same, getD-set-other}
 use native.Mathlib.Omega.{arith}
 use Rattle.model.specs.Base.{Bytes}
 use Rattle.model.specs.Values.{Value}
-use Rattle.model.specs.Fields.{Keys, Field, valueAt, put, store}
+use Rattle.model.specs.Fields.{Keys, Field, put, store}
 use Rattle.model.specs.Refusals.{Result, refused, done}
-use Rattle.model.specs.Opening.{LoginState, State, emptyLogin, Texts, Fault, opened, kept, afterOpening}
+use Rattle.model.specs.Opening.{LoginState, State, emptyLogin, kept, afterOpening}
 use Rattle.model.specs.Requests.{Request, login, get, push, requestOf}
-use Rattle.model.specs.Serving.{sessionNumber, indexIn, loginAt, Change, enters, shows, stores, roomFor, decide, decideSave, apply, answerOf, Answer, refusal, session, length-is, accepted, Act, line, save, unchanged, conclude, served, outcome}
+use Rattle.model.specs.Serving.{sessionNumber, indexIn, loginAt, Change, enters, shows, stores, roomFor, decide, apply, answerOf, Answer, refusal, session, length-is, accepted, line, save, unchanged, conclude, served, outcome}
 use Rattle.model.specs.Claims.{RefusedOpening, RefusedLine, RefusedSave, Pushed, LoggedIn, LoginChangesOne, ShowingChangesNothing}
 use Rattle.model.proofs.Order.{value-put, value-other}
-use Rattle.model.proofs.Decisions.{Entered, Stored, Decided, decided, show-change}
-use Rattle.model.proofs.Invariant.{Running, store-is-put}
+use Rattle.model.proofs.Decisions.{Stored, Decided, decided}
+use Rattle.model.proofs.Invariant.{Running, store-is-put, user-place}
 
 -- ── Answers tell the kinds of change apart ──
 refusal-session : {C : Type 0} {e n : ℕ} → refusal e ≡ session n → C
@@ -103,16 +102,24 @@ index-of : (i : ℕ) (a : LoginState) → a .logins ≤ 65535 → indexIn (sessi
 unfolding indexIn sessionNumber
 index-of i a h = omega arith
 
-login-other : (s : State) (i j : ℕ) (a : LoginState) → (j ≡ i → ⊥) → getD (set (s .logins) i a) j emptyLogin ≡ loginAt s j
+login-own : (s : State) (i : ℕ) (a : LoginState) → i < length (s .loginStates) → getD (set (s .loginStates) i a) i emptyLogin ≡ a
+login-own s i a b = getD-set-same (s .loginStates) i a emptyLogin b
+
+login-other : (s : State) (i j : ℕ) (a : LoginState) → (j ≡ i → ⊥) → getD (set (s .loginStates) i a) j emptyLogin ≡ loginAt s j
 unfolding loginAt
-login-other s i j a n = getD-set-other (s .logins) i j a emptyLogin n
+login-other s i j a n = getD-set-other (s .loginStates) i j a emptyLogin n
 
 entered-one : (s s₁ : State) (n : ℕ) (q : Request) (c : Change) → Decided s q c → answerOf c ≡ session n → s₁ ≡ apply c s → LoggedIn s s₁ (indexIn n)
-unfolding answerOf apply
+unfolding answerOf apply loginAt
 entered-one s s₁ n (login m k) (enters i a) d h e =
     let x : sessionNumber i a ≡ n = cc in
     let y : indexIn n ≡ i = rw (← x) (index-of i a (d .few)) in
-    rw (e, y) (record { sameFields = refl; otherLogins = λ j k. unfold loginAt in login-other s i j a k; sameTables = refl })
+    rw (e, y) (record {
+      ownLogin = λ b. login-own s i a b ∙ d .after;
+      otherLogins = λ j k. login-other s i j a k;
+      fieldsStay = refl;
+      tablesStay = refl;
+    })
 entered-one s s₁ n (login m k) (shows t) d h e = absurd d
 entered-one s s₁ n (login m k) (stores i a f) d h e = absurd d
 entered-one s s₁ n (get m) (enters i a) d h e = absurd d
@@ -152,14 +159,15 @@ showing-changes-nothing s (save b) n h = conclude-showing s b [] _ n h
 -- ── PUSH ──
 module _ (loaded : ℕ) (s : State) (r : Running loaded s) where
   stored-one : (s₁ : State) (n : ℕ) (p : Keys) (v : Value) (i : ℕ) (a : LoginState) (f : Field) → Stored s n p v i a f → s₁ ≡ apply (stores i a f) s → Pushed s s₁ (indexIn n) p v
-  unfolding apply
+  unfolding apply loginAt
   stored-one s₁ n p v i a f d e =
       let x : store f (s .fields) ≡ put (record { path = p; value = v }) (s .fields) = store-is-put loaded s r n p v i a f d ∙ ap (λ (g : Field). put g (s .fields)) (d .field) in
       rw (e, ← d .index, x) (record {
         holdsValue = value-put (record { path = p; value = v }) (s .fields);
         otherFields = λ q k. value-other (record { path = p; value = v }) q (s .fields) (r .sorted) k;
-        otherLogins = λ j k. unfold loginAt in login-other s i j a k;
-        sameTables = refl;
+        ownLogin = login-own s i a (user-place loaded s r i (d .user) (d .isUser)) ∙ d .after;
+        otherLogins = λ j k. login-other s i j a k;
+        tablesStay = refl;
       })
 
   accepted-one : (s₁ : State) (q : Request) (n : ℕ) (p : Keys) (v : Value) (c : Change) → q ≡ push n p v → Decided s q c → s₁ ≡ apply c s → Pushed s s₁ (indexIn n) p v

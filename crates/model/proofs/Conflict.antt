@@ -1,13 +1,13 @@
 -- Why no accepted push makes one path the beginning of another: a path that a WRITE line matches conflicts with nothing that the line does not conflict with.
 use mathlib.Core.Path.{_≡_, refl, sym, ap, _∙_}
-use mathlib.Core.List.{List, [], _∷_, map}
-use mathlib.Core.Bool.{Bool, true, false, not, _&&_, _||_, and-false, or-comm}
+use mathlib.Core.List.{List, [], _∷_}
+use mathlib.Core.Bool.{true, false, and-false, or-comm}
 use Rattle.model.specs.Base.{Bytes, any, among, _==_}
 use Rattle.model.specs.Fields.{Keys}
-use Rattle.model.specs.Paths.{Environment, equals, isIn, Step, names, wildcard, environment, Steps, asSteps}
+use Rattle.model.specs.Paths.{Step, names, wildcard, environment, Steps, asSteps}
 use Rattle.model.specs.Tables.{User}
 use Rattle.model.specs.Rights.{admits, matches, overlap, isAbove, conflict}
-use Rattle.model.proofs.Lists.{by-cases, never, and-both, or-right, or-left, bytes-eq, bytes-refl, any-mono}
+use Rattle.model.proofs.Lists.{by-cases, never, and-both, or-right, or-left, bytes-eq, bytes-refl}
 
 -- ── Lists that share a name, in either order ──
 -- a name of both lists

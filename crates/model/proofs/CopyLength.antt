@@ -1,46 +1,21 @@
 -- How long a copy is at most, from the limits of the tables.
 use Prim.Native.Nat.{ℕ, _*_, _≤_}
-use mathlib.Core.Path.{_≡_, subst}
+use mathlib.Core.Path.{_≡_}
 use mathlib.Core.Option.{some}
 use mathlib.Core.List.{List, [], _∷_, map}
-use mathlib.Core.Bool.{Bool, true}
-use lib.Dec.{leb}
 use lib.ListN.{length, length-append}
 use native.Mathlib.Nat.{mul-suc}
 use native.Mathlib.Omega.{arith}
-use borrow.Author.Tests.{leb-true}
-use Rattle.model.specs.Base.{Bytes, text, all, keep, joined, between, within}
-use Rattle.model.specs.Limits.{maxName, maxKey, maxPathText, maxCopy}
-use Rattle.model.specs.Names.{nameByte, isNameOf, isName, isKey}
+use Rattle.model.specs.Base.{text, keep, joined, between}
+use Rattle.model.specs.Limits.{maxCopy}
 use Rattle.model.specs.Fields.{Fields}
 use Rattle.model.specs.SavedText.{saved}
-use Rattle.model.specs.Paths.{Steps, stepsText, stepsOf}
 use Rattle.model.specs.Tables.{Binding, User, Access, READ, WRITE, Rule, Tables, userAt}
 use Rattle.model.specs.Rights.{isFor}
 use Rattle.model.specs.Serving.{accessText, tableLine, ruleLine, bindingLine, copyOf}
-use Rattle.model.proofs.Lists.{and-both, All, all-imp, all-keep, all-elem, length-keep-le}
-use Rattle.model.proofs.Readers.{some-same, bind-some, check-some}
+use Rattle.model.proofs.Lists.{All, all-imp, all-keep, all-elem, length-keep-le}
+use Rattle.model.proofs.Spelling.{name-named, key-named, steps-length}
 use Rattle.model.proofs.TablesRead.{ValidBinding, ValidUser, ValidRule, ValidTables}
-
--- ── Names and paths ──
-of-length : (m : ℕ) (n : Bytes) → isNameOf m n ≡ true → length n ≤ m
-unfolding isNameOf within
-of-length m n h = leb-true (length n) m (and-both (leb 1 (length n)) _ (and-both (within 1 m (length n)) (all nameByte n) h .0) .1)
-
-pub name-length : (n : Bytes) → isName n ≡ true → length n ≤ maxName
-unfolding isName
-name-length n h = of-length maxName n h
-
-pub key-length : (k : Bytes) → isKey k ≡ true → length k ≤ maxKey
-unfolding isKey
-key-length k h = of-length maxKey k h
-
-pub steps-length : (s : Bytes) (p : Steps) → stepsOf s ≡ some p → length (stepsText p) ≤ maxPathText
-unfolding stepsOf
-steps-length s p h =
-    let (q, read, k) = bind-some _ _ p h in
-    let (short, e) = check-some _ _ p k in
-    subst (λ (p : Steps). length (stepsText p) ≤ maxPathText) (some-same e) (leb-true _ _ short)
 
 -- ── Joining ──
 pub joined-length : {A B : Type 0} (f : A → List B) (k : ℕ) (xs : List A) →
@@ -61,7 +36,7 @@ rule-length : (u : User) (r : Rule) → ValidUser u → ValidRule r → length (
 unfolding ruleLine tableLine between text
 rule-length u r v w = simp length-append (omega (
   arith,
-  name-length (u .role) (v .role),
+  name-named (u .role) (v .role) .high,
   access-length (r .access),
   steps-length (w .read .0) (r .path) (w .read .1),
 ))
@@ -69,7 +44,7 @@ rule-length u r v w = simp length-append (omega (
 -- 16 + 1 + 16 + 1
 binding-length : (b : Binding) → ValidBinding b → length (bindingLine b) ≤ 34
 unfolding bindingLine tableLine between text
-binding-length b v = simp length-append (omega (arith, name-length (b .name) (v .name), key-length (b .value) (v .value)))
+binding-length b v = simp length-append (omega (arith, name-named (b .name) (v .name) .high, key-named (b .value) (v .value) .high))
 
 -- ── The copy ──
 -- 17 + 64 * 145 + 11 + 16 * 34 + 41216 + 1

@@ -1,23 +1,22 @@
 -- What is known of a decision once it is taken, and what an act makes of the state.
 use Prim.Native.Nat.{ℕ, suc, min, _≤_, _<_}
-use mathlib.Core.Path.{_≡_, refl, sym, ap, _∙_}
-use mathlib.Core.Option.{Option, none, some}
-use mathlib.Core.List.{List, [], _∷_}
+use mathlib.Core.Path.{_≡_, sym}
+use mathlib.Core.Option.{some}
 use mathlib.Core.Bool.{Bool, true, false, not, _&&_}
-use lib.Dec.{leb, ltb, eqb}
-use lib.ListN.{length}
+use lib.Dec.{leb}
 use native.Mathlib.Omega.{arith}
 use borrow.Author.Tests.{not-false, leb-false}
-use Rattle.model.specs.Base.{Bytes, if_then_else_}
+use Rattle.model.specs.Base.{Bytes, isSome}
 use Rattle.model.specs.Values.{Value}
-use Rattle.model.specs.Fields.{Keys, Field, Fields, holds}
-use Rattle.model.specs.Refusals.{Result, refused, done, _>>=_, _>>_, refuse_if_, _or_}
-use Rattle.model.specs.Tables.{User, userAt, userNamed}
+use Rattle.model.specs.Fields.{Keys, Field, holds}
+use Rattle.model.specs.Refusals.{done, _>>=_, _>>_}
+use Rattle.model.specs.Tables.{User, Tables, userAt, userNamed}
 use Rattle.model.specs.Rights.{mayWrite}
 use Rattle.model.specs.Opening.{LoginState, State}
-use Rattle.model.specs.Requests.{Request, login, get, push, requestOf}
-use Rattle.model.specs.Serving.{sessionNumber, indexIn, isSession, loginAt, readable, Change, enters, shows, stores, decideLogin, decideShow, decideGet, creating, decidePush, roomFor, decide, decideSave, apply, answerOf, Answer, refusal, session, length-is, accepted, Act, line, save, Outcome, unchanged, conclude, served, outcome}
-use Rattle.model.proofs.Lists.{by-cases, if-done, or-done, done-same, refused-done}
+use Rattle.model.specs.Requests.{Request, login, get, push}
+use Rattle.model.specs.Serving.{indexIn, loginAt, Change, enters, shows, stores, decideLogin, decideShow, decideGet, creating, decidePush, decide}
+use Rattle.model.specs.Runs.{ifUser, inSet}
+use Rattle.model.proofs.Lists.{by-cases, never, if-done, or-done, done-same}
 
 enters-shows : {C : Type 0} {i : ℕ} {a : LoginState} {c : Bytes} → enters i a ≡ shows c → C
 enters-shows h = let z : _≡_ {A = ℕ} 0 1 = cc in absurd (omega arith)
@@ -32,6 +31,7 @@ shows-stores h = let z : _≡_ {A = ℕ} 0 1 = cc in absurd (omega arith)
 pub record Entered (s : State) (n : Bytes) (i : ℕ) (a : LoginState) : Type 0 where
   pub user : User
   pub named : userNamed n (s .tables .users) ≡ some (i, user)
+  pub after : a ≡ record { logins = min (suc (loginAt s i .logins)) 65535; isOpen = true; created = loginAt s i .created }
   pub few : a .logins ≤ 65535
   pub sameCreated : a .created ≡ loginAt s i .created
 
@@ -74,7 +74,7 @@ login-decided s n k room c h =
     go (enters j b) i u e h =
         let x : i ≡ j = cc in
         let y : b ≡ record { logins = min (suc (loginAt s i .logins)) 65535; isOpen = true; created = loginAt s i .created } = cc in
-        record { user = u; named = rw x at e; few = rw y (omega arith); sameCreated = rw (y, x) }
+        record { user = u; named = rw x at e; after = rw (← x) y; few = rw y (omega arith); sameCreated = rw (y, x) }
     go (shows c) i u e h = enters-shows h
     go (stores j b f) i u e h = enters-stores h
 
@@ -127,3 +127,17 @@ pub decided : (s : State) (q : Request) (room : ℕ) (c : Change) → decide s q
 decided s (login n k) room c h = login-decided s n k room c h
 decided s (get n) room c h = get-decided s n room c h
 decided s (push n p v) room c h = push-decided s n p v room c h
+
+-- ── Whose a number is ──
+pub user-owner : (t : Tables) (i : ℕ) (u : User) → userAt (t .users) i ≡ some u → ifUser t i ≡ some i
+unfolding ifUser isSome
+user-owner t i u e = rw e
+
+-- an index that is a user's and of the set is of the set
+pub owner-in : (set : ℕ → Bool) (t : Tables) (i : ℕ) → inSet set (ifUser t i) ≡ true → set i ≡ true
+unfolding ifUser inSet
+owner-in set t i h = by-cases (isSome (userAt (t .users) i)) (λ e. rw e at h) (λ e. never (sym (rw e at h)))
+
+pub owner-out : (set : ℕ → Bool) (t : Tables) (i : ℕ) (u : User) → userAt (t .users) i ≡ some u → inSet set (ifUser t i) ≡ false → set i ≡ false
+unfolding inSet
+owner-out set t i u e h = rw (user-owner t i u e) at h

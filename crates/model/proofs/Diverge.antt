@@ -6,7 +6,7 @@ use mathlib.Core.Bool.{Bool, true, false, not, _||_}
 use lib.ListN.{take}
 use Rattle.model.specs.Base.{Bytes, _==_}
 use Rattle.model.specs.Fields.{Keys, Field, Fields, orderPath, put}
-use Rattle.model.proofs.Lists.{by-cases, never, or-right, bytes-eq, bytes-ne, All, all-append, all-take}
+use Rattle.model.proofs.Lists.{by-cases, never, or-right, bytes-eq, bytes-refl, bytes-ne, All, all-append, all-take}
 use Rattle.model.proofs.Order.{by-three, put-less, put-same, put-more, all-put}
 
 -- ── Each element with each later one ──
@@ -51,6 +51,11 @@ diverge-flip [] [] = refl
 diverge-flip [] (l ∷ q) = refl
 diverge-flip (k ∷ p) [] = refl
 diverge-flip (k ∷ p) (l ∷ q) = rw (bytes-flip k l, diverge-flip p q)
+
+pub diverge-self : (p : Keys) → diverge p p ≡ false
+unfolding diverge
+diverge-self [] = refl
+diverge-self (k ∷ p) = rw (bytes-refl k) (diverge-self p)
 
 -- what is behind the end of either path changes nothing
 pub diverge-longer : (q p r : Keys) → diverge q p ≡ true → diverge q (p ++ r) ≡ true

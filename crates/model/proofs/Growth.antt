@@ -1,27 +1,26 @@
 -- The sum: fields held less fields loaded are the accepted pushes that named an absent field, and each user's count is the user's own.
-use Prim.Native.Nat.{ℕ, zero, suc, _+_, _≤_, _<_}
-use mathlib.Core.Path.{_≡_, refl, sym, ap, subst, _∙_}
+use Prim.Native.Nat.{ℕ, zero, suc, _+_, _<_}
+use mathlib.Core.Path.{_≡_, refl, sym, ap, _∙_}
 use mathlib.Core.Option.{Option, none, some}
 use mathlib.Core.List.{List, [], _∷_}
-use mathlib.Core.Bool.{Bool, true, false, not, _&&_, and-false}
+use mathlib.Core.Bool.{Bool, false, _&&_, and-false}
 use lib.Dec.{eqb}
 use lib.ListN.{length, set, getD}
 use lib.Seq.{getD-set-same, getD-set-other}
 use native.Mathlib.Omega.{arith}
-use borrow.Author.Tests.{eqb-true, eqb-false, eq-eqb}
-use Rattle.model.specs.Base.{Bytes, if_then_else_, keep, isSome}
+use borrow.Author.Tests.{eqb-true, eqb-false}
+use Rattle.model.specs.Base.{Bytes, keep}
 use Rattle.model.specs.Values.{Value}
-use Rattle.model.specs.Fields.{Keys, Field, holds, put, store}
+use Rattle.model.specs.Fields.{Keys, Field}
 use Rattle.model.specs.Refusals.{Result, refused, done}
-use Rattle.model.specs.Tables.{User, userAt}
 use Rattle.model.specs.Opening.{LoginState, State, emptyLogin}
 use Rattle.model.specs.Requests.{Request, login, get, push, requestOf}
-use Rattle.model.specs.Serving.{indexIn, loginAt, Change, enters, shows, stores, roomFor, decide, decideSave, apply, answerOf, Answer, refusal, accepted, Act, line, save, unchanged, conclude, served, outcome}
+use Rattle.model.specs.Serving.{loginAt, Change, enters, shows, stores, decide, decideSave, apply, answerOf, refusal, Act, line, save, unchanged, conclude, served, outcome}
 use Rattle.model.specs.Runs.{Event, events, end, owner, inSet, only, isAccepted, createsBy, createsIn, requestIn, creates, ownerIn, createdBy}
-use Rattle.model.proofs.Lists.{by-cases, elem-below}
+use Rattle.model.proofs.Lists.{by-cases}
 use Rattle.model.proofs.Order.{one, absent, length-put}
-use Rattle.model.proofs.Decisions.{Entered, Stored, Decided, decided, show-change}
-use Rattle.model.proofs.Invariant.{Running, created-is, store-is-put, run-act}
+use Rattle.model.proofs.Decisions.{Entered, Stored, Decided, decided, show-change, user-owner}
+use Rattle.model.proofs.Invariant.{Running, user-place, created-is, store-is-put, run-act}
 
 -- ── The counts after one login state changed ──
 -- a count that stays
@@ -38,10 +37,6 @@ more-count : (l : List LoginState) (i : ℕ) (a : LoginState) (j : ℕ) (b : Boo
 more-count l i a j b h e = by-cases (eqb i j)
     (λ k. let z : i ≡ j = eqb-true i j k in rw (k, ← z, getD-set-same l i a emptyLogin h) e)
     (λ k. rw (k, getD-set-other l i j a emptyLogin (λ x. eqb-false i j k (sym x))) (unfold one in omega arith))
-
-user-below : (us : List User) (i : ℕ) (u : User) → userAt us i ≡ some u → i < length us
-unfolding userAt
-user-below us i u e = elem-below us i u e
 
 -- ── One act ──
 -- `new` says whether a field was created, and `mine` whose the act is
@@ -61,7 +56,7 @@ module _ (loaded : ℕ) (s : State) (r : Running loaded s) where
   unfolding one apply loginAt
   grows-enters n i a mine d = record {
     fieldsGrow = omega arith;
-    countsGrow = λ j. rw (and-false (mine j)) (same-count (s .logins) i a j (d .sameCreated) ∙ omega arith);
+    countsGrow = λ j. rw (and-false (mine j)) (same-count (s .loginStates) i a j (d .sameCreated) ∙ omega arith);
   }
 
   grows-stores : (n : ℕ) (p : Keys) (v : Value) (i : ℕ) (a : LoginState) (f : Field) → Stored s n p v i a f →
@@ -69,10 +64,10 @@ module _ (loaded : ℕ) (s : State) (r : Running loaded s) where
   unfolding owner inSet only apply loginAt
   grows-stores n p v i a f d =
       let x : f .path ≡ p = ap (λ (g : Field). g .path) (d .field) in
-      let below : i < length (s .logins) = omega (arith, user-below (s .tables .users) i (d .user) (d .isUser), r .users, r .places) in
+      let below : i < length (s .loginStates) = user-place loaded s r i (d .user) (d .isUser) in
       record {
         fieldsGrow = rw (store-is-put loaded s r n p v i a f d, ← x) (length-put f (s .fields));
-        countsGrow = λ j. rw (← d .index, ← x) (more-count (s .logins) i a j (absent (f .path) (s .fields)) below (created-is loaded s r n p v i a f d));
+        countsGrow = λ j. rw (← d .index, user-owner (s .tables) i (d .user) (d .isUser), ← x) (more-count (s .loginStates) i a j (absent (f .path) (s .fields)) below (created-is loaded s r n p v i a f d));
       }
 
   grows-done : (q : Request) (c : Change) → Decided s q c → Grows s (apply c s) (createsBy s (answerOf c) q) (ownedBy s q)

@@ -1,24 +1,22 @@
 -- What every state of a run has, and that each act keeps it.
-use Prim.Native.Nat.{ℕ, zero, suc, min, _+_, _-_, _≤_, _<_}
-use mathlib.Core.Path.{_≡_, refl, sym, ap, subst, _∙_}
+use Prim.Native.Nat.{ℕ, zero, suc, _+_, _≤_, _<_}
+use mathlib.Core.Path.{_≡_, refl, ap, _∙_}
 use mathlib.Core.Option.{Option, none, some}
-use mathlib.Core.List.{List, [], _∷_, _++_, map}
-use mathlib.Core.Bool.{Bool, true, false, not, _&&_}
-use lib.ListN.{length, take, set, getD, getElem?, replicate, length-set, length-replicate}
+use mathlib.Core.List.{List, [], _∷_, map}
+use lib.ListN.{length, set, getD, getElem?, replicate, length-set}
 use native.Mathlib.Omega.{arith}
-use Rattle.model.specs.Base.{Bytes, if_then_else_, sum, isSome}
+use Rattle.model.specs.Base.{Bytes, sum}
 use Rattle.model.specs.Limits.{maxFields, maxUsers}
 use Rattle.model.specs.Values.{Value}
-use Rattle.model.specs.Fields.{Keys, Field, Fields, holds, valueAt, put, store}
-use Rattle.model.specs.RecordText.{Node, leaf, object, Members, noMembers, member, count, countIn, storeNode, storeMembers}
-use Rattle.model.specs.Refusals.{Result, refused, done, _>>=_, _>>_, refuse_if_, _or_}
-use Rattle.model.specs.Tables.{User, Tables, userAt, userNamed}
-use Rattle.model.specs.Opening.{LoginState, State, emptyLogin, emptyLogins, Texts, Fault, quotas, opened}
+use Rattle.model.specs.Fields.{Keys, Field, holds, put, store}
+use Rattle.model.specs.Refusals.{Result, refused, done, _>>=_, _>>_}
+use Rattle.model.specs.Tables.{User, userAt}
+use Rattle.model.specs.Opening.{LoginState, State, emptyLogin, quotas}
 use Rattle.model.specs.Requests.{Request, login, get, push, requestOf}
-use Rattle.model.specs.Serving.{loginAt, Change, enters, shows, stores, decideShow, creating, roomFor, decide, decideSave, apply, Act, line, save, unchanged, conclude, served, outcome}
+use Rattle.model.specs.Serving.{loginAt, Change, enters, shows, stores, creating, roomFor, decide, decideSave, apply, Act, line, save, unchanged, conclude, served, outcome}
 use Rattle.model.specs.Runs.{end}
-use Rattle.model.proofs.Lists.{by-cases, never, none-some, refused-done, elem-below, All, all-set, all-replicate, all-getD}
-use Rattle.model.proofs.Order.{Sorted, sorted-put, sorted-take, one, absent, length-put, store-fits}
+use Rattle.model.proofs.Lists.{by-cases, none-some, elem-below, All, all-set, all-getD}
+use Rattle.model.proofs.Order.{Sorted, sorted-put, one, absent, length-put, store-fits}
 use Rattle.model.proofs.Decisions.{Entered, Stored, Decided, decided, show-change}
 
 -- ── What is created stays within the quotas: the counts of the users, and none elsewhere ──
@@ -30,7 +28,7 @@ Within (u ∷ us) (a ∷ l) = (a .created ≤ u .quota) × Within us l
 abbrev pub totalCreated : List LoginState → ℕ
 totalCreated l = sum (map (λ a. a .created) l)
 
-within-sum : (us : List User) (l : List LoginState) → Within us l → totalCreated l ≤ quotas us
+pub within-sum : (us : List User) (l : List LoginState) → Within us l → totalCreated l ≤ quotas us
 unfolding quotas sum
 within-sum us [] w = omega arith
 within-sum [] (a ∷ l) w = omega (arith, within-sum [] l (w .1))
@@ -86,29 +84,34 @@ total-empty (suc n) = omega (arith, total-empty n)
 -- ── The invariant; `loaded` is how many fields the opening loaded ──
 pub record Running (loaded : ℕ) (s : State) : Type 0 where
   pub sorted : Sorted (s .fields)
-  pub few : All (λ a. a .logins ≤ 65535) (s .logins)
-  pub places : length (s .logins) ≡ maxUsers
+  pub few : All (λ a. a .logins ≤ 65535) (s .loginStates)
+  pub places : length (s .loginStates) ≡ maxUsers
   pub users : length (s .tables .users) ≤ maxUsers
-  pub within : Within (s .tables .users) (s .logins)
-  pub grown : length (s .fields) ≡ loaded + totalCreated (s .logins)
+  pub within : Within (s .tables .users) (s .loginStates)
+  pub grown : length (s .fields) ≡ loaded + totalCreated (s .loginStates)
   pub fits : loaded + quotas (s .tables .users) ≤ maxFields
 
 -- what a decision may do to a state with it
 module _ (loaded : ℕ) (s : State) (r : Running loaded s) where
   pub few-at : (j : ℕ) → loginAt s j .logins ≤ 65535
   unfolding loginAt emptyLogin
-  few-at j = all-getD _ (s .logins) j emptyLogin (omega arith) (r .few)
+  few-at j = all-getD _ (s .loginStates) j emptyLogin (omega arith) (r .few)
+
+  -- every user has a login state
+  pub user-place : (i : ℕ) (u : User) → userAt (s .tables .users) i ≡ some u → i < length (s .loginStates)
+  unfolding userAt
+  user-place i u e = omega (arith, elem-below (s .tables .users) i u e, r .users, r .places)
 
   -- a login
   run-enters : (n : Bytes) (i : ℕ) (a : LoginState) → Entered s n i a → Running loaded (apply (enters i a) s)
   unfolding apply loginAt
   run-enters n i a d = record {
     sorted = r .sorted;
-    few = all-set _ (s .logins) i a (d .few) (r .few);
-    places = length-set (s .logins) i a ∙ r .places;
+    few = all-set _ (s .loginStates) i a (d .few) (r .few);
+    places = length-set (s .loginStates) i a ∙ r .places;
     users = r .users;
-    within = within-keep (s .tables .users) (s .logins) i a (d .sameCreated) (r .within);
-    grown = rw (total-same (s .logins) i a (d .sameCreated)) (r .grown);
+    within = within-keep (s .tables .users) (s .loginStates) i a (d .sameCreated) (r .within);
+    grown = rw (total-same (s .loginStates) i a (d .sameCreated)) (r .grown);
     fits = r .fits;
   }
 
@@ -125,28 +128,28 @@ module _ (loaded : ℕ) (s : State) (r : Running loaded s) where
     unfolding creating
     logins-is = rw (d .after)
 
-    within-stores : Within (s .tables .users) (set (s .logins) i a)
+    within-stores : Within (s .tables .users) (set (s .loginStates) i a)
     unfolding userAt loginAt
-    within-stores = within-set (s .tables .users) (s .logins) i (d .user) a (d .isUser) quota-holds (r .within)
+    within-stores = within-set (s .tables .users) (s .loginStates) i (d .user) a (d .isUser) quota-holds (r .within)
       where
         quota-holds : a .created ≤ d .user .quota
         quota-holds = by-cases (holds p (s .fields))
-            (λ e. unfold absent one in (omega (arith, rw (path-is, e) at created-is, within-at (s .tables .users) (s .logins) i (d .user) (d .isUser) (r .within))))
+            (λ e. unfold absent one in (omega (arith, rw (path-is, e) at created-is, within-at (s .tables .users) (s .loginStates) i (d .user) (d .isUser) (r .within))))
             (λ e. unfold absent one in (omega (arith, rw (path-is, e) at created-is, d .room e)))
 
-    grown-stores : length (put f (s .fields)) ≡ loaded + totalCreated (set (s .logins) i a)
+    grown-stores : length (put f (s .fields)) ≡ loaded + totalCreated (set (s .loginStates) i a)
     unfolding userAt loginAt
     grown-stores = omega (
       arith,
       length-put f (s .fields),
       r .grown,
       created-is,
-      total-set (s .logins) i a (omega (arith, elem-below (s .tables .users) i (d .user) (d .isUser), r .users, r .places)),
+      total-set (s .loginStates) i a (user-place i (d .user) (d .isUser)),
     )
 
     -- nothing falls off
     pub put-fits : length (put f (s .fields)) ≤ maxFields
-    put-fits = omega (arith, grown-stores, within-sum (s .tables .users) (set (s .logins) i a) within-stores, r .fits)
+    put-fits = omega (arith, grown-stores, within-sum (s .tables .users) (set (s .loginStates) i a) within-stores, r .fits)
 
     pub store-is-put : store f (s .fields) ≡ put f (s .fields)
     store-is-put = store-fits f (s .fields) put-fits
@@ -155,8 +158,8 @@ module _ (loaded : ℕ) (s : State) (r : Running loaded s) where
     unfolding apply
     run-stores = record {
       sorted = rw store-is-put (sorted-put f (s .fields) (r .sorted));
-      few = all-set _ (s .logins) i a (rw logins-is (few-at i)) (r .few);
-      places = length-set (s .logins) i a ∙ r .places;
+      few = all-set _ (s .loginStates) i a (rw logins-is (few-at i)) (r .few);
+      places = length-set (s .loginStates) i a ∙ r .places;
       users = r .users;
       within = within-stores;
       grown = rw store-is-put grown-stores;

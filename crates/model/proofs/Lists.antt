@@ -3,12 +3,12 @@ use Prim.Native.Nat.{ℕ, zero, suc, _+_, _≤_, _<_}
 use mathlib.Core.Path.{_≡_, refl, sym, ap, ap₂, _∙_}
 use mathlib.Core.Option.{Option, none, some}
 use mathlib.Core.List.{List, [], _∷_, _++_, map}
-use mathlib.Core.Bool.{Bool, true, false, not, _&&_, _||_}
+use mathlib.Core.Bool.{Bool, true, false, _&&_, _||_}
 use lib.Dec.{eqb}
 use lib.ListN.{length, take, set, getD, getElem?, replicate}
 use native.Mathlib.Omega.{arith}
 use borrow.Author.Tests.{eq-eqb, eqb-true}
-use Rattle.model.specs.Base.{Bytes, if_then_else_, any, all, keep, joined, range, firstFrom, _==_, among}
+use Rattle.model.specs.Base.{Bytes, any, all, keep, joined, range, _==_}
 use Rattle.model.specs.Refusals.{Result, refused, done, _>>=_, _>>_, refuse_if_, _or_}
 
 -- ── Tests ──
@@ -94,6 +94,10 @@ module _ {A : Type 0} where
   pub all-imp : (P Q : A → Type 0) → ((x : A) → P x → Q x) → (xs : List A) → All P xs → All Q xs
   all-imp P Q f [] h = tt
   all-imp P Q f (x ∷ xs) h = (f x (h .0), all-imp P Q f xs (h .1))
+
+  pub all-every : (P : A → Type 0) → ((x : A) → P x) → (xs : List A) → All P xs
+  all-every P f [] = tt
+  all-every P f (x ∷ xs) = (f x, all-every P f xs)
 
   pub all-append : (P : A → Type 0) (xs ys : List A) → All P xs → All P ys → All P (xs ++ ys)
   all-append P [] ys h k = k

@@ -1,15 +1,14 @@
 -- The order of paths, fields sorted by it, and what finding and putting do there.
-use Prim.Native.Nat.{ℕ, zero, suc, _+_, _≤_, _<_, compare, compare·zero-zero, compare·zero-suc, compare·suc-zero, compare·suc-suc, Ordering, Ordering·lt, Ordering·eq, Ordering·gt}
+use Prim.Native.Nat.{ℕ, zero, suc, _+_, _≤_, compare, compare·zero-zero, compare·zero-suc, compare·suc-zero, compare·suc-suc, Ordering, Ordering·lt, Ordering·eq, Ordering·gt}
 use mathlib.Core.Path.{_≡_, refl, sym, ap, ap₂, subst, _∙_}
-use mathlib.Core.Option.{Option, none, some}
-use mathlib.Core.List.{List, [], _∷_, _++_}
+use mathlib.Core.Option.{none, some}
+use mathlib.Core.List.{List, [], _∷_}
 use mathlib.Core.Bool.{Bool, true, false}
 use lib.ListN.{length, take}
 use lib.Seq.{take-all}
 use native.Mathlib.Omega.{arith}
-use Rattle.model.specs.Base.{Bytes, if_then_else_, keep, isSome}
+use Rattle.model.specs.Base.{keep, isSome}
 use Rattle.model.specs.Limits.{maxFields}
-use Rattle.model.specs.Values.{Value}
 use Rattle.model.specs.Fields.{Keys, Field, Fields, andThen, lex, orderKey, orderPath, byOrder, valueAt, holds, put, store}
 use Rattle.model.proofs.Lists.{by-cases, never, All, all-keep, keep-yes, keep-no}
 
@@ -218,6 +217,10 @@ module _ (p : Keys) (g : Field) (gs : Fields) where
   pub value-more : orderPath p (g .path) ≡ Ordering·gt → valueAt p (g ∷ gs) ≡ valueAt p gs
   unfolding valueAt byOrder
   value-more e = rw e
+
+pub holds-more : (p : Keys) (g : Field) (gs : Fields) → orderPath p (g .path) ≡ Ordering·gt → holds p (g ∷ gs) ≡ holds p gs
+unfolding holds
+holds-more p g gs e = ap isSome (value-more p g gs e)
 
 pub value-behind : (p : Keys) (gs : Fields) → Behind p gs → valueAt p gs ≡ none
 value-behind p [] b = unfold valueAt in refl

@@ -1,34 +1,34 @@
 -- What the fields of every state of a run have: they are valid, none is the beginning of another, and none conflicts with a WRITE line.
-use Prim.Native.Nat.{ℕ, _+_, _≤_, Ordering·lt, Ordering·eq, Ordering·gt}
+use Prim.Native.Nat.{ℕ, _≤_, Ordering·lt, Ordering·gt}
 use mathlib.Core.Path.{_≡_, refl, sym, ap, ap₂, subst, _∙_}
-use mathlib.Core.Option.{Option, none, some}
-use mathlib.Core.List.{List, [], _∷_, _++_}
-use mathlib.Core.Bool.{Bool, true, false, not, _&&_, _||_}
-use lib.ListN.{length, replicate, length-take, length-replicate}
+use mathlib.Core.Option.{some}
+use mathlib.Core.List.{[], _∷_}
+use mathlib.Core.Bool.{Bool, true, false, not, _&&_}
+use lib.ListN.{length, replicate, length-replicate}
 use native.Mathlib.Omega.{arith}
 use borrow.Author.Tests.{not-false}
-use Rattle.model.specs.Base.{Bytes, text, any, among, isSome, _==_, _>>=_, _>>_, _<|>_, check, after, cut}
-use Rattle.model.specs.Limits.{maxFields, maxUsers}
-use Rattle.model.specs.Values.{Value, valueOf}
-use Rattle.model.specs.Fields.{Keys, Field, Fields, orderPath, valueAt, holds, put, store}
-use Rattle.model.specs.RecordText.{Node, leaf, object, Members, noMembers, member, count, countIn, storeNode, storeMembers}
-use Rattle.model.specs.Paths.{names, asSteps, keysOf}
+use Rattle.model.specs.Base.{Bytes, any, among, isSome, _==_, _>>=_, _>>_}
+use Rattle.model.specs.Limits.{maxUsers}
+use Rattle.model.specs.Values.{Value}
+use Rattle.model.specs.Fields.{Keys, Field, Fields, orderPath, valueAt, holds, put}
+use Rattle.model.specs.RecordText.{count}
+use Rattle.model.specs.Paths.{names, asSteps}
 use Rattle.model.specs.Refusals.{done}
 use Rattle.model.specs.Tables.{User, Rule, Tables}
 use Rattle.model.specs.Rights.{matches, isWrite, isFor, mayWrite, overlap, isAbove, conflict, conflictsWith}
 use Rattle.model.specs.Opening.{LoginState, State, emptyLogin, emptyLogins, Texts, opened}
 use Rattle.model.specs.Requests.{Request, login, get, push, readLogin, readGet, readPush, requestOf}
-use Rattle.model.specs.Serving.{Change, enters, shows, stores, decide, apply, Act, outcome}
-use Rattle.model.proofs.Lists.{by-cases, never, none-some, and-both, or-neither, or-left, or-right, bytes-eq, bytes-refl, All, all-imp, all-replicate, any-true, any-false}
-use Rattle.model.proofs.Order.{Sorted, Behind, by-three, before-after, lt-gt, lt-eq, eq-gt, path-orders, put-less, put-same, put-more, all-put, value-less, value-same, value-more, behind-trans, one, absent, length-put}
-use Rattle.model.proofs.Valid.{Valid, validKeys, validValue}
+use Rattle.model.specs.Serving.{Change, enters, shows, stores, apply, Act, outcome}
+use Rattle.model.proofs.Lists.{by-cases, never, and-both, or-neither, bytes-eq, bytes-refl, All, all-imp, all-replicate, any-true, any-false}
+use Rattle.model.proofs.Order.{Sorted, by-three, lt-eq, eq-gt, path-orders, put-same, put-more, all-put, value-less, value-same, value-more, behind-trans}
+use Rattle.model.proofs.Valid.{Valid}
 use Rattle.model.proofs.Diverge.{diverge, DivergesFrom, Diverging, diverging-put}
-use Rattle.model.proofs.Readers.{some-same, bind-some, check-some, else-some}
+use Rattle.model.proofs.Reading.{some-same, bind-some, check-some, either-some}
 use Rattle.model.proofs.Spelling.{keys-valid, value-valid, value-of-valid}
 use Rattle.model.proofs.Conflict.{conflict-matched, conflict-flip}
 use Rattle.model.proofs.TablesRead.{ValidTables, Apart, writes-apart, tables-valid, opened-inv, record-inv}
-use Rattle.model.proofs.TreeValid.{stored-sorted, stored-diverging, tree-valid}
-use Rattle.model.proofs.Decisions.{Entered, Stored, Decided, decided}
+use Rattle.model.proofs.TreeValid.{stored-sorted, stored-diverging, stored-count, tree-valid}
+use Rattle.model.proofs.Decisions.{Stored, Decided, decided}
 use Rattle.model.proofs.Invariant.{Running, store-is-put, within-empty, total-empty, next-state, run-act}
 
 -- ── What a pushed field is ──
@@ -42,26 +42,26 @@ module _ (x : Bytes) (n : ℕ) (p : Keys) (v : Value) where
   not-login : {C : Type 0} → readLogin x ≡ some (push n p v) → C
   unfolding readLogin
   not-login h =
-      let (r, e₁, h₁) = bind-some _ _ _ h in
-      let (t, e₂, h₂) = bind-some _ _ _ h₁ in
-      login-push (some-same (check-some _ _ _ h₂ .1))
+      bind-some _ _ _ h λ r e₁ h₁.
+      bind-some _ _ _ h₁ λ t e₂ h₂.
+      check-some _ _ _ h₂ λ c h₃. login-push (some-same h₃)
 
   not-get : {C : Type 0} → readGet x ≡ some (push n p v) → C
   unfolding readGet
   not-get h =
-      let (r, e₁, h₁) = bind-some _ _ _ h in
-      let (m, e₂, h₂) = bind-some _ _ _ h₁ in
+      bind-some _ _ _ h λ r e₁ h₁.
+      bind-some _ _ _ h₁ λ m e₂ h₂.
       get-push (some-same h₂)
 
   read-push : readPush x ≡ some (push n p v) → Valid (record { path = p; value = v })
   unfolding readPush
   read-push h =
-      let (r, e₁, h₁) = bind-some _ _ _ h in
-      let (t, e₂, h₂) = bind-some _ _ _ h₁ in
-      let (w, e₃, h₃) = bind-some _ _ _ h₂ in
-      let (m, e₄, h₄) = bind-some _ _ _ h₃ in
-      let (q, e₅, h₅) = bind-some _ _ _ h₄ in
-      let (y, e₆, h₆) = bind-some _ _ _ h₅ in
+      bind-some _ _ _ h λ r e₁ h₁.
+      bind-some _ _ _ h₁ λ t e₂ h₂.
+      bind-some _ _ _ h₂ λ w e₃ h₃.
+      bind-some _ _ _ h₃ λ m e₄ h₄.
+      bind-some _ _ _ h₄ λ q e₅ h₅.
+      bind-some _ _ _ h₅ λ y e₆ h₆.
       let e : push m q y ≡ push n p v = some-same h₆ in
       let i : q ≡ p = cc in
       let j : y ≡ v = cc in
@@ -69,7 +69,7 @@ module _ (x : Bytes) (n : ℕ) (p : Keys) (v : Value) where
 
   pub push-valid : requestOf x ≡ some (push n p v) → Valid (record { path = p; value = v })
   unfolding requestOf
-  push-valid h = else-some _ _ _ (check-some _ _ _ h .1) (λ e. else-some _ _ _ e not-login not-get) read-push
+  push-valid h = check-some _ _ _ h λ c k. either-some _ _ _ k read-push λ e. either-some _ _ _ e not-get not-login
 
 -- ── A path that is not held is no field's ──
 absent-all : (p : Keys) (gs : Fields) → Sorted gs → holds p gs ≡ false → All (λ g. p ≡ g .path → ⊥) gs
@@ -222,25 +222,6 @@ ran-act loaded s a r = record {
 }
 
 -- ── An accepted opening starts with it ──
-length-stored : (f : Field) (gs : Fields) → length (store f gs) ≤ length gs + 1
-unfolding store
-length-stored f gs = omega (arith, length-take maxFields (put f gs), length-put f gs, one-small (absent (f .path) gs))
-  where
-    one-small : (b : Bool) → one b ≤ 1
-    one-small true = unfold one in omega arith
-    one-small false = unfold one in omega arith
-
-mutual
-  unfolding storeNode count
-
-  length-node : (v : Node) (p : Keys) (fs : Fields) → length (storeNode p v fs) ≤ length fs + countIn v
-  length-node (leaf v) p fs = length-stored (record { path = p; value = v }) fs
-  length-node (object m) p fs = length-members m p fs
-
-  length-members : (m : Members) (p : Keys) (fs : Fields) → length (storeMembers p m fs) ≤ length fs + count m
-  length-members noMembers p fs = omega arith
-  length-members (member m k v) p fs = omega (arith, length-members m p fs, length-node v (p ++ k ∷ []) (storeMembers p m fs))
-
 no-logins : emptyLogin .logins ≤ 65535
 unfolding emptyLogin
 no-logins = omega arith
@@ -250,8 +231,8 @@ ran-opened t s h =
     let o = opened-inv t s h in
     let f = record-inv (s .tables) (t .recordText) (s .fields) (o .fields) in
     let v = tables-valid t (s .tables) (o .tables) in
-    let few : length (s .fields) ≤ count (f .tree) = omega (arith, ap length (f .stored), length-members (f .tree) [] []) in
-    let empty : s .logins ≡ replicate maxUsers emptyLogin = o .logins ∙ (unfold emptyLogins in refl) in
+    let all : length (s .fields) ≡ count (f .tree) = ap length (sym (f .stored)) ∙ stored-count (f .tree) (f .once) (omega (arith, f .fits)) in
+    let empty : s .loginStates ≡ replicate maxUsers emptyLogin = o .logins ∙ (unfold emptyLogins in refl) in
     record {
       running = record {
         sorted = rw (f .stored) at (stored-sorted [] (f .tree) [] tt);

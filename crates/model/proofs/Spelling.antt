@@ -11,16 +11,16 @@ use native.Mathlib.Omega.{arith}
 use borrow.Author.Tests.{leb-true, le-leb}
 use Rattle.model.specs.Base.{Bytes, text, all, joined, between, _==_, _>>=_, _>>_, _<|>_, check, after, span}
 use Rattle.model.specs.Base.{within, isDigit, isDecimal, worth, decimal}
-use Rattle.model.specs.Limits.{maxKey, maxDepth, maxString, maxListed, maxPathText}
+use Rattle.model.specs.Limits.{maxName, maxKey, maxDepth, maxString, maxListed, maxPathText}
 use Rattle.model.specs.Names.{nameByte, isNameOf, isName, isKey, isLetter, plainByte, isPlain}
 use Rattle.model.specs.Values.{Value, truth, string, whole, stringByte, quoted, valueText}
 use Rattle.model.specs.Values.{readTruth, readString, readPos, readNeg, readValue, valueOf}
 use Rattle.model.specs.Fields.{Keys}
-use Rattle.model.specs.Paths.{Environment, equals, isIn, Step, names, wildcard, environment, Steps}
-use Rattle.model.specs.Paths.{environmentText, nameText, stepText, stepsText, asSteps, keysText}
-use Rattle.model.specs.Paths.{readQuoted, readEither, readWildcard, readDot, readEnvironment, readNames, readList, readStep}
+use Rattle.model.specs.Paths.{Operator, equals, isIn, Step, names, wildcard, environment, Steps}
+use Rattle.model.specs.Paths.{operatorText, nameText, stepText, stepsText, asSteps, keysText}
+use Rattle.model.specs.Paths.{readQuoted, readEither, inBrackets, readWildcard, readIdentifier, readDotted, readEnvironment, readNames, readList, readSelector, readStep}
 use Rattle.model.specs.Paths.{readAll, readPath, stepsOf, readKeyStep, keysOf}
-use Rattle.model.specs.Claims.{StepsReadBack, OneSpelling, KeysReadBack, ValueReadsBack}
+use Rattle.model.specs.Claims.{StepsReadBack, OneSpelling, KeysReadBack, ValueReadsBack, KeysAsWritten, ValueAsWritten}
 use Rattle.model.proofs.Lists.{never, and-both, both-and, none-some, bytes-eq, joined-append}
 use Rattle.model.proofs.Valid.{validValue, validKeys}
 use Rattle.model.proofs.Reading.{within-yes, within-bounds, all-snoc, some-same, bind-some, check-some, either-some}
@@ -39,6 +39,10 @@ named most n h =
     let t = and-both _ _ h in
     let w = within-bounds 1 most (length n) (t .0) in
     record { low = w .0; high = w .1; passes = t .1 }
+
+pub name-named : (n : Bytes) → isName n ≡ true → Named maxName n
+unfolding isName
+name-named n h = named maxName n h
 
 pub key-named : (k : Bytes) → isKey k ≡ true → Named maxKey k
 unfolding isKey
@@ -150,7 +154,7 @@ pub value-of-valid : (s : Bytes) (v : Value) → valueOf s ≡ some v → validV
 value-of-valid s v h = value-of-spells s v h .0
 
 -- a value has one spelling
-pub value-as-written : (s : Bytes) (v : Value) → valueOf s ≡ some v → valueText v ≡ s
+pub value-as-written : ValueAsWritten
 value-as-written s v h = value-of-spells s v h .1
 
 pub value-of-text : (v : Value) → validValue v ≡ true → valueOf (valueText v) ≡ some v
@@ -230,20 +234,20 @@ keyText : Bytes → Bytes
 keyText k = stepText (names (k ∷ []))
 
 key-gives : (s : Bytes) (t : Bytes × Bytes) → readKeyStep s ≡ some t → (isKey (t .0) ≡ true) × (s ≡ keyText (t .0) ++ t .1)
-unfolding readKeyStep keyText stepText nameText between
+unfolding readKeyStep inBrackets keyText stepText nameText between
 key-gives s t h = bind-some _ _ _ h λ s₁ e i. bind-some _ _ _ i λ k u j. bind-some _ _ _ j λ r v z.
     let w = quoted-gives _ s₁ k u in
     rw (← some-same z) (w .0, simp append-assoc (cc (after-some _ s s₁ e, w .1, after-some _ (k .1) r v)))
 
 key-reads : (k r : Bytes) → isKey k ≡ true → readKeyStep (keyText k ++ r) ≡ some (k, r)
-unfolding readKeyStep keyText stepText between text after _>>=_
+unfolding readKeyStep inBrackets keyText stepText between text after _>>=_
 key-reads k r h = rw (append-assoc (nameText k) (0x5D ∷ []) r, quoted-reads k (0x5D ∷ r) h)
 
 key-reader : Reader readKeyStep isKey keyText
 key-reader = record {
   gives = λ s t h. key-gives s t h .0;
   reads = key-reads;
-  ends = unfold readKeyStep text after _>>=_ in refl;
+  ends = unfold readKeyStep inBrackets text after _>>=_ in refl;
 }
 
 pub keys-valid : (s : Bytes) (p : Keys) → keysOf s ≡ some p → validKeys p ≡ true
@@ -271,7 +275,7 @@ keys-joined (suc k) p q (x ∷ s) h = bind-some _ _ _ h λ t e i.
     keys-joined k (p ++ t .0 ∷ []) q (t .1) i ∙ rw (key-gives _ t e .1) (simp (map-append, joined-append, append-assoc))
 
 -- a field's path has one spelling
-pub keys-as-written : (s : Bytes) (p : Keys) → keysOf s ≡ some p → keysText p ≡ s
+pub keys-as-written : KeysAsWritten
 unfolding keysOf readPath joined
 keys-as-written s p h = bind-some _ _ _ h λ s₁ e i. bind-some _ _ _ i λ q u j. check-some _ _ _ j λ l v.
     rw (← some-same v, keys-text q, keys-joined maxDepth [] q s₁ u) (sym (after-some _ s s₁ e))
@@ -302,31 +306,45 @@ names-give (suc k) ns s t h g = bind-some _ _ _ h λ n e i.
     let w = names-give k (ns ++ n .0 ∷ []) r t v c in
     (w .0, omega arith, w .2)
 
+-- what stands between brackets
+brackets-give : {A : Type 0} (inner : Bytes → Option (A × Bytes)) (P : A → Type 0) → ((s : Bytes) (t : A × Bytes) → inner s ≡ some t → P (t .0)) →
+    (s : Bytes) (t : A × Bytes) → inBrackets inner s ≡ some t → P (t .0)
+unfolding inBrackets
+brackets-give inner P gives s t h = bind-some _ _ _ h λ s₁ e i. bind-some _ _ _ i λ a u j. bind-some _ _ _ j λ r v z.
+    rw (← some-same z) (gives s₁ a u)
+
 module _ (s : Bytes) (t : Step × Bytes) where
   wildcard-gives : readWildcard s ≡ some t → validStep (t .0) ≡ true
   unfolding readWildcard validStep
   wildcard-gives h = bind-some _ _ _ h λ r e v. rw (← some-same v)
 
-  dot-gives : readDot s ≡ some t → validStep (t .0) ≡ true
-  unfolding readDot
-  dot-gives h = bind-some _ _ _ h λ r e i. check-some _ _ _ i λ c v. rw (← some-same v) (one-name _ (and-both _ _ c .0))
+  identifier-gives : readIdentifier s ≡ some t → validStep (t .0) ≡ true
+  unfolding readIdentifier
+  identifier-gives h = check-some _ _ _ h λ c v. rw (← some-same v) (one-name _ (and-both _ _ c .0))
 
-  environment-gives : (e : Environment) → readEnvironment e s ≡ some t → validStep (t .0) ≡ true
+  environment-gives : (o : Operator) → readEnvironment o s ≡ some t → validStep (t .0) ≡ true
   unfolding readEnvironment validStep
-  environment-gives e h = bind-some _ _ _ h λ s₁ u i. bind-some _ _ _ i λ s₂ v j.
-      check-some _ _ _ j λ c k. bind-some _ _ _ k λ r w z. rw (← some-same z) c
+  environment-gives o h = bind-some _ _ _ h λ s₁ u i. check-some _ _ _ i λ c z. rw (← some-same z) c
 
   list-gives : readList s ≡ some t → validStep (t .0) ≡ true
   unfolding readList validStep
-  list-gives h = bind-some _ _ _ h λ s₁ e i. bind-some _ _ _ i λ n u j. bind-some _ _ _ j λ r v z.
-      let w = names-give maxListed [] s₁ n u (unfold all in refl) in
+  list-gives h = bind-some _ _ _ h λ n u z.
+      let w = names-give maxListed [] s n u (unfold all in refl) in
       rw (← some-same z) (both-and _ _ (within-yes 1 maxListed (length (n .0)) (w .0) (omega arith)) (w .2))
 
-  step-gives : readStep s ≡ some t → validStep (t .0) ≡ true
-  unfolding readStep
-  step-gives h =
+  selector-gives : readSelector s ≡ some t → validStep (t .0) ≡ true
+  unfolding readSelector
+  selector-gives h =
       either-some _ _ _ h list-gives λ i. either-some _ _ _ i (environment-gives isIn) λ j.
-      either-some _ _ _ j (environment-gives equals) λ k. either-some _ _ _ k dot-gives wildcard-gives
+      either-some _ _ _ j (environment-gives equals) wildcard-gives
+
+dotted-gives : (s : Bytes) (t : Step × Bytes) → readDotted s ≡ some t → validStep (t .0) ≡ true
+unfolding readDotted
+dotted-gives s t h = bind-some _ _ _ h λ r e i. either-some _ _ _ i (identifier-gives r t) (wildcard-gives r t)
+
+step-gives : (s : Bytes) (t : Step × Bytes) → readStep s ≡ some t → validStep (t .0) ≡ true
+unfolding readStep
+step-gives s t h = either-some _ _ _ h (brackets-give readSelector (λ a. validStep a ≡ true) selector-gives s t) (dotted-gives s t)
 
 -- ── A step's standard spelling, read ──
 listed : List Bytes → Bytes
@@ -347,42 +365,64 @@ listed-reads (suc k) ns n (m ∷ t) r l g =
     let i = listed-reads k (ns ++ n ∷ []) m t r (omega arith) (w .1) in
     rw (listed-more n m t (0x5D ∷ r), e, i, append-assoc ns (n ∷ []) (m ∷ t))
 
--- no other step begins as names in brackets do
-only-listed : (n : Bytes) (ns : List Bytes) (r : Bytes) → readStep (0x5B ∷ listed (n ∷ ns) ++ r) ≡ readList (0x5B ∷ listed (n ∷ ns) ++ r)
-unfolding readStep readWildcard readDot readEnvironment environmentText listed nameText between text after _>>=_ _<|>_
+-- no other selector begins as names do
+only-listed : (n : Bytes) (ns : List Bytes) (r : Bytes) → readSelector (listed (n ∷ ns) ++ r) ≡ readList (listed (n ∷ ns) ++ r)
+unfolding readSelector readWildcard readEnvironment operatorText listed nameText between text after _>>=_ _<|>_
 only-listed n [] r = refl
 only-listed n (m ∷ ns) r = refl
 
+-- what the brackets hold, read back
+brackets-read : {A : Type 0} (inner : Bytes → Option (A × Bytes)) (a : A) (w r : Bytes) → inner (w ++ 0x5D ∷ r) ≡ some (a, 0x5D ∷ r) →
+    inBrackets inner (0x5B ∷ w ++ 0x5D ∷ r) ≡ some (a, r)
+unfolding inBrackets text after _>>=_
+brackets-read inner a w r h = rw h
+
+-- a step in brackets is no dotted one
+step-brackets : (a : Step) (w r : Bytes) → readSelector (w ++ 0x5D ∷ r) ≡ some (a, 0x5D ∷ r) → readStep (0x5B ∷ w ++ 0x5D ∷ r) ≡ some (a, r)
+unfolding readStep readDotted text after _>>=_ _<|>_
+step-brackets a w r h = brackets-read readSelector a w r h
+
+list-reads : (n : Bytes) (ns : List Bytes) (r : Bytes) → validStep (names (n ∷ ns)) ≡ true →
+    readList (listed (n ∷ ns) ++ 0x5D ∷ r) ≡ some (names (n ∷ ns), 0x5D ∷ r)
+unfolding readList validStep _>>=_
+list-reads n ns r h =
+    let w = and-both _ _ h in
+    rw (listed-reads maxListed [] n ns r (within-bounds 1 maxListed (suc (length ns)) (w .0) .1) (w .1))
+
 names-reads : (n : Bytes) (ns : List Bytes) (r : Bytes) → validStep (names (n ∷ ns)) ≡ true →
     readStep (stepText (names (n ∷ ns)) ++ r) ≡ some (names (n ∷ ns), r)
-unfolding readList stepText listed text after _>>=_ validStep
+unfolding stepText text listed
 names-reads n ns r h =
-    let w = and-both _ _ h in
-    let e = listed-reads maxListed [] n ns r (within-bounds 1 maxListed (suc (length ns)) (w .0) .1) (w .1) in
-    rw (append-assoc (listed (n ∷ ns)) (0x5D ∷ []) r, only-listed n ns (0x5D ∷ r), e)
+    ap (λ (x : Bytes). readStep (0x5B ∷ x)) (append-assoc (listed (n ∷ ns)) (0x5D ∷ []) r)
+    ∙ step-brackets (names (n ∷ ns)) (listed (n ∷ ns)) r (only-listed n ns (0x5D ∷ r) ∙ list-reads n ns r h)
 
 -- a plain name ends at the bracket
 plain-span : (n r : Bytes) → isPlain n ≡ true → span plainByte (n ++ 0x5D ∷ r) ≡ (n, 0x5D ∷ r)
 unfolding isPlain
 plain-span n r h = span-all plainByte n _ (and-both (isName n) _ h .1) (unfold plainByte isLetter isDigit within in refl)
 
-environment-reads : (e : Environment) (n r : Bytes) → isPlain n ≡ true → readStep (stepText (environment e n) ++ r) ≡ some (environment e n, r)
-unfolding readStep readWildcard readDot readEnvironment environmentText stepText text after check _>>=_ _>>_ _<|>_
-environment-reads equals n r h = rw (append-assoc n (0x5D ∷ []) r, plain-span n r h, h)
-environment-reads isIn n r h = rw (append-assoc n (0x5D ∷ []) r, plain-span n r h, h)
+environment-reads : (o : Operator) (n r : Bytes) → isPlain n ≡ true → readSelector (operatorText o ++ n ++ 0x5D ∷ r) ≡ some (environment o n, 0x5D ∷ r)
+unfolding readSelector readWildcard readEnvironment operatorText text after check _>>=_ _>>_ _<|>_
+environment-reads equals n r h = rw (plain-span n r h, h)
+environment-reads isIn n r h = rw (plain-span n r h, h)
+
+regroup : (a n r : Bytes) → (a ++ (n ++ 0x5D ∷ [])) ++ r ≡ (a ++ n) ++ 0x5D ∷ r
+regroup a n r = simp append-assoc
 
 step-reads : (a : Step) (r : Bytes) → validStep a ≡ true → readStep (stepText a ++ r) ≡ some (a, r)
 step-reads (names []) r h = never (unfold validStep within in sym h)
 step-reads (names (n ∷ ns)) r h = names-reads n ns r h
-step-reads wildcard r h = unfold readStep readWildcard stepText text after _>>=_ _<|>_ in refl
-step-reads (environment e n) r h = environment-reads e n r (unfold validStep in h)
+step-reads wildcard r h = unfold stepText text in (step-brackets wildcard (0x2A ∷ []) r (unfold readSelector readWildcard text after _>>=_ _<|>_ in refl))
+step-reads (environment o n) r h = unfold stepText text in (
+    ap (λ (x : Bytes). readStep (0x5B ∷ x)) (regroup (operatorText o) n r)
+    ∙ step-brackets (environment o n) (operatorText o ++ n) r (environment-reads o n r (unfold validStep in h)))
 
 -- ── A policy path ──
 step-reader : Reader readStep validStep stepText
 step-reader = record {
   gives = step-gives;
   reads = step-reads;
-  ends = unfold readStep readWildcard readDot readEnvironment readList text after _>>=_ _<|>_ in refl;
+  ends = unfold readStep readDotted inBrackets text after _>>=_ _<|>_ in refl;
 }
 
 -- a path that some text spells

@@ -12,7 +12,7 @@ use Rattle.model.specs.Base.{Bytes, text, any, firstFrom, number, isDeci
 use Rattle.model.specs.Limits.{maxUsers, maxQuota, maxBindings, maxRules, maxText, maxFields}
 use Rattle.model.specs.Names.{isName, isKey, isPlain}
 use Rattle.model.specs.Fields.{Fields}
-use Rattle.model.specs.Paths.{Steps, stepsOf, asSteps}
+use Rattle.model.specs.Paths.{stepsOf, asSteps}
 use Rattle.model.specs.RecordText.{Members, treeOf, twice, count, storeMembers}
 use Rattle.model.specs.Refusals.{Result, refused, done, _>>=_, _>>_, refuse_if_, _or_}
 use Rattle.model.specs.Table.{Table, Line, ended, broken, lines, inLine, readRow, readRows, readLines, readTable}
@@ -223,7 +223,7 @@ pub record OpenedFrom (t : Texts) (s : State) : Type 0 where
   pub record-short : ltb maxText (length (t .recordText)) ≡ false
   pub tables : openTables t ≡ done (s .tables)
   pub fields : openRecord (s .tables) (t .recordText) ≡ done (s .fields)
-  pub logins : s .logins ≡ emptyLogins
+  pub logins : s .loginStates ≡ emptyLogins
 
 pub opened-inv : (t : Texts) (s : State) → opened t ≡ done s → OpenedFrom t s
 unfolding opened checkLength

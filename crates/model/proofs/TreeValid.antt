@@ -1,23 +1,24 @@
--- What a record text that is read gives: its fields are valid, sorted and diverge.
+-- What a record text that is read gives: its fields are valid, sorted and diverge, and none is lost.
 use Prim.Native.Nat.{ℕ, zero, suc, _+_, _≤_}
-use mathlib.Core.Path.{_≡_, subst}
+use mathlib.Core.Path.{_≡_, refl, sym, ap, subst, _∙_}
 use mathlib.Core.Option.{Option, some}
 use mathlib.Core.List.{[], _∷_, _++_}
 use mathlib.Core.Bool.{true, false}
 use lib.ListN.{length, length-append}
+use native.Mathlib.Nat.{add-zero, zero-add, add-assoc}
 use native.Mathlib.Omega.{arith}
 use borrow.Author.Tests.{le-leb}
-use Rattle.model.specs.Base.{Bytes, any, among, _==_, _>>=_, _<|>_, within}
+use Rattle.model.specs.Base.{Bytes, any, among, isSome, _==_, _>>=_, _<|>_, within}
 use Rattle.model.specs.Limits.{maxFields, maxDepth}
 use Rattle.model.specs.Names.{isKey}
 use Rattle.model.specs.Values.{Value, readValue}
-use Rattle.model.specs.Fields.{Keys, Field, Fields, store, put}
-use Rattle.model.specs.RecordText.{skip, Node, leaf, object, Members, noMembers, member, readKey, readLeaf, readMore, readMembers, asNode, readObject, readEmpty, treeOf, keysIn, twiceIn, twice, storeNode, storeMembers}
-use Rattle.model.proofs.Lists.{or-neither, none-some, All, all-imp, all-append, all-take, true-all}
-use Rattle.model.proofs.Order.{Sorted, sorted-put, sorted-take, all-put}
-use Rattle.model.proofs.Readers.{some-same, bind-some, check-some, else-some}
+use Rattle.model.specs.Fields.{Keys, Field, Fields, orderPath, valueAt, holds, store, put}
+use Rattle.model.specs.RecordText.{skip, Node, leaf, object, Members, noMembers, member, readKey, readLeaf, readMore, readMembers, asNode, readObject, readEmpty, treeOf, keysIn, twiceIn, twice, countIn, count, storeNode, storeMembers}
+use Rattle.model.proofs.Lists.{never, or-neither, none-some, All, all-imp, all-append, all-take, true-all}
+use Rattle.model.proofs.Order.{path-orders, by-three, Sorted, sorted-put, sorted-take, all-put, value-less, holds-more, one, absent, length-put, store-fits}
+use Rattle.model.proofs.Reading.{some-same, bind-some, check-some, either-some}
 use Rattle.model.proofs.Valid.{validValue, validKeys, Valid}
-use Rattle.model.proofs.Diverge.{pairs-take, diverge, diverge-longer, longer-diverge, siblings-diverge, DivergesFrom, Diverging, diverging-put}
+use Rattle.model.proofs.Diverge.{pairs-take, diverge, diverge-self, diverge-longer, longer-diverge, siblings-diverge, DivergesFrom, Diverging, diverging-put}
 
 -- ── Storing a field ──
 pub all-store : (P : Field → Type 0) (f : Field) (gs : Fields) → P f → All P gs → All P (store f gs)
@@ -133,32 +134,54 @@ unfolding keysIn among any
 siblings p k noMembers h = tt
 siblings p k (member m l v) h = let (e, r) = or-neither (k == l) _ h in (siblings p k m r, siblings-diverge p k l e)
 
-mutual
-  unfolding storeNode twice
+-- each leaf is stored at a path that diverges from what was stored before: what such a store keeps, with one more counted, holds of the tree
+module _ (Q : ℕ → Fields → Type 0) (new : (f : Field) (n : ℕ) (fs : Fields) → DivergesFrom (f .path) fs → Q n fs → Q (n + 1) (store f fs)) where
+  mutual
+    unfolding storeNode twice count
 
-  node-diverging : (v : Node) (p : Keys) (fs : Fields) → twiceIn v ≡ false → DivergesFrom p fs → Diverging fs → Diverging (storeNode p v fs)
-  node-diverging (leaf v) p fs t h d = diverging-store (record { path = p; value = v }) fs h d
-  node-diverging (object m) p fs t h d = members-diverging m p fs t h d
+    node-apart : (v : Node) (p : Keys) (n : ℕ) (fs : Fields) → twiceIn v ≡ false → DivergesFrom p fs → Q n fs → Q (n + countIn v) (storeNode p v fs)
+    node-apart (leaf v) p n fs t h q = new (record { path = p; value = v }) n fs h q
+    node-apart (object m) p n fs t h q = members-apart m p n fs t h q
 
-  members-diverging : (m : Members) (p : Keys) (fs : Fields) → twice m ≡ false → DivergesFrom p fs → Diverging fs → Diverging (storeMembers p m fs)
-  members-diverging noMembers p fs t h d = d
-  members-diverging (member m k v) p fs t h d =
-      let (new, rest) = or-neither (among k (keysIn m)) _ t in
-      let (t₁, t₂) = or-neither (twiceIn v) _ rest in
-      let q = p ++ k ∷ [] in
-      let far = all-imp _ _ (λ g e. longer-diverge (g .path) p (k ∷ []) e) fs h in
-      node-diverging v q (storeMembers p m fs) t₁ (from-members q m p fs (siblings p k m new) far) (members-diverging m p fs t₂ h d)
+    members-apart : (m : Members) (p : Keys) (n : ℕ) (fs : Fields) → twice m ≡ false → DivergesFrom p fs → Q n fs → Q (n + count m) (storeMembers p m fs)
+    members-apart noMembers p n fs t h q = rw add-zero q
+    members-apart (member m k v) p n fs t h q =
+        let (other, rest) = or-neither (among k (keysIn m)) _ t in
+        let (t₁, t₂) = or-neither (twiceIn v) _ rest in
+        let l = p ++ k ∷ [] in
+        let far = all-imp _ _ (λ g e. longer-diverge (g .path) p (k ∷ []) e) fs h in
+        rw (← add-assoc n (count m) (countIn v))
+        (node-apart v l (n + count m) (storeMembers p m fs) t₁ (from-members l m p fs (siblings p k m other) far) (members-apart m p n fs t₂ h q))
 
 pub stored-diverging : (m : Members) → twice m ≡ false → Diverging (storeMembers [] m [])
-stored-diverging m t = members-diverging m [] [] t tt tt
+stored-diverging m h = members-apart (λ n fs. Diverging fs) (λ f n fs h d. diverging-store f fs h d) m [] 0 [] h tt tt
+
+-- a path that diverges from every field is held by none
+diverges-absent : (p : Keys) (gs : Fields) → DivergesFrom p gs → holds p gs ≡ false
+diverges-absent p [] h = unfold holds isSome valueAt in refl
+diverges-absent p (g ∷ gs) h = by-three (orderPath p (g .path))
+    (λ e. unfold holds isSome in (rw (value-less p g gs e)))
+    (λ e. never (sym (h .0) ∙ ap (diverge p) (sym (path-orders .same p (g .path) e)) ∙ diverge-self p))
+    (λ e. holds-more p g gs e ∙ diverges-absent p gs (h .1))
+
+count-store : (f : Field) (n : ℕ) (fs : Fields) → DivergesFrom (f .path) fs → (n ≤ maxFields → length fs ≡ n) → n + 1 ≤ maxFields → length (store f fs) ≡ n + 1
+unfolding absent one
+count-store f n fs h k l =
+    let e : length (put f fs) ≡ length fs + 1 = rw (diverges-absent (f .path) fs h) at (length-put f fs) in
+    let i : length fs ≡ n = k (omega arith) in
+    rw (store-fits f fs (omega arith)) (omega arith)
+
+-- as many fields as the text has
+pub stored-count : (m : Members) → twice m ≡ false → count m ≤ maxFields → length (storeMembers [] m []) ≡ count m
+stored-count m h l = members-apart (λ n fs. n ≤ maxFields → length fs ≡ n) count-store m [] 0 [] h tt (λ k. refl) (rw zero-add l) ∙ zero-add (count m)
 
 -- ── Reading ──
 key-read : (s : Bytes) (t : Bytes × Bytes) → readKey s ≡ some t → isKey (t .0) ≡ true
 unfolding readKey
 key-read s t h =
-    let (s₁, quote, h₁) = bind-some _ _ t h in
-    let (k, h₂) = check-some _ _ t h₁ in
-    let (r, end, h₃) = bind-some _ _ t h₂ in
+    bind-some _ _ t h λ s₁ quote h₁.
+    check-some _ _ t h₁ λ k h₂.
+    bind-some _ _ t h₂ λ r end h₃.
     subst (λ (t : Bytes × Bytes). isKey (t .0) ≡ true) (some-same h₃) k
 
 -- members behind those that were read, from what a key holds
@@ -169,49 +192,49 @@ members-read : (inner : Bytes → Option (Node × Bytes)) (P : Node → Type 0) 
 unfolding readMembers readMore
 members-read inner P f zero m s t h e = none-some h
 members-read inner P f (suc n) m s t h e =
-    let (k, key, h₁) = bind-some _ _ t h in
-    let (s₂, colon, h₂) = bind-some _ _ t h₁ in
-    let (v, value, h₃) = bind-some _ _ t h₂ in
+    bind-some _ _ t h λ k key h₁.
+    bind-some _ _ t h₁ λ s₂ colon h₂.
+    bind-some _ _ t h₂ λ v value h₃.
     let more : Keyed P (member m (k .0) (v .0)) = (e, (key-read s k key, f s₂ v value)) in
-    else-some _ _ t h₃
-    (λ c. let (s₄, comma, h₄) = bind-some _ _ t c in members-read inner P f n (member m (k .0) (v .0)) s₄ t h₄ more)
-    (λ c. let (s₄, brace, h₄) = bind-some _ _ t c in subst (λ (t : Members × Bytes). Keyed P (t .0)) (some-same h₄) more)
+    either-some _ _ t h₃
+    (λ c. bind-some _ _ t c λ s₄ brace h₄. subst (λ (t : Members × Bytes). Keyed P (t .0)) (some-same h₄) more)
+    (λ c. bind-some _ _ t c λ s₄ comma h₄. members-read inner P f n (member m (k .0) (v .0)) s₄ t h₄ more)
 
 empty-read : (d : ℕ) (s : Bytes) (t : Members × Bytes) → readEmpty s ≡ some t → Deep (suc d) (object (t .0))
 unfolding readEmpty
 empty-read d s t h =
-    let (s₁, left, h₁) = bind-some _ _ t h in
-    let (s₂, right, h₂) = bind-some _ _ t h₁ in
+    bind-some _ _ t h λ s₁ left h₁.
+    bind-some _ _ t h₁ λ s₂ right h₂.
     subst (λ (t : Members × Bytes). Deep (suc d) (object (t .0))) (some-same h₂) tt
 
 module _ (value-valid : (s r : Bytes) (v : Value) → readValue s ≡ some (v, r) → validValue v ≡ true) where
   leaf-read : (d : ℕ) (s : Bytes) (t : Node × Bytes) → readLeaf s ≡ some t → Deep d (t .0)
   unfolding readLeaf
   leaf-read d s t h =
-      let (v, value, h₁) = bind-some _ _ t h in
+      bind-some _ _ t h λ v value h₁.
       subst (λ (t : Node × Bytes). Deep d (t .0)) (some-same h₁) (deep-leaf d (v .0) (value-valid s (v .1) (v .0) value))
 
   -- what a key holds, from what an object read there has
   inner-read : (d : ℕ) (s : Bytes) (t : Node × Bytes) → ((o : Members × Bytes) → readObject d s ≡ some o → Deep d (object (o .0))) →
       (readLeaf s <|> (readObject d s >>= asNode)) ≡ some t → Deep d (t .0)
   unfolding asNode
-  inner-read d s t f h = else-some _ _ t h
+  inner-read d s t f h = either-some _ _ t h
+      (λ c. bind-some _ _ t c λ o read h₁. subst (λ (t : Node × Bytes). Deep d (t .0)) (some-same h₁) (f o read))
       (leaf-read d s t)
-      (λ c. let (o, read, h₁) = bind-some _ _ t c in subst (λ (t : Node × Bytes). Deep d (t .0)) (some-same h₁) (f o read))
 
   object-read : (d : ℕ) (s : Bytes) (t : Members × Bytes) → readObject d s ≡ some t → Deep d (object (t .0))
   unfolding readObject
   object-read zero s t h = none-some h
   object-read (suc d) s t h =
-      let (s₁, brace, h₁) = bind-some _ _ t h in
+      bind-some _ _ t h λ s₁ brace h₁.
       members-read _ (Deep d) (λ s t e. inner-read d s t (object-read d s) e) (length s₁) noMembers s₁ t h₁ tt
 
   pub tree-read : (s : Bytes) (m : Members) → treeOf s ≡ some m → Deep maxDepth (object m)
   unfolding treeOf
   tree-read s m h =
-      let (t, read, h₁) = bind-some _ _ m h in
-      let (rest, h₂) = check-some _ _ m h₁ in
-      let deep = else-some _ _ t read (empty-read 5 (skip s) t) (object-read maxDepth (skip s) t) in
+      bind-some _ _ m h λ t read h₁.
+      check-some _ _ m h₁ λ rest h₂.
+      let deep = either-some _ _ t read (object-read maxDepth (skip s) t) (empty-read 5 (skip s) t) in
       subst (λ (m : Members). Deep maxDepth (object m)) (some-same h₂) deep
 
   pub tree-valid : (s : Bytes) (m : Members) → treeOf s ≡ some m → All Valid (storeMembers [] m [])

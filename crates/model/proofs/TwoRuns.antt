@@ -1,30 +1,30 @@
 -- Condition 3. What a set of users gets in a run is what the server itself gives when it is run on what the set sees of the start and on the
 -- set's own sequence. Nothing else of the run comes in, so two runs with one sight of the start and one sequence give the same.
-use Prim.Native.Nat.{ℕ, zero, suc, _+_, _*_, _/_, _≤_, _<_}
-use mathlib.Core.Path.{_≡_, refl, sym, ap, ap₂, subst, _∙_}
+use Prim.Native.Nat.{ℕ, zero, suc, _+_, _≤_}
+use mathlib.Core.Path.{_≡_, refl, sym, ap, ap₂, _∙_}
 use mathlib.Core.Option.{Option, none, some}
 use mathlib.Core.List.{List, [], _∷_, _++_, map, append-assoc, append-nil}
-use mathlib.Core.Bool.{Bool, true, false, not, _&&_, _||_, and-true, and-false, and-assoc}
-use lib.Dec.{leb, ltb, eqb}
-use lib.ListN.{length, take, drop, set, getD, getElem?}
-use lib.Seq.{take-at, take-all}
+use mathlib.Core.Bool.{Bool, true, false, not, _&&_, and-false}
+use lib.Dec.{ltb, eqb}
+use lib.ListN.{length, take, drop, set, getD}
+use lib.Seq.{take-at}
 use native.Mathlib.Omega.{arith}
 use native.Mathlib.Nat.{le-trans}
 use borrow.Author.Tests.{eqb-true}
-use Rattle.model.specs.Base.{Bytes, if_then_else_, any, keep, joined, range, isSome}
+use Rattle.model.specs.Base.{Bytes, if_then_else_, keep, joined, range, isSome}
 use Rattle.model.specs.Limits.{maxFields}
 use Rattle.model.specs.Values.{Value}
-use Rattle.model.specs.Fields.{Keys, Field, Fields, valueAt, holds, put, store}
+use Rattle.model.specs.Fields.{Keys, Field, holds, put, store}
 use Rattle.model.specs.Refusals.{Result, refused, done, _>>=_, _>>_, refuse_if_, _or_}
 use Rattle.model.specs.Tables.{User, Rule, Tables, userAt, userNamed}
 use Rattle.model.specs.Rights.{matches, isWrite, isFor, mayRead, mayWrite}
 use Rattle.model.specs.Opening.{LoginState, State, emptyLogin}
 use Rattle.model.specs.Requests.{Request, login, get, push, requestOf}
-use Rattle.model.specs.Serving.{sessionNumber, indexIn, isSession, loginAt, copyOf, readable, Change, enters, shows, stores, decideLogin, decideShow, decideGet, creating, decidePush, roomFor, decide, decideSave, apply, readsBy, readsAt, receivers, notified, shown, answerOf, Answer, refusal, session, length-is, accepted, Act, line, save, Outcome, over, unchanged, conclude, served, outcome}
-use Rattle.model.specs.Runs.{Event, events, indexOf, owner, inSet, seen, seenFields, isAccepted, Item, own, others, othersPush, itemsOf, items, sequence, Got, answer, copy, delivery, deliveryLine, copies, answers, deliveries, gotBy, gotIn, got}
-use Rattle.model.proofs.Lists.{by-cases, never, or-right, All, all-imp, all-range, any-range, any-mono, any-false, and-both, none-some, elem-below, keep-agree, keep-within, keep-map, keep-keep, keep-none, length-keep-le, all-kept, map-agree, joined-append}
+use Rattle.model.specs.Serving.{sessionNumber, indexIn, loginAt, readable, Change, enters, shows, stores, decideLogin, decideGet, decidePush, roomFor, decide, decideSave, apply, readsBy, readsAt, receivers, notified, shown, answerOf, refusal, Act, line, save, over, unchanged, conclude, served, outcome}
+use Rattle.model.specs.Runs.{events, indexOf, owner, inSet, seen, seenFields, isAccepted, Item, own, others, othersPush, itemsOf, items, sequence, Got, answer, copy, delivery, deliveryLine, copies, answers, deliveries, gotBy, gotIn, got}
+use Rattle.model.proofs.Lists.{by-cases, never, all-imp, all-range, any-range, any-mono, any-false, and-both, elem-below, keep-agree, keep-within, keep-map, keep-keep, keep-none, length-keep-le, all-kept, map-agree}
 use Rattle.model.proofs.Order.{put-seen, put-hidden, value-seen, store-fits, Sorted}
-use Rattle.model.proofs.Decisions.{Entered, Stored, Decided, decided, show-change}
+use Rattle.model.proofs.Decisions.{Stored, Decided, decided, show-change, owner-in, owner-out}
 use Rattle.model.proofs.Invariant.{Running, few-at, put-fits, store-is-put, run-act}
 
 -- ── A right to write is one to read ──
@@ -82,7 +82,7 @@ deliveriesOf ms (login u k) = []
 deliveriesOf ms (get n) = []
 deliveriesOf ms (push n p v) = map (λ m. delivery (indexIn m) (deliveryLine p v m)) ms
 
-over-take : {A : Type 0} (xs ys : List A) → take (length xs) (over xs ys) ≡ xs
+pub over-take : {A : Type 0} (xs ys : List A) → take (length xs) (over xs ys) ≡ xs
 unfolding over
 over-take xs ys = take-at xs (drop (length xs) ys) (length xs) refl
 
@@ -126,7 +126,11 @@ module _ (In : ℕ → Bool) (s : State) where
 module _ (In : ℕ → Bool) where
   -- what the set sees of a state: a state again, with the seen fields only and the others' login states empty
   pub view : State → State
-  view s = record { tables = s .tables; logins = masked In 0 (s .logins); fields = seenFields In s }
+  view s = record { tables = s .tables; loginStates = masked In 0 (s .loginStates); fields = seenFields In s }
+
+  pub same-view : (s₁ s₂ : State) → s₁ .tables ≡ s₂ .tables → s₁ .loginStates ≡ s₂ .loginStates → seenFields In s₁ ≡ seenFields In s₂ → view s₁ ≡ view s₂
+  unfolding view
+  same-view s₁ s₂ t l f = λ i. record { tables = t i; loginStates = masked In 0 (l i); fields = f i }
 
   afterResult : State → Result ℕ Change → State
   afterResult v (refused e) = v
@@ -138,7 +142,7 @@ module _ (In : ℕ → Bool) where
 
   after : State → Item → State
   after v (own t room) = afterOwn v room (requestOf t)
-  after v (others p x) = record { tables = v .tables; logins = v .logins; fields = store (record { path = p; value = x }) (v .fields) }
+  after v (others p x) = record { tables = v .tables; loginStates = v .loginStates; fields = store (record { path = p; value = x }) (v .fields) }
 
   -- the numbers of the set's open sessions whose user may read the path, but those that `ok` leaves out
   listening : State → (ℕ → Bool) → Keys → List ℕ
@@ -170,12 +174,12 @@ module _ (In : ℕ → Bool) where
   -- ── Login states seen ──
   login-seen : (s : State) (i : ℕ) → In i ≡ true → loginAt (view s) i ≡ loginAt s i
   unfolding view loginAt
-  login-seen s i e = masked-in In 0 (s .logins) i (let z : 0 + i ≡ i = omega arith in rw z e)
+  login-seen s i e = masked-in In 0 (s .loginStates) i (let z : 0 + i ≡ i = omega arith in rw z e)
 
   few-seen : (s : State) → ((j : ℕ) → loginAt s j .logins ≤ 65535) → (j : ℕ) → loginAt (view s) j .logins ≤ 65535
   few-seen s h j = by-cases (In j)
       (λ e. rw (login-seen s j e) (h j))
-      (λ e. unfold view loginAt in (rw (masked-out In 0 (s .logins) j (let z : 0 + j ≡ j = omega arith in rw z e)) (unfold emptyLogin in omega arith)))
+      (λ e. unfold view loginAt in (rw (masked-out In 0 (s .loginStates) j (let z : 0 + j ≡ j = omega arith in rw z e)) (unfold emptyLogin in omega arith)))
 
   -- ── Receivers of the set ──
   index-of : (j : ℕ) (a : LoginState) → a .logins ≤ 65535 → indexIn (sessionNumber j a) ≡ j
@@ -272,17 +276,17 @@ module _ (In : ℕ → Bool) where
     decide-seen : (q : Request) (room : ℕ) → inSet In (owner (s .tables) q) ≡ true → decide (view s) q room ≡ decide s q room
     unfolding owner inSet
     decide-seen (login n k) room h = decide-login n k room h
-    decide-seen (get n) room h = decide-get n room h
-    decide-seen (push n p v) room h = decide-push n p v room h
+    decide-seen (get n) room h = decide-get n room (owner-in In (s .tables) (indexIn n) h)
+    decide-seen (push n p v) room h = decide-push n p v room (owner-in In (s .tables) (indexIn n) h)
 
   -- ── How a change shows ──
   view-enters : (s : State) (i : ℕ) (a : LoginState) → In i ≡ true → view (apply (enters i a) s) ≡ apply (enters i a) (view s)
   unfolding view apply seenFields
-  view-enters s i a e = rw (masked-set-in In 0 (s .logins) i a (let z : 0 + i ≡ i = omega arith in rw z e))
+  view-enters s i a e = rw (masked-set-in In 0 (s .loginStates) i a (let z : 0 + i ≡ i = omega arith in rw z e))
 
   hidden-enters : (s : State) (i : ℕ) (a : LoginState) → In i ≡ false → view (apply (enters i a) s) ≡ view s
   unfolding view apply seenFields
-  hidden-enters s i a e = rw (masked-set-out In 0 (s .logins) i a (let z : 0 + i ≡ i = omega arith in rw z e))
+  hidden-enters s i a e = rw (masked-set-out In 0 (s .loginStates) i a (let z : 0 + i ≡ i = omega arith in rw z e))
 
   module _ (loaded : ℕ) (s : State) (r : Running loaded s) (n : ℕ) (p : Keys) (v : Value) (i : ℕ) (a : LoginState) (f : Field) (d : Stored s n p v i a f) where
     path-is : f .path ≡ p
@@ -304,7 +308,7 @@ module _ (In : ℕ → Bool) where
 
     view-stores : In i ≡ true → view (apply (stores i a f) s) ≡ apply (stores i a f) (view s)
     unfolding view apply seenFields
-    view-stores e = rw (masked-set-in In 0 (s .logins) i a (let z : 0 + i ≡ i = omega arith in rw z e), store-seen sees)
+    view-stores e = rw (masked-set-in In 0 (s .loginStates) i a (let z : 0 + i ≡ i = omega arith in rw z e), store-seen sees)
       where
         sees : seen In (s .tables) p ≡ true
         sees = member-sees (s .tables) i (d .user) p e (d .isUser) (write-reads (s .tables .policy) (d .user) p (d .writes))
@@ -312,12 +316,12 @@ module _ (In : ℕ → Bool) where
     -- another's push to a seen path
     view-others : In i ≡ false → seen In (s .tables) p ≡ true → view (apply (stores i a f) s) ≡ after (view s) (others p v)
     unfolding view apply seenFields after
-    view-others e k = rw (masked-set-out In 0 (s .logins) i a (let z : 0 + i ≡ i = omega arith in rw z e), store-seen k, d .field)
+    view-others e k = rw (masked-set-out In 0 (s .loginStates) i a (let z : 0 + i ≡ i = omega arith in rw z e), store-seen k, d .field)
 
     -- and to a hidden one
     view-hidden : In i ≡ false → seen In (s .tables) p ≡ false → view (apply (stores i a f) s) ≡ view s
     unfolding view apply seenFields
-    view-hidden e k = rw (masked-set-out In 0 (s .logins) i a (let z : 0 + i ≡ i = omega arith in rw z e), store-hidden k)
+    view-hidden e k = rw (masked-set-out In 0 (s .loginStates) i a (let z : 0 + i ≡ i = omega arith in rw z e), store-hidden k)
 
   -- ── One act ──
   record Step (s : State) (xs : List Item) (gs : List Got) (s₁ : State) : Type 0 where
@@ -361,7 +365,7 @@ module _ (In : ℕ → Bool) where
     view-own (get n) (stores i a f) d h = absurd d
     view-own (push n p v) (enters i a) d h = absurd d
     view-own (push n p v) (shows t) d h = absurd d
-    view-own (push n p v) (stores i a f) d h = sym (view-stores loaded s r n p v i a f d (rw (d .index) h))
+    view-own (push n p v) (stores i a f) d h = sym (view-stores loaded s r n p v i a f d (rw (d .index) (owner-in In (s .tables) (indexIn n) h)))
 
     own-result : (q : Request) (room : ℕ) (b : Bytes) (l : List ℕ) (x : Result ℕ Change) → decide s q room ≡ x → inSet In (owner (s .tables) q) ≡ true →
         afterResult (view s) x ≡ view (conclude s b l x .state)
@@ -439,7 +443,7 @@ module _ (In : ℕ → Bool) where
     others-done (get n) (stores i a f) d h = absurd d
     others-done (push n p v) (enters i a) d h = absurd d
     others-done (push n p v) (shows t) d h = absurd d
-    others-done (push n p v) (stores i a f) d h = unfold answerOf isAccepted in (others-push n p v i a f d (rw (d .index) h))
+    others-done (push n p v) (stores i a f) d h = unfold answerOf isAccepted in (others-push n p v i a f d (owner-out In (s .tables) i (d .user) (d .isUser) (rw (d .index) h)))
 
     others-result : (q : Request) (room : ℕ) (b : Bytes) (l : List ℕ) (x : Result ℕ Change) → decide s q room ≡ x → inSet In (owner (s .tables) q) ≡ false →
         Step s (othersPush In s (conclude s b l x .answer) q) (gotBy In s (conclude s b l x) (some q)) (conclude s b l x .state)

@@ -1,11 +1,10 @@
 -- Fields as the readers give them: keys that are names, values within their limits.
-use Prim.Native.Nat.{ℕ}
 use mathlib.Core.Path.{_≡_}
 use mathlib.Core.Bool.{Bool, true, _&&_}
 use lib.Dec.{leb}
 use lib.ListN.{length}
 use lib.IntN.{pos, negsuc}
-use Rattle.model.specs.Base.{Bytes, all, within}
+use Rattle.model.specs.Base.{all, within}
 use Rattle.model.specs.Limits.{maxDepth, maxString}
 use Rattle.model.specs.Names.{isKey}
 use Rattle.model.specs.Values.{Value, truth, string, whole, stringByte}

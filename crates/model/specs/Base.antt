@@ -12,7 +12,7 @@ use lib.Dec.{leb, ltb, eqb}
 abbrev pub Bytes : Type 0
 Bytes = List ℕ
 
--- a quoted text as its bytes
+-- a quoted text of ASCII characters as its bytes
 unfoldable pub text : String → Bytes
 text S.[] = []
 text (S._∷_ c s) = code c ∷ text s

@@ -1,5 +1,5 @@
 -- Document 01's worked cases, by computation from the definitions alone.
-use Prim.Native.Nat.{ℕ, Ordering, Ordering·lt, Ordering·eq, Ordering·gt}
+use Prim.Native.Nat.{ℕ}
 use Prim.Native.String.{String}
 use mathlib.Core.Path.{_≡_, refl}
 use mathlib.Core.List.{List, [], _∷_, _++_, map}
@@ -102,10 +102,10 @@ insideObject : serve (guestTexts "$.r" "{\"a\":0,\"r\":{\"b\":true}}") guestInpu
 unfolding Program.Opened rows guestTexts guestInput
 insideObject = refl
 
--- ── P1 to P10 and the further cases: entries of one list ──
+-- ── P1 to P10, and the further cases: entries of a list, with one claim covering it ──
 data Case : Type 0 where
   -- after these lines, on the tables above, this line has this answer; the number is the buffer's length
-  answers : List String → String → ℕ → Answer → Case
+  replies : List String → String → ℕ → Answer → Case
   -- the first key sorts before the second
   sorts : String → String → Case
   -- with these lines below the policy's head, the opening is refused by this number in this line
@@ -142,7 +142,7 @@ isFault n l (done s) = false
 
 passes : Case → Bool
 unfolding sameAnswer asked clubState isFault rows clubTexts
-passes (answers earlier s room a) = sameAnswer (outcome (end clubState (map (asked room) earlier)) (asked room s) .answer) a
+passes (replies earlier s room a) = sameAnswer (outcome (end clubState (map (asked room) earlier)) (asked room s) .answer) a
 passes (sorts a b) = byOrder (orderKey (text a) (text b)) true false false
 passes (refuses ls n l) = isFault n l (opened (record {
   usersText = clubTexts .usersText;
@@ -153,14 +153,14 @@ passes (refuses ls n l) = isFault n l (opened (record {
 
 cases : List Case
 cases =
-    answers [] "LOGIN;bob;k1" 0 (refusal 12) ∷  -- P1
-    answers [] "LOGIN;cy;k3" 0 (session 131073) ∷  -- P2
-    answers ("LOGIN;cy;k3" ∷ []) "LOGIN;cy;k3" 0 (refusal 13) ∷  -- P3
-    answers [] "GET;2" 0 (refusal 14) ∷  -- P4
-    answers ("LOGIN;cy;k3" ∷ []) "PUSH;131073;$['e9']['note'];true" 0 (refusal 16) ∷  -- P5
+    replies [] "LOGIN;bob;k1" 0 (refusal 12) ∷  -- P1
+    replies [] "LOGIN;cy;k3" 0 (session 131073) ∷  -- P2
+    replies ("LOGIN;cy;k3" ∷ []) "LOGIN;cy;k3" 0 (refusal 13) ∷  -- P3
+    replies [] "GET;2" 0 (refusal 14) ∷  -- P4
+    replies ("LOGIN;cy;k3" ∷ []) "PUSH;131073;$['e9']['note'];true" 0 (refusal 16) ∷  -- P5
     sorts "29" "3" ∷  -- P6
-    answers ("LOGIN;ann;k1" ∷ []) "PUSH;1;$['e7']['cv']['1'];-2147483648" 0 accepted ∷  -- P7
-    answers ("LOGIN;ann;k1" ∷ []) "PUSH;1;$['e7']['cv']['1'];-2147483649" 0 (refusal 11) ∷  -- P8
+    replies ("LOGIN;ann;k1" ∷ []) "PUSH;1;$['e7']['cv']['1'];-2147483648" 0 accepted ∷  -- P7
+    replies ("LOGIN;ann;k1" ∷ []) "PUSH;1;$['e7']['cv']['1'];-2147483649" 0 (refusal 11) ∷  -- P8
     refuses ("repairer;WRITE;$.*.cv" ∷ "repairer;WRITE;$.e7.cv.*" ∷ []) 5 3 ∷  -- P9
     refuses ("driver;READ;$.29" ∷ []) 3 2 ∷  -- P10
     []
@@ -173,13 +173,13 @@ furtherCases : List Case
 unfolding clubInput
 furtherCases =
     -- "Ann's fifth new field is refused 17, her fourth accepted"
-    answers ("LOGIN;ann;k1" ∷ "PUSH;1;$['a']['cv']['1'];1" ∷ "PUSH;1;$['a']['cv']['2'];1" ∷ "PUSH;1;$['a']['cv']['3'];1" ∷ []) "PUSH;1;$['a']['cv']['4'];1" 0 accepted ∷
-    answers ("LOGIN;ann;k1" ∷ "PUSH;1;$['a']['cv']['1'];1" ∷ "PUSH;1;$['a']['cv']['2'];1" ∷ "PUSH;1;$['a']['cv']['3'];1" ∷ "PUSH;1;$['a']['cv']['4'];1" ∷ []) "PUSH;1;$['a']['cv']['5'];1" 0 (refusal 17) ∷
+    replies ("LOGIN;ann;k1" ∷ "PUSH;1;$['a']['cv']['1'];1" ∷ "PUSH;1;$['a']['cv']['2'];1" ∷ "PUSH;1;$['a']['cv']['3'];1" ∷ []) "PUSH;1;$['a']['cv']['4'];1" 0 accepted ∷
+    replies ("LOGIN;ann;k1" ∷ "PUSH;1;$['a']['cv']['1'];1" ∷ "PUSH;1;$['a']['cv']['2'];1" ∷ "PUSH;1;$['a']['cv']['3'];1" ∷ "PUSH;1;$['a']['cv']['4'];1" ∷ []) "PUSH;1;$['a']['cv']['5'];1" 0 (refusal 17) ∷
     -- "GET with 167 bytes succeeds, with 166 gives 15"
-    answers clubInput "GET;65537" 167 (length-is 167) ∷
-    answers clubInput "GET;65537" 166 (refusal 15) ∷
-    -- no "Separate answers for an unknown user and a wrong key"
-    answers [] "LOGIN;dee;k1" 0 (refusal 12) ∷
+    replies clubInput "GET;65537" 167 (length-is 167) ∷
+    replies clubInput "GET;65537" 166 (refusal 15) ∷
+    -- no "Separate replies for an unknown user and a wrong key"
+    replies [] "LOGIN;dee;k1" 0 (refusal 12) ∷
     []
 
 furtherHold : all passes furtherCases ≡ true
@@ -208,7 +208,20 @@ bobGets : got (only 1) (events clubState clubActs) ≡
 unfolding Program.Opened clubState clubActs rows bobsCopy
 bobGets = refl
 
--- another run that bob cannot tell from it: other acts of the others, refused ones and a save among them
+-- ── Another run that bob cannot tell from it: another note and one field more at the start, other acts of the others ──
+otherTexts : Texts
+unfolding rows clubTexts
+otherTexts = record {
+  usersText = clubTexts .usersText;
+  environmentsText = clubTexts .environmentsText;
+  policyText = clubTexts .policyText;
+  recordText = rows ("{\"e9\":{\"cv\":{\"1\":12,\"8\":8},\"name\":\"Mail\"},\"e7\":{\"name\":\"Tank 7\",\"cv\":{\"29\":6,\"1\":3},\"note\":\"sold\"}}" ∷ []);
+}
+
+otherState : State
+unfolding otherTexts
+otherState = afterOpening initial otherTexts
+
 otherActs : List Act
 unfolding asked
 otherActs = map (asked 200) (
@@ -223,10 +236,19 @@ otherActs = map (asked 200) (
     "PUSH;65537;$['e7']['cv']['1'];4" ∷ []) ++
     save [] ∷ line (text "GET;65537") (replicate 200 1) [] ∷ []
 
-bobsSequenceToo : sequence (only 1) (events clubState otherActs) ≡
+bobsSequenceToo : sequence (only 1) (events otherState otherActs) ≡
     own (text "LOGIN;bob;k2") 0 ∷
     others (text "e7" ∷ text "cv" ∷ text "29" ∷ []) (whole (pos 38)) ∷
     own (text "PUSH;65537;$['e7']['cv']['1'];4") 32 ∷
     own (text "GET;65537") 200 ∷ []
-unfolding Program.Opened clubState otherActs
+unfolding Program.Opened otherState otherActs
 bobsSequenceToo = refl
+
+bobGetsToo : got (only 1) (events otherState otherActs) ≡
+    answer 1 (session 65537) ∷
+    delivery 1 (text "TO;65537;$['e7']['cv']['29'];38") ∷
+    answer 1 (refusal 16) ∷
+    answer 1 (length-is 167) ∷
+    copy 1 (rows bobsCopy) ∷ []
+unfolding Program.Opened otherState otherActs rows bobsCopy
+bobGetsToo = refl

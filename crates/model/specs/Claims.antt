@@ -1,22 +1,24 @@
--- The claims about runs, each with its sentence. A run is an accepted opening and then a list of acts.
-use Prim.Native.Nat.{ℕ, _+_, _≤_, _<_}
+-- The claims about runs, each with its sentence: of document 01, or of the conditions where it says so.
+use Prim.Native.Nat.{ℕ, suc, min, _+_, _≤_, _<_}
 use mathlib.Core.Path.{_≡_}
-use mathlib.Core.Option.{Option, none, some}
-use mathlib.Core.List.{List, map}
-use mathlib.Core.Bool.{Bool}
-use lib.ListN.{length}
-use Rattle.model.specs.Base.{Bytes, keep, sum}
-use Rattle.model.specs.Limits.{maxFields, maxCopy}
+use mathlib.Core.Option.{some}
+use mathlib.Core.List.{List, [], _∷_, map}
+use mathlib.Core.Bool.{Bool, true, false, not, _&&_, _||_}
+use lib.Dec.{ltb}
+use lib.ListN.{length, take}
+use Rattle.model.specs.Base.{Bytes, any, keep, sum, range, _==_}
+use Rattle.model.specs.Limits.{maxFields, maxCopy, maxLogins, listRoom}
 use Rattle.model.specs.Values.{Value, valueOf, valueText}
-use Rattle.model.specs.Fields.{Keys, Field, valueAt, put, store}
+use Rattle.model.specs.Fields.{Keys, Field, Fields, orderPath, byOrder, valueAt, holds, put, store}
+use Rattle.model.specs.RecordText.{Members, treeOf, count}
 use Rattle.model.specs.SavedText.{saved}
 use Rattle.model.specs.Paths.{Steps, stepsText, keysText, stepsOf, keysOf}
-use Rattle.model.specs.Refusals.{Result, refused, done}
+use Rattle.model.specs.Refusals.{refused, done}
 use Rattle.model.specs.Tables.{User, Access, Rule, Tables, userAt}
 use Rattle.model.specs.Opening.{LoginState, State, emptyLogins, Texts, Fault, quotas, opened, afterOpening}
-use Rattle.model.specs.Requests.{Request, login, push, requestOf}
-use Rattle.model.specs.Serving.{indexIn, loginAt, copyOf, readable, Change, stores, decide, Answer, refusal, session, length-is, accepted, Act, line, save, outcome}
-use Rattle.model.specs.Runs.{Event, events, end, only, seenFields, sequence, got, creates, createdBy}
+use Rattle.model.specs.Requests.{Request, push, requestOf}
+use Rattle.model.specs.Serving.{indexIn, loginAt, copyOf, readable, creating, stores, decide, refusal, session, length-is, accepted, Act, line, save, outcome}
+use Rattle.model.specs.Runs.{events, end, only, seenFields, sequence, got, creates, createdBy}
 
 -- a state that a run from these texts reaches
 pub record Reached (t : Texts) (s : State) : Type 0 where
@@ -35,7 +37,7 @@ pub record SameTables (t₁ t₂ : Tables) : Type 0 where
   pub sameUsers : t₁ .users ≡ t₂ .users
   pub samePolicy : map spelled (t₁ .policy) ≡ map spelled (t₂ .policy)
 
--- two runs from two openings, whatever the others send and whatever hidden fields hold
+-- two runs whose tables are equal, whatever else was opened and sent
 pub record TwoRuns : Type 0 where
   pub texts₁ : Texts
   pub texts₂ : Texts
@@ -43,12 +45,11 @@ pub record TwoRuns : Type 0 where
   pub start₂ : State
   pub opened₁ : opened texts₁ ≡ done start₁
   pub opened₂ : opened texts₂ ≡ done start₂
+  pub sameTables : SameTables (start₁ .tables) (start₂ .tables)
   pub acts₁ : List Act
   pub acts₂ : List Act
-  -- "If the tables are equal"
-  pub sameTables : SameTables (start₁ .tables) (start₂ .tables)
 
--- for any set of users: with equal seen fields and the same sequence, "the same answers, copies and deliveries, byte for byte and in the same order"
+-- for any set of users: with equal seen fields at the opening and the same sequence, "All this is one sequence, equal in both runs"
 abbrev pub SetCannotTell : Type 0
 SetCannotTell =
     (r : TwoRuns) (set : ℕ → Bool) →
@@ -65,16 +66,51 @@ UserCannotTell =
     sequence (only i) (events (r .start₁) (r .acts₁)) ≡ sequence (only i) (events (r .start₂) (r .acts₂)) →
     got (only i) (events (r .start₁) (r .acts₁)) ≡ got (only i) (events (r .start₂) (r .acts₂))
 
--- ── Condition 2: saving and opening again ──
--- the saved text with the same tables
-unfoldable pub again : Texts → State → Texts
-again t s = record { usersText = t .usersText; environmentsText = t .environmentsText; policyText = t .policyText; recordText = saved (s .fields) }
+-- ── The fields held ──
+-- "Fields are sorted by path"
+unfoldable pub isSorted : Fields → Bool
+isSorted [] = true
+isSorted (f ∷ []) = true
+isSorted (f ∷ (g ∷ gs)) = let r = isSorted (g ∷ gs) in byOrder (orderPath (f .path) (g .path)) r false false
 
--- "Where the fields held and all allowances together are at most 256, a saved record, opened again with the same tables, is accepted and holds the same fields"
+unfoldable pub begins : Keys → Keys → Bool
+begins [] q = true
+begins (k ∷ p) [] = false
+begins (k ∷ p) (l ∷ q) = let r = begins p q in k == l && r
+
+-- "No field's path is the beginning of another's"
+unfoldable pub noneBegins : Fields → Bool
+noneBegins [] = true
+noneBegins (f ∷ fs) = let r = noneBegins fs in not (any (λ g. begins (f .path) (g .path) || begins (g .path) (f .path)) fs) && r
+
+-- both, and "At most 256 fields are held"
+abbrev pub FieldsKept : Type 0
+FieldsKept =
+    (t : Texts) (s : State) → Reached t s →
+    (isSorted (s .fields) ≡ true) × (noneBegins (s .fields) ≡ true) × (length (s .fields) ≤ maxFields)
+
+-- no field falls off the table for another
+abbrev pub NothingFallsOff : Type 0
+NothingFallsOff =
+    (t : Texts) (s : State) → Reached t s → (q : Request) (room i : ℕ) (a : LoginState) (f : Field) →
+    decide s q room ≡ done (stores i a f) → store f (s .fields) ≡ put f (s .fields)
+
+-- an opening loads every field of the text
+abbrev pub LoadsAll : Type 0
+LoadsAll = (t : Texts) (s : State) (m : Members) → opened t ≡ done s → treeOf (t .recordText) ≡ some m → length (s .fields) ≡ count m
+
+-- ── Condition 2: saving and opening again ──
+-- these texts with another record text
+unfoldable pub withRecord : Bytes → Texts → Texts
+withRecord r t = record { usersText = t .usersText; environmentsText = t .environmentsText; policyText = t .policyText; recordText = r }
+
+-- "Where the fields held and all allowances together are at most 256, a saved record, opened again with the same tables, is accepted and
+-- holds the same fields": with any texts that were opened to equal tables
 abbrev pub OpensAgain : Type 0
 OpensAgain =
-    (t : Texts) (s : State) → Reached t s → length (s .fields) + quotas (s .tables .users) ≤ maxFields →
-    opened (again t s) ≡ done (record { tables = s .tables; logins = emptyLogins; fields = s .fields })
+    (t t₂ : Texts) (s s₂ : State) → Reached t s → opened t₂ ≡ done s₂ → SameTables (s .tables) (s₂ .tables) →
+    length (s .fields) + quotas (s .tables .users) ≤ maxFields →
+    opened (withRecord (saved (s .fields)) t₂) ≡ done (record { tables = s .tables; loginStates = emptyLogins; fields = s .fields })
 
 -- "each record has one saved text": the same fields, in whatever order they came, have the same text
 abbrev pub OneSavedText : Type 0
@@ -90,17 +126,23 @@ OneRecord =
     saved (s₁ .fields) ≡ saved (s₂ .fields) → s₁ .fields ≡ s₂ .fields
 
 -- ── Growth ──
--- "At any time fields now held less fields loaded equals the sum over users of accepted pushes since the opening that named an absent field"
+-- fields held less fields loaded are the accepted pushes that named an absent field
 abbrev pub GrowsByPushes : Type 0
 GrowsByPushes =
     (t : Texts) (s : State) (acts : List Act) → opened t ≡ done s →
     length (end s acts .fields) ≡ length (s .fields) + length (keep creates (events s acts))
 
--- the same as the sum of the users' created counts
+-- "At any time fields now held less fields loaded equals the sum over users of accepted pushes since the opening that named an absent field"
+abbrev pub GrowsByUsers : Type 0
+GrowsByUsers =
+    (t : Texts) (s : State) (acts : List Act) → opened t ≡ done s →
+    length (end s acts .fields) ≡ length (s .fields) + sum (map (λ i. length (keep (createdBy i) (events s acts))) (range 0 (length (s .tables .users))))
+
+-- the same as the sum of the created counts
 abbrev pub GrowsByCounts : Type 0
 GrowsByCounts =
     (t : Texts) (s : State) (acts : List Act) → opened t ≡ done s →
-    length (end s acts .fields) ≡ length (s .fields) + sum (map (λ a. a .created) (end s acts .logins))
+    length (end s acts .fields) ≡ length (s .fields) + sum (map (λ a. a .created) (end s acts .loginStates))
 
 -- a user's count is that user's own number of such pushes
 abbrev pub CountsOwnPushes : Type 0
@@ -114,24 +156,30 @@ WithinQuota =
     (t : Texts) (s : State) → Reached t s → (i : ℕ) (u : User) → userAt (s .tables .users) i ≡ some u →
     loginAt s i .created ≤ u .quota
 
--- "At most 256 fields are held": no field falls off for another
-abbrev pub NothingFallsOff : Type 0
-NothingFallsOff =
-    (t : Texts) (s : State) → Reached t s → (q : Request) (room i : ℕ) (a : LoginState) (f : Field) →
-    decide s q room ≡ done (stores i a f) → store f (s .fields) ≡ put f (s .fields)
-
+-- ── Lengths ──
 -- "A copy never exceeds 51,069 bytes"
 abbrev pub CopyBound : Type 0
 CopyBound =
     (t : Texts) (s : State) → Reached t s → (i : ℕ) (u : User) → userAt (s .tables .users) i ≡ some u →
     length (copyOf (s .tables .policy) u (readable (s .tables .policy) u (s .fields))) ≤ maxCopy
 
+unfoldable pub ascends : List ℕ → Bool
+ascends [] = true
+ascends (m ∷ []) = true
+ascends (m ∷ (n ∷ l)) = let r = ascends (n ∷ l) in ltb m n && r
+
+-- "The list receives, ascending, the numbers": never more than the 32 that it must have room for
+abbrev pub ListAscends : Type 0
+ListAscends =
+    (t : Texts) (s : State) → Reached t s → (x b : Bytes) (l : List ℕ) →
+    (ascends (take (outcome s (line x b l) .told) (outcome s (line x b l) .list)) ≡ true) × (outcome s (line x b l) .told ≤ listRoom)
+
 -- ── Condition 1: nothing else changes ──
 -- "A refused opening keeps the former state"
 abbrev pub RefusedOpening : Type 0
 RefusedOpening = (s : State) (t : Texts) (f : Fault) → opened t ≡ refused f → afterOpening s t ≡ s
 
--- "No refused request changes the record, a login or a lent buffer": in any state
+-- condition 1: "No refused request changes the record, a login or a lent buffer", in any state
 abbrev pub RefusedLine : Type 0
 RefusedLine =
     (s : State) (x b : Bytes) (l : List ℕ) (e : ℕ) → outcome s (line x b l) .answer ≡ refusal e →
@@ -142,27 +190,30 @@ RefusedSave =
     (s : State) (b : Bytes) (e : ℕ) → outcome s (save b) .answer ≡ refusal e →
     (outcome s (save b) .state ≡ s) × (outcome s (save b) .buffer ≡ b)
 
--- what an accepted push at index i of the value v to the path p leaves
+-- what an accepted push at index i of the value v to the path p makes of a state
 pub record Pushed (s s₁ : State) (i : ℕ) (p : Keys) (v : Value) : Type 0 where
   pub holdsValue : valueAt p (s₁ .fields) ≡ some v
   pub otherFields : (q : Keys) → (q ≡ p → ⊥) → valueAt q (s₁ .fields) ≡ valueAt q (s .fields)
+  pub ownLogin : loginAt s₁ i ≡ creating (loginAt s i) (holds p (s .fields))
   pub otherLogins : (j : ℕ) → (j ≡ i → ⊥) → loginAt s₁ j ≡ loginAt s j
-  pub sameTables : s₁ .tables ≡ s .tables
+  pub tablesStay : s₁ .tables ≡ s .tables
 
--- "no accepted push changes any field but the one it names"
+-- condition 1: "no accepted push changes any field but the one it names"
 abbrev pub PushChangesOne : Type 0
 PushChangesOne =
     (t : Texts) (s : State) → Reached t s → (x b : Bytes) (l : List ℕ) (n : ℕ) (p : Keys) (v : Value) →
     requestOf x ≡ some (push n p v) → outcome s (line x b l) .answer ≡ accepted →
     Pushed s (outcome s (line x b l) .state) (indexIn n) p v
 
--- what a login at index i leaves
+-- what a login at index i makes of a state
 pub record LoggedIn (s s₁ : State) (i : ℕ) : Type 0 where
-  pub sameFields : s₁ .fields ≡ s .fields
+  pub ownLogin : i < length (s .loginStates) →
+      loginAt s₁ i ≡ record { logins = min (suc (loginAt s i .logins)) maxLogins; isOpen = true; created = loginAt s i .created }
   pub otherLogins : (j : ℕ) → (j ≡ i → ⊥) → loginAt s₁ j ≡ loginAt s j
-  pub sameTables : s₁ .tables ≡ s .tables
+  pub fieldsStay : s₁ .fields ≡ s .fields
+  pub tablesStay : s₁ .tables ≡ s .tables
 
--- "A login changes one seat only": in any state
+-- "A login changes one seat only", in any state
 abbrev pub LoginChangesOne : Type 0
 LoginChangesOne =
     (s : State) (x b : Bytes) (l : List ℕ) (n : ℕ) → outcome s (line x b l) .answer ≡ session n →
@@ -181,10 +232,16 @@ StepsReadBack = (s : Bytes) (p : Steps) → stepsOf s ≡ some p → stepsOf (st
 abbrev pub OneSpelling : Type 0
 OneSpelling = (s₁ s₂ : Bytes) (p₁ p₂ : Steps) → stepsOf s₁ ≡ some p₁ → stepsOf s₂ ≡ some p₂ → stepsText p₁ ≡ stepsText p₂ → p₁ ≡ p₂
 
--- the same of a field's path
+-- the same of a field's path and of a value
 abbrev pub KeysReadBack : Type 0
 KeysReadBack = (s : Bytes) (p : Keys) → keysOf s ≡ some p → keysOf (keysText p) ≡ some p
 
--- and of a value
 abbrev pub ValueReadsBack : Type 0
 ValueReadsBack = (s : Bytes) (v : Value) → valueOf s ≡ some v → valueOf (valueText v) ≡ some v
+
+-- "with path and value as pushed": each has one spelling
+abbrev pub KeysAsWritten : Type 0
+KeysAsWritten = (s : Bytes) (p : Keys) → keysOf s ≡ some p → keysText p ≡ s
+
+abbrev pub ValueAsWritten : Type 0
+ValueAsWritten = (s : Bytes) (v : Value) → valueOf s ≡ some v → valueText v ≡ s

@@ -1,4 +1,4 @@
--- The limits that document 01 sets, each stated once, with the sentence.
+-- The limits that document 01 sets, each stated once, with its words.
 use Prim.Native.Nat.{ℕ}
 
 -- "A name is 1 to 16 of them": users, roles, login keys and the names of environment lines
@@ -16,6 +16,13 @@ maxDepth = 6
 -- "a string of 0 to 32 bytes"
 abbrev pub maxString : ℕ
 maxString = 32
+
+-- "a whole number from −2,147,483,648 to 2,147,483,647": how large without its sign
+abbrev pub maxPositive : ℕ
+maxPositive = 2147483647
+
+abbrev pub maxNegative : ℕ
+maxNegative = 2147483648
 
 -- "At most 256 fields are held"
 abbrev pub maxFields : ℕ
@@ -61,7 +68,11 @@ maxSession = 4294967295
 abbrev pub listRoom : ℕ
 listRoom = 32
 
--- a login count ends here; no run comes near
+-- "65,536 times the user's place"
+abbrev pub perUser : ℕ
+perUser = 65536
+
+-- a login count ends here (document 02); no run comes near
 abbrev pub maxLogins : ℕ
 maxLogins = 65535
 

@@ -1,8 +1,7 @@
 -- Document 01, "Record, names and paths": bytes and names.
 use Prim.Native.Nat.{ℕ}
-use mathlib.Core.List.{List, []}
 use mathlib.Core.Bool.{Bool, not, _&&_, _||_}
-use lib.Dec.{leb, eqb}
+use lib.Dec.{eqb}
 use lib.ListN.{length}
 use Rattle.model.specs.Base.{Bytes, all, within, isDigit}
 use Rattle.model.specs.Limits.{maxName, maxKey}

@@ -26,7 +26,7 @@ pub record LoginState : Type 0 where
 -- the tables, a login state for each of the 32 user indices, and the fields held
 pub record State : Type 0 where
   pub tables : Tables
-  pub logins : List LoginState
+  pub loginStates : List LoginState
   pub fields : Fields
 
 unfoldable pub emptyLogin : LoginState
@@ -38,7 +38,7 @@ emptyLogins = replicate maxUsers emptyLogin
 
 -- "Before any accepted opening there are no users and no fields"
 unfoldable pub initial : State
-initial = record { tables = record { users = []; policy = [] }; logins = emptyLogins; fields = [] }
+initial = record { tables = record { users = []; policy = [] }; loginStates = emptyLogins; fields = [] }
 
 -- "Users, environments, policy and record"
 pub record Texts : Type 0 where
@@ -111,7 +111,7 @@ opened t = do
   checkLength 4 (t .recordText)
   tables ← openTables t
   fields ← openRecord tables (t .recordText)
-  done (record { tables = tables; logins = emptyLogins; fields = fields })
+  done (record { tables = tables; loginStates = emptyLogins; fields = fields })
 
 unfoldable pub kept : State → Result Fault State → State
 kept s (refused f) = s

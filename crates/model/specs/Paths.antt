@@ -5,31 +5,31 @@ use mathlib.Core.List.{List, [], _∷_, _++_, map}
 use mathlib.Core.Bool.{Bool, false, not, _&&_, _||_}
 use lib.Dec.{leb, eqb}
 use lib.ListN.{length}
-use Rattle.model.specs.Base.{Bytes, text, joined, between, _>>=_, _>>_, _<|>_, check, after, span, within, isDigit}
+use Rattle.model.specs.Base.{Bytes, text, joined, between, _>>=_, _>>_, _<|>_, check, after, span, isDigit}
 use Rattle.model.specs.Limits.{maxDepth, maxListed, maxPathText}
 use Rattle.model.specs.Names.{isLetter, nameByte, isKey, plainByte, isPlain}
 use Rattle.model.specs.Fields.{Keys}
 use Rattle.model.specs.Fields
 
--- the two own steps of document 01: `=~n`, `in~n`
-pub data Environment : Type 0 where
-  equals : Environment
-  isIn : Environment
+-- which of document 01's two own steps: `=~n`, `in~n`
+pub data Operator : Type 0 where
+  equals : Operator
+  isIn : Operator
 
 -- "A step is a list of names, any key, or an own step"
 pub data Step : Type 0 where
   names : List Bytes → Step
   wildcard : Step
-  environment : Environment → Bytes → Step
+  environment : Operator → Bytes → Step
 
 -- "In a policy, a path is `$` and 1 to 6 steps"
 abbrev pub Steps : Type 0
 Steps = List Step
 
 -- ── "The standard spelling is `[*]`, `['a','b']` in the written order, or the own step" ──
-unfoldable pub environmentText : Environment → Bytes
-environmentText equals = text "=~"
-environmentText isIn = text "in~"
+unfoldable pub operatorText : Operator → Bytes
+operatorText equals = text "=~"
+operatorText isIn = text "in~"
 
 unfoldable pub nameText : Bytes → Bytes
 nameText n = text "'" ++ (n ++ text "'")
@@ -37,7 +37,7 @@ nameText n = text "'" ++ (n ++ text "'")
 unfoldable pub stepText : Step → Bytes
 stepText (names ns) = text "[" ++ (between (text ",") (map nameText ns) ++ text "]")
 stepText wildcard = text "[*]"
-stepText (environment e n) = text "[" ++ (environmentText e ++ (n ++ text "]"))
+stepText (environment e n) = text "[" ++ (operatorText e ++ (n ++ text "]"))
 
 unfoldable pub stepsText : Steps → Bytes
 stepsText p = text "$" ++ joined (map stepText p)
@@ -64,10 +64,17 @@ readQuoted q s = do
 unfoldable pub readEither : Bytes → Option (Bytes × Bytes)
 readEither s = readQuoted (text "'") s <|> readQuoted (text "\"") s
 
+-- what `inner` reads, between brackets
+unfoldable pub inBrackets : {A : Type 0} → (Bytes → Option (A × Bytes)) → Bytes → Option (A × Bytes)
+inBrackets inner s = do
+  s₁ ← after (text "[") s
+  (a, r) ← inner s₁
+  r₁ ← after (text "]") r
+  some (a, r₁)
+
 -- ── A step in each spelling ──
--- "`.*`, `[*]`"
 unfoldable pub readWildcard : Bytes → Option (Step × Bytes)
-readWildcard s = after (text ".*") s <|> after (text "[*]") s >>= λ r. some (wildcard, r)
+readWildcard s = after (text "*") s >>= λ r. some (wildcard, r)
 
 unfoldable pub identifierByte : ℕ → Bool
 identifierByte x = isLetter x || isDigit x || eqb x 0x5F
@@ -76,23 +83,24 @@ unfoldable pub startsWell : Bytes → Bool
 startsWell [] = false
 startsWell (x ∷ n) = not (isDigit x)
 
--- "`.n` (n starts with a letter or `_`, then letters, digits, `_`)"
-unfoldable pub readDot : Bytes → Option (Step × Bytes)
-readDot s = do
-  s₁ ← after (text ".") s
-  let (n, r) = span identifierByte s₁
+-- "n starts with a letter or `_`, then letters, digits, `_`"
+unfoldable pub readIdentifier : Bytes → Option (Step × Bytes)
+readIdentifier s = do
+  let (n, r) = span identifierByte s
   check (isKey n && startsWell n)
   some (names (n ∷ []), r)
 
+-- "`.n` .., `.*`"
+unfoldable pub readDotted : Bytes → Option (Step × Bytes)
+readDotted s = after (text ".") s >>= λ r. readWildcard r <|> readIdentifier r
+
 -- "two of ours: `[=~n]`, `[in~n]`, n a plain name"
-unfoldable pub readEnvironment : Environment → Bytes → Option (Step × Bytes)
-readEnvironment e s = do
-  s₁ ← after (text "[") s
-  s₂ ← after (environmentText e) s₁
-  let (n, r) = span plainByte s₂
+unfoldable pub readEnvironment : Operator → Bytes → Option (Step × Bytes)
+readEnvironment o s = do
+  s₁ ← after (operatorText o) s
+  let (n, r) = span plainByte s₁
   check (isPlain n)
-  r₁ ← after (text "]") r
-  some (environment e n, r₁)
+  some (environment o n, r)
 
 -- names behind those read, with commas between, k more at most
 unfoldable pub readNames : ℕ → List Bytes → Bytes → Option (List Bytes × Bytes)
@@ -101,16 +109,16 @@ readNames (suc k) ns s = do
   (n, r) ← readEither s
   (after (text ",") r >>= readNames k (ns ++ n ∷ [])) <|> some (ns ++ n ∷ [], r)
 
--- "brackets with 1 to 4 names in either quote and commas between"
+-- "1 to 4 names in either quote and commas between"
 unfoldable pub readList : Bytes → Option (Step × Bytes)
-readList s = do
-  s₁ ← after (text "[") s
-  (ns, r) ← readNames maxListed [] s₁
-  r₁ ← after (text "]") r
-  some (names ns, r₁)
+readList s = readNames maxListed [] s >>= λ t. some (names (t .0), t .1)
+
+-- what a step has between brackets
+unfoldable pub readSelector : Bytes → Option (Step × Bytes)
+readSelector s = readWildcard s <|> readEnvironment equals s <|> readEnvironment isIn s <|> readList s
 
 unfoldable pub readStep : Bytes → Option (Step × Bytes)
-readStep s = readWildcard s <|> readDot s <|> readEnvironment equals s <|> readEnvironment isIn s <|> readList s
+readStep s = readDotted s <|> inBrackets readSelector s
 
 -- ── A whole path ──
 -- k of what `one` reads at most, up to the text's end, behind those read
@@ -136,16 +144,12 @@ stepsOf s = do
   some p
 
 unfoldable pub readKeyStep : Bytes → Option (Bytes × Bytes)
-readKeyStep s = do
-  s₁ ← after (text "[") s
-  (k, r) ← readQuoted (text "'") s₁
-  r₁ ← after (text "]") r
-  some (k, r₁)
+readKeyStep s = inBrackets (readQuoted (text "'")) s
 
 -- a field's path, whole
 unfoldable pub keysOf : Bytes → Option Keys
 keysOf s = readPath readKeyStep s
 
 unfoldable pub Opened : Unit {0}
-unfolding Fields.Opened environmentText nameText stepText stepsText asSteps keysText readQuoted readEither readWildcard identifierByte startsWell readDot readEnvironment readNames readList readStep readAll readPath stepsOf readKeyStep keysOf
+unfolding Fields.Opened operatorText nameText stepText stepsText asSteps keysText readQuoted readEither inBrackets readWildcard identifierByte startsWell readIdentifier readDotted readEnvironment readNames readList readSelector readStep readAll readPath stepsOf readKeyStep keysOf
 Opened = tt

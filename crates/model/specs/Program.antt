@@ -2,14 +2,14 @@
 use Prim.Native.Nat.{ℕ}
 use mathlib.Core.Option.{Option, none, some}
 use mathlib.Core.List.{List, [], _∷_, _++_, map}
-use lib.ListN.{length, take, replicate}
+use lib.ListN.{take, replicate}
 use Rattle.model.specs.Base.{Bytes, text, joined, decimal}
 use Rattle.model.specs.Limits.{listRoom, maxCopy}
 use Rattle.model.specs.Refusals.{Result, refused, done}
 use Rattle.model.specs.Table.{Line, ended, broken, lines}
 use Rattle.model.specs.Opening.{State, Texts, Fault, opened}
 use Rattle.model.specs.Requests.{Request, login, get, push}
-use Rattle.model.specs.Serving.{tableLine, Answer, refusal, session, length-is, accepted, Act, line, Outcome}
+use Rattle.model.specs.Serving.{tableLine, Answer, refusal, session, length-is, accepted, line, Outcome}
 use Rattle.model.specs.Runs.{Event, events, requestIn, deliveryLine}
 use Rattle.model.specs.Runs
 

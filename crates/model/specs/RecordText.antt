@@ -9,7 +9,7 @@ use Rattle.model.specs.Base.{Bytes, text, among, _==_, _>>=_, _>>_, _<|>
 use Rattle.model.specs.Limits.{maxDepth}
 use Rattle.model.specs.Names.{nameByte, isKey}
 use Rattle.model.specs.Values.{Value, readValue}
-use Rattle.model.specs.Fields.{Keys, Field, Fields, store}
+use Rattle.model.specs.Fields.{Keys, Fields, store}
 use Rattle.model.specs.Fields
 
 -- what a key holds: a value, or an object of members
@@ -62,7 +62,7 @@ readMembers inner (suc n) m s = do
 unfoldable pub asNode : Members × Bytes → Option (Node × Bytes)
 asNode t = some (object (t .0), t .1)
 
--- "An object may hold objects, six keys deep at most. Only the top object may be empty": an object that is not, d keys deep at most
+-- "An object may hold objects, six keys deep at most. Only the top object may be empty": an object with members, at most d keys deep
 unfoldable pub readObject : ℕ → Bytes → Option (Members × Bytes)
 readObject zero s = none
 readObject (suc d) s = do

@@ -1,6 +1,6 @@
 -- Document 01, "Request lines": "A line is first taken apart; one that cannot be is refused 11."
 use Prim.Native.Nat.{ℕ}
-use mathlib.Core.Option.{Option, none, some}
+use mathlib.Core.Option.{Option, some}
 use mathlib.Core.Bool.{_&&_}
 use lib.Dec.{leb}
 use lib.ListN.{length}

@@ -1,11 +1,10 @@
 -- Document 01, "Tables": what a user may read and write, and which paths conflict.
-use mathlib.Core.Option.{Option, none, some}
 use mathlib.Core.List.{List, [], _∷_, map}
 use mathlib.Core.Bool.{Bool, true, false, _&&_, _||_}
 use Rattle.model.specs.Base.{Bytes, any, keep, among, _==_}
 use Rattle.model.specs.Fields.{Keys}
-use Rattle.model.specs.Paths.{Environment, equals, isIn, Step, names, wildcard, environment, Steps}
-use Rattle.model.specs.Tables.{Binding, User, Access, READ, WRITE, Rule, everyRole}
+use Rattle.model.specs.Paths.{equals, isIn, Step, names, wildcard, environment, Steps}
+use Rattle.model.specs.Tables.{User, Access, READ, WRITE, Rule, everyRole}
 use Rattle.model.specs.Tables
 
 -- ── Matching ──
@@ -56,9 +55,9 @@ mayWrite rs u p = any (λ r. isFor u r && isWrite r && matches u (r .path) p) rs
 unfoldable pub overlap : Step → Step → Bool
 overlap (names a) (names b) = any (λ n. among n b) a
 overlap (names a) wildcard = true
-overlap (names a) (environment e n) = true
+overlap (names a) (environment o n) = true
 overlap wildcard t = true
-overlap (environment e n) t = true
+overlap (environment o n) t = true
 
 -- the first is shorter, "and each of its steps overlaps the other's step there"
 unfoldable pub isAbove : Steps → Steps → Bool

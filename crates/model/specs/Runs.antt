@@ -5,17 +5,17 @@ use mathlib.Core.List.{List, [], _∷_, _++_, map}
 use mathlib.Core.Bool.{Bool, true, false, not, _&&_}
 use lib.Dec.{eqb}
 use lib.ListN.{length, take}
-use Rattle.model.specs.Base.{Bytes, text, if_then_else_, any, keep, joined, range, between, decimal}
+use Rattle.model.specs.Base.{Bytes, text, if_then_else_, any, keep, joined, range, isSome, between, decimal}
 use Rattle.model.specs.Values.{Value, valueText}
 use Rattle.model.specs.Fields.{Keys, Fields, holds}
 use Rattle.model.specs.Paths.{keysText}
-use Rattle.model.specs.Tables.{Tables, userNamed}
+use Rattle.model.specs.Tables.{Tables, userAt, userNamed}
 use Rattle.model.specs.Opening.{State}
 use Rattle.model.specs.Requests.{Request, login, get, push, requestOf}
 use Rattle.model.specs.Serving.{indexIn, readsAt, roomFor, Answer, refusal, session, length-is, accepted, Act, line, save, Outcome, outcome}
 use Rattle.model.specs.Serving
 
--- ── A run: "an accepted opening .., and then a list of request lines and saves" ──
+-- ── "A run is one accepted opening, .. and then a list of request lines and saves" ──
 -- an act as it happened
 pub record Event : Type 0 where
   pub before : State
@@ -37,11 +37,15 @@ unfoldable pub indexOf : {A : Type 0} → Option (ℕ × A) → Option ℕ
 indexOf none = none
 indexOf (some t) = some (t .0)
 
+-- an index, if there is a user
+unfoldable pub ifUser : Tables → ℕ → Option ℕ
+ifUser t i = if isSome (userAt (t .users) i) then some i else none
+
 -- "LOGIN lines naming that user and GET or PUSH lines whose number divided by 65,536, rounded down, is that user's place"
 unfoldable pub owner : Tables → Request → Option ℕ
 owner t (login u k) = indexOf (userNamed u (t .users))
-owner t (get n) = some (indexIn n)
-owner t (push n p v) = some (indexIn n)
+owner t (get n) = ifUser t (indexIn n)
+owner t (push n p v) = ifUser t (indexIn n)
 
 unfoldable pub inSet : (ℕ → Bool) → Option ℕ → Bool
 inSet set none = false
@@ -158,5 +162,5 @@ unfoldable pub createdBy : ℕ → Event → Bool
 createdBy i e = inSet (only i) (ownerIn (e .before) (requestIn (e .act))) && creates e
 
 unfoldable pub Opened : Unit {0}
-unfolding Serving.Opened events end indexOf owner inSet only seen seenFields isAccepted othersPush itemsOf items sequence deliveryLine copies answers deliveries gotBy gotIn got createsBy createsIn requestIn creates ownerIn createdBy
+unfolding Serving.Opened events end indexOf ifUser owner inSet only seen seenFields isAccepted othersPush itemsOf items sequence deliveryLine copies answers deliveries gotBy gotIn got createsBy createsIn requestIn creates ownerIn createdBy
 Opened = tt

@@ -6,7 +6,7 @@ use mathlib.Core.Bool.{Bool, true, false, not, _&&_}
 use lib.Dec.{leb, ltb, eqb}
 use lib.ListN.{length, drop, set, getD}
 use Rattle.model.specs.Base.{Bytes, text, if_then_else_, keep, joined, range, between, _==_}
-use Rattle.model.specs.Limits.{listRoom, maxLogins}
+use Rattle.model.specs.Limits.{perUser, listRoom, maxLogins}
 use Rattle.model.specs.Values.{Value}
 use Rattle.model.specs.Fields.{Keys, Field, Fields, holds, store}
 use Rattle.model.specs.SavedText.{saved}
@@ -23,18 +23,18 @@ use Rattle.model.specs.Requests
 -- ── Sessions ──
 -- "65,536 times the user's place, plus that user's logins"
 unfoldable pub sessionNumber : ℕ → LoginState → ℕ
-sessionNumber i a = 65536 * i + a .logins
+sessionNumber i a = perUser * i + a .logins
 
 -- "number divided by 65,536, rounded down, is that user's place"
 unfoldable pub indexIn : ℕ → ℕ
-indexIn n = n / 65536
+indexIn n = n / perUser
 
 -- an open session has this number
 unfoldable pub isSession : ℕ → LoginState → ℕ → Bool
 isSession i a n = a .isOpen && eqb (sessionNumber i a) n
 
 unfoldable pub loginAt : State → ℕ → LoginState
-loginAt s i = getD (s .logins) i emptyLogin
+loginAt s i = getD (s .loginStates) i emptyLogin
 
 -- ── The copy ──
 unfoldable pub accessText : Access → Bytes
@@ -66,7 +66,7 @@ copyOf rs u fs = joined (
 unfoldable pub readable : List Rule → User → Fields → Fields
 readable rs u fs = keep (λ f. mayRead rs u (f .path)) fs
 
--- ── Decisions: from the asker's index, user and login state, and from what the asker may know of the fields ──
+-- ── Decisions: from the asker's index, user and login state, the fields that the asker may read, and whether the named field is held ──
 pub data Change : Type 0 where
   enters : ℕ → LoginState → Change  -- the login state at an index becomes this one, with a session
   shows : Bytes → Change  -- a text goes into the buffer
@@ -130,9 +130,9 @@ decideSave s room = decideShow (saved (s .fields)) room
 
 -- ── What a decision changes, whom it reaches, and what is answered ──
 unfoldable pub apply : Change → State → State
-apply (enters i a) s = record { tables = s .tables; logins = set (s .logins) i a; fields = s .fields }
+apply (enters i a) s = record { tables = s .tables; loginStates = set (s .loginStates) i a; fields = s .fields }
 apply (shows c) s = s
-apply (stores i a f) s = record { tables = s .tables; logins = set (s .logins) i a; fields = store f (s .fields) }
+apply (stores i a f) s = record { tables = s .tables; loginStates = set (s .loginStates) i a; fields = store f (s .fields) }
 
 unfoldable pub readsBy : List Rule → Option User → Keys → Bool
 readsBy rs none p = false

@@ -9,7 +9,7 @@ use Rattle.model.specs.Base.{Bytes, text, if_then_else_, any, firstFrom,
 use Rattle.model.specs.Limits.{maxUsers, maxQuota, maxBindings, maxRules}
 use Rattle.model.specs.Names.{isName, isKey, isPlain}
 use Rattle.model.specs.Paths.{Steps, stepsOf}
-use Rattle.model.specs.Refusals.{Result, done, _>>=_, _>>_, refuse_if_, _or_}
+use Rattle.model.specs.Refusals.{done, _>>=_, _>>_, refuse_if_, _or_}
 use Rattle.model.specs.Table.{Table}
 use Rattle.model.specs.Paths
 use Rattle.model.specs.Table as T

@@ -1,13 +1,13 @@
 -- Document 01, "Record, names and paths": the values that a field may have, read and spelled.
 use Prim.Native.Nat.{ℕ, suc, _-_}
-use mathlib.Core.Option.{Option, none, some}
-use mathlib.Core.List.{List, [], _++_}
+use mathlib.Core.Option.{Option, some}
+use mathlib.Core.List.{[], _++_}
 use mathlib.Core.Bool.{Bool, true, false, not, _&&_, _||_}
 use lib.Dec.{leb, eqb}
 use lib.ListN.{length}
 use lib.IntN.{ℤ, pos, negsuc}
 use Rattle.model.specs.Base.{Bytes, text, if_then_else_, _==_, _>>=_, _>>_, _<|>_, check, after, span, within, isDigit, isDecimal, worth, decimal}
-use Rattle.model.specs.Limits.{maxString}
+use Rattle.model.specs.Limits.{maxString, maxPositive, maxNegative}
 use Rattle.model.specs.Names
 
 -- "`true`, `false`, a string .., or a whole number"
@@ -37,7 +37,7 @@ readString s = do
 unfoldable pub readPos : Bytes → Option (Value × Bytes)
 readPos s = do
   let (d, r) = span isDigit s
-  check (isDecimal d && leb (worth 0 d) 2147483647)
+  check (isDecimal d && leb (worth 0 d) maxPositive)
   some (whole (pos (worth 0 d)), r)
 
 -- a number below 0: "`-0`" is "not in this grammar"
@@ -45,7 +45,7 @@ unfoldable pub readNeg : Bytes → Option (Value × Bytes)
 readNeg s = do
   s₁ ← after (text "-") s
   let (d, r) = span isDigit s₁
-  check (isDecimal d && within 1 2147483648 (worth 0 d))
+  check (isDecimal d && within 1 maxNegative (worth 0 d))
   some (whole (negsuc (worth 0 d - 1)), r)
 
 unfoldable pub readValue : Bytes → Option (Value × Bytes)

@@ -1,0 +1,291 @@
+-- The claims of specs/Claims, proved: each is one line here, or stands where its argument does (Changes, Spelling).
+use Prim.Native.Nat.{ℕ, zero, suc, _+_, _≤_}
+use mathlib.Core.Path.{_≡_, refl, sym, ap, ap₂, _∙_}
+use mathlib.Core.Option.{some}
+use mathlib.Core.List.{List, [], _∷_, map}
+use mathlib.Core.Bool.{Bool, true, false, _||_, and-false}
+use lib.Dec.{ltb, eqb}
+use lib.ListN.{length, getD, replicate}
+use native.Mathlib.Omega.{arith}
+use native.Mathlib.Nat.{zero-add}
+use borrow.Author.Tests.{eqb-true, eq-eqb, le-ltb}
+use Rattle.model.specs.Base.{Bytes, keep, sum, range, _==_}
+use Rattle.model.specs.Limits.{maxFields, maxUsers, maxText}
+use Rattle.model.specs.Fields.{Keys, Field, Fields, orderPath, byOrder, valueAt, put, store}
+use Rattle.model.specs.RecordText.{Members, treeOf, count, storeMembers}
+use Rattle.model.specs.SavedText.{saved}
+use Rattle.model.specs.Tables.{User, Access, Rule, Tables, userAt}
+use Rattle.model.specs.Rights.{mayRead}
+use Rattle.model.specs.Opening.{LoginState, State, emptyLogin, emptyLogins, Texts, openTables}
+use Rattle.model.specs.Requests.{Request, login, get, push}
+use Rattle.model.specs.Serving.{loginAt, readable, readsBy, readsAt, Change, enters, shows, stores, apply, Act}
+use Rattle.model.specs.Runs.{end, only, seen, seenFields}
+use Rattle.model.specs.Claims
+use Rattle.model.specs.Claims.{Reached, spelled, SameTables, TwoRuns, isSorted, begins, noneBegins, withRecord}
+use Rattle.model.proofs.Lists.{by-cases, never, none-some, All, all-every, all-getD, all-replicate, all-keep, all-imp, all-range, any-range, false-any, elem-below, keep-agree, map-agree, length-keep-le}
+use Rattle.model.proofs.Order.{path-orders, by-three, after-before, Before, Sorted, behind-trans, value-less, value-same, value-more, value-behind}
+use Rattle.model.proofs.Valid.{Valid}
+use Rattle.model.proofs.Reading.{some-same}
+use Rattle.model.proofs.Spelling.{one-spelling, value-length}
+use Rattle.model.proofs.Diverge.{diverge, diverge-flip, Diverging}
+use Rattle.model.proofs.TablesRead.{ValidRule, ValidTables, opened-inv, opened-again, record-inv, record-again}
+use Rattle.model.proofs.TreeValid.{stored-count}
+use Rattle.model.proofs.SavedTree.{saved-reads}
+use Rattle.model.proofs.SavedLength.{saved-length, saved-length-some}
+use Rattle.model.proofs.CopyLength.{copy-length}
+use Rattle.model.proofs.Decisions.{Decided, decided}
+use Rattle.model.proofs.Invariant.{Within, totalCreated, within-sum, within-at, Running, store-is-put, next-state, at-end}
+use Rattle.model.proofs.Changes.{push-changes}
+use Rattle.model.proofs.Growth.{fields-grow, counts-grow}
+use Rattle.model.proofs.TwoRuns.{view, same-view, replay, one-run}
+use Rattle.model.proofs.Notified.{told-ascends}
+use Rattle.model.proofs.Sound.{Ran, ran-act, ran-opened}
+
+-- ── Login states at the opening, and tables at the end ──
+start-empty : (s : State) (i : ℕ) → s .loginStates ≡ emptyLogins → loginAt s i .created ≡ 0
+unfolding loginAt emptyLogins emptyLogin
+start-empty s i e = rw e (all-getD (λ a. a .created ≡ 0) (replicate maxUsers emptyLogin) i emptyLogin refl (all-replicate (λ a. a .created ≡ 0) maxUsers emptyLogin refl))
+
+same-tables-act : (s : State) (c : Change) → apply c s .tables ≡ s .tables
+unfolding apply
+same-tables-act s (enters i a) = refl
+same-tables-act s (shows c) = refl
+same-tables-act s (stores i a f) = refl
+
+same-tables-end : (s : State) (acts : List Act) → end s acts .tables ≡ s .tables
+same-tables-end s acts = at-end (λ x. x .tables ≡ s .tables) (λ x a h. next-state (λ y. y .tables ≡ s .tables) x h (λ t q room c k d. same-tables-act x c ∙ h) a) s acts refl
+
+-- ── Every state that a run reaches has what runs have ──
+pub ran : (t : Texts) (s : State) (r : Reached t s) → Ran (length (r .start .fields)) s
+ran t s r = rw (r .isEnd) at (at-end (Ran (length (r .start .fields))) (ran-act (length (r .start .fields))) (r .start) (r .acts) (ran-opened t (r .start) (r .isOpened)))
+
+few-fields : (loaded : ℕ) (s : State) → Running loaded s → length (s .fields) ≤ maxFields
+few-fields loaded s r = omega (arith, r .grown, r .fits, within-sum (s .tables .users) (s .loginStates) (r .within))
+
+-- ── Condition 3 ──
+same-rule : (r q : Rule) → ValidRule r → ValidRule q → spelled r ≡ spelled q → r ≡ q
+unfolding spelled
+same-rule r q v w h =
+    let e : r .role ≡ q .role = ap (λ (t : Bytes × Access × Bytes). t .0) h in
+    let f : r .access ≡ q .access = ap (λ (t : Bytes × Access × Bytes). t .1) h in
+    let g : r .path ≡ q .path = one-spelling (v .read .0) (w .read .0) (r .path) (q .path) (v .read .1) (w .read .1) (ap (λ (t : Bytes × Access × Bytes). t .2) h) in
+    λ i. record { role = e i; access = f i; path = g i }
+
+same-rules : (rs qs : List Rule) → All ValidRule rs → All ValidRule qs → map spelled rs ≡ map spelled qs → rs ≡ qs
+same-rules [] [] v w h = refl
+same-rules [] (q ∷ qs) v w h = let z : _≡_ {A = ℕ} 0 1 = cc in absurd (omega arith)
+same-rules (r ∷ rs) [] v w h = let z : _≡_ {A = ℕ} 0 1 = cc in absurd (omega arith)
+same-rules (r ∷ rs) (q ∷ qs) v w h =
+    let e : spelled r ≡ spelled q = cc in
+    let f : map spelled rs ≡ map spelled qs = cc in
+    ap₂ _∷_ (same-rule r q (v .0) (w .0) e) (same-rules rs qs (v .1) (w .1) f)
+
+-- tables with the same values are the same
+same-tables : (t₁ t₂ : Tables) → ValidTables t₁ → ValidTables t₂ → SameTables t₁ t₂ → t₁ ≡ t₂
+same-tables t₁ t₂ v w h =
+    let e = same-rules (t₁ .policy) (t₂ .policy) (v .policy .each) (w .policy .each) (h .samePolicy) in
+    λ i. record { users = h .sameUsers i; policy = e i }
+
+module _ (r : TwoRuns) where
+  tables-equal : r .start₁ .tables ≡ r .start₂ .tables
+  tables-equal = same-tables _ _ (ran-opened _ _ (r .opened₁) .sound .tables) (ran-opened _ _ (r .opened₂) .sound .tables) (r .sameTables)
+
+  views-equal : (set : ℕ → Bool) → seenFields set (r .start₁) ≡ seenFields set (r .start₂) → view set (r .start₁) ≡ view set (r .start₂)
+  views-equal set h = same-view set _ _ tables-equal (opened-inv _ _ (r .opened₁) .logins ∙ sym (opened-inv _ _ (r .opened₂) .logins)) h
+
+pub set-cannot-tell : Claims.SetCannotTell
+set-cannot-tell r set h k =
+    one-run set _ (r .start₁) (r .acts₁) (ran-opened _ _ (r .opened₁) .running)
+    ∙ ap₂ (replay set) (views-equal r set h) k
+    ∙ sym (one-run set _ (r .start₂) (r .acts₂) (ran-opened _ _ (r .opened₂) .running))
+
+-- what the set of one user sees is what that user may read
+seen-only : (t : Tables) (i : ℕ) (u : User) (p : Keys) → userAt (t .users) i ≡ some u → seen (only i) t p ≡ mayRead (t .policy) u p
+unfolding seen only readsAt readsBy userAt
+seen-only t i u p e = by-cases (mayRead (t .policy) u p)
+    (λ h. any-range _ 0 (length (t .users)) i (omega arith) (omega (arith, elem-below (t .users) i u e)) (rw (eq-eqb i i refl, e) h) ∙ sym h)
+    (λ h. false-any _ _ (all-range _ 0 (length (t .users)) (λ j k l. by-cases (eqb j i)
+    (λ x. rw (eqb-true j i x, e, h) (and-false (eqb i i)))
+    (λ x. rw x)))
+    ∙ sym h)
+
+seen-readable : (s : State) (i : ℕ) (u : User) → userAt (s .tables .users) i ≡ some u → seenFields (only i) s ≡ readable (s .tables .policy) u (s .fields)
+unfolding seenFields readable
+seen-readable s i u e = keep-agree _ _ (s .fields) (all-every _ (λ f. seen-only (s .tables) i u (f .path) e) (s .fields))
+
+pub user-cannot-tell : Claims.UserCannotTell
+user-cannot-tell r i u e h k =
+    let f : userAt (r .start₂ .tables .users) i ≡ some u = rw (tables-equal r) at e in
+    set-cannot-tell r (only i) (seen-readable (r .start₁) i u e ∙ h ∙ sym (seen-readable (r .start₂) i u f)) k
+
+-- ── The fields held ──
+sorted-is : (gs : Fields) → Sorted gs → isSorted gs ≡ true
+unfolding isSorted byOrder
+sorted-is [] s = refl
+sorted-is (f ∷ []) s = refl
+sorted-is (f ∷ g ∷ gs) s = rw (s .0 .0) (sorted-is (g ∷ gs) (s .1))
+
+diverge-begins : (p q : Keys) → diverge p q ≡ true → begins p q ≡ false
+unfolding diverge begins
+diverge-begins [] q h = never (sym h)
+diverge-begins (k ∷ p) [] h = refl
+diverge-begins (k ∷ p) (l ∷ q) h = by-cases (k == l) (λ e. rw e (diverge-begins p q (rw e at h))) (λ e. rw e)
+
+neither : (p q : Keys) → diverge p q ≡ true → (begins p q || begins q p) ≡ false
+neither p q e = rw (diverge-begins p q e, diverge-begins q p (diverge-flip q p ∙ e))
+
+apart-is : (gs : Fields) → Diverging gs → noneBegins gs ≡ true
+unfolding noneBegins
+apart-is [] d = refl
+apart-is (f ∷ gs) d = rw (false-any _ gs (all-imp (λ g. diverge (f .path) (g .path) ≡ true) _ (λ (g : Field) e. neither (f .path) (g .path) e) gs (d .0)), apart-is gs (d .1))
+
+pub fields-kept : Claims.FieldsKept
+fields-kept t s r =
+    let q = ran t s r in
+    (sorted-is (s .fields) (q .running .sorted), apart-is (s .fields) (q .sound .apart), few-fields _ s (q .running))
+
+pub nothing-falls-off : Claims.NothingFallsOff
+nothing-falls-off t s r q room i a f h = by-request q (decided s q room _ h)
+  where
+    by-request : (q : Request) → Decided s q (stores i a f) → store f (s .fields) ≡ put f (s .fields)
+    by-request (login n k) d = absurd d
+    by-request (get n) d = absurd d
+    by-request (push n p v) d = store-is-put _ s (ran t s r .running) n p v i a f d
+
+pub loads-all : Claims.LoadsAll
+loads-all t s m h k =
+    let f = record-inv (s .tables) (t .recordText) (s .fields) (opened-inv t s h .fields) in
+    let e : f .tree ≡ m = some-same (sym (f .read) ∙ k) in
+    ap length (sym (f .stored)) ∙ stored-count (f .tree) (f .once) (omega (arith, f .fits)) ∙ ap count e
+
+-- ── Saving and opening again ──
+-- a saved record is within the limit of a text
+saved-short : (s : State) (loaded : ℕ) → Ran loaded s → ltb maxText (length (saved (s .fields))) ≡ false
+saved-short s loaded r = le-ltb maxText (length (saved (s .fields))) (omega (arith, saved-length value-length (s .fields) (r .sound .valid), few-fields loaded s (r .running)))
+
+pub opens-again : Claims.OpensAgain
+unfolding withRecord openTables
+opens-again t t₂ s s₂ r h same room =
+    let q = ran t s r in
+    let o = opened-inv t₂ s₂ h in
+    let (m, read, once, many, stored) = saved-reads (s .fields) (q .running .sorted) (q .sound .valid) (q .sound .apart) (few-fields _ s (q .running)) in
+    let e : s₂ .tables ≡ s .tables = sym (same-tables _ _ (q .sound .tables) (ran-opened t₂ s₂ h .sound .tables) same) in
+    opened-again (record { usersText = t₂ .usersText; environmentsText = t₂ .environmentsText; policyText = t₂ .policyText; recordText = saved (s .fields) }) _ (record {
+      users-short = o .users-short;
+      environments-short = o .environments-short;
+      policy-short = o .policy-short;
+      record-short = saved-short s _ q;
+      tables = rw e at (o .tables);
+      fields = record-again (s .tables) (saved (s .fields)) (s .fields) (record {
+        tree = m;
+        read = read;
+        once = once;
+        fits = rw many room;
+        stored = stored;
+        apart = q .sound .clear;
+      });
+      logins = refl;
+    })
+
+-- sorted fields are told by the values that they hold
+same-head : (x y : Field) (xs ys : Fields) → ((p : Keys) → valueAt p (x ∷ xs) ≡ valueAt p (y ∷ ys)) → Before (x .path) (y .path) → ⊥
+same-head x y xs ys h e = none-some (sym (value-less (x .path) y ys e) ∙ sym (h (x .path)) ∙ value-same (x .path) x xs (path-orders .self _))
+
+same-fields : (xs ys : Fields) → Sorted xs → Sorted ys → ((p : Keys) → valueAt p xs ≡ valueAt p ys) → xs ≡ ys
+same-fields [] [] s t h = refl
+same-fields [] (y ∷ ys) s t h = none-some (sym (value-behind (y .path) [] tt) ∙ h (y .path) ∙ value-same (y .path) y ys (path-orders .self _))
+same-fields (x ∷ xs) [] s t h = none-some (sym (value-behind (x .path) [] tt) ∙ sym (h (x .path)) ∙ value-same (x .path) x xs (path-orders .self _))
+same-fields (x ∷ xs) (y ∷ ys) s t h = by-three (orderPath (x .path) (y .path))
+    (λ e. absurd (same-head x y xs ys h e))
+    (λ e.
+    let p : x .path ≡ y .path = path-orders .same _ _ e in
+    let v : x .value ≡ y .value = some-same (sym (value-same (x .path) x xs (path-orders .self _)) ∙ h (x .path) ∙ value-same (x .path) y ys e) in
+    ap₂ _∷_ (λ i. record { path = p i; value = v i }) (same-fields xs ys (s .1) (t .1) (tails p)))
+    (λ e. absurd (same-head y x ys xs (λ p. sym (h p)) (after-before _ _ e)))
+  where
+    tails : x .path ≡ y .path → (p : Keys) → valueAt p xs ≡ valueAt p ys
+    tails e p = by-three (orderPath p (x .path))
+        (λ k. value-behind p xs (behind-trans _ _ xs k (s .0)) ∙ sym (value-behind p ys (behind-trans _ _ ys (rw e at k) (t .0))))
+        (λ k. let q : p ≡ x .path = path-orders .same _ _ k in
+        value-behind p xs (rw q (s .0)) ∙ sym (value-behind p ys (rw (q ∙ e) (t .0))))
+        (λ k. sym (value-more p x xs k) ∙ h p ∙ value-more p y ys (rw e at k))
+
+pub one-saved-text : Claims.OneSavedText
+one-saved-text t₁ t₂ s₁ s₂ r₁ r₂ h = ap saved (same-fields _ _ (ran t₁ s₁ r₁ .running .sorted) (ran t₂ s₂ r₂ .running .sorted) h)
+
+pub one-record : Claims.OneRecord
+one-record t₁ t₂ s₁ s₂ r₁ r₂ h =
+    let q₁ = ran t₁ s₁ r₁ in
+    let q₂ = ran t₂ s₂ r₂ in
+    let (m₁, read₁, once₁, many₁, stored₁) = saved-reads (s₁ .fields) (q₁ .running .sorted) (q₁ .sound .valid) (q₁ .sound .apart) (few-fields _ s₁ (q₁ .running)) in
+    let (m₂, read₂, once₂, many₂, stored₂) = saved-reads (s₂ .fields) (q₂ .running .sorted) (q₂ .sound .valid) (q₂ .sound .apart) (few-fields _ s₂ (q₂ .running)) in
+    let e : m₁ ≡ m₂ = some-same (sym read₁ ∙ ap treeOf h ∙ read₂) in
+    sym stored₁ ∙ ap (λ (m : Members). storeMembers [] m []) e ∙ stored₂
+
+-- ── Growth ──
+pub grows-by-pushes : Claims.GrowsByPushes
+grows-by-pushes t s acts h = fields-grow _ s acts (ran-opened t s h .running)
+
+pub counts-own-pushes : Claims.CountsOwnPushes
+counts-own-pushes t s acts h i = counts-grow _ s acts i (ran-opened t s h .running) ∙ rw (none-created i) (zero-add _)
+  where
+    none-created : (i : ℕ) → loginAt s i .created ≡ 0
+    none-created i = start-empty s i (opened-inv t s h .logins)
+
+pub grows-by-counts : Claims.GrowsByCounts
+grows-by-counts t s acts h = at-end (Ran (length (s .fields))) (ran-act (length (s .fields))) s acts (ran-opened t s h) .running .grown
+
+-- the counts of the users, one by one, are all that was created
+range-up : {A : Type 0} (f : ℕ → A) (i n : ℕ) → map f (range (suc i) n) ≡ map (λ j. f (suc j)) (range i n)
+unfolding range
+range-up f i zero = refl
+range-up f i (suc n) = ap (f (suc i) ∷_) (range-up f (suc i) n)
+
+none-created : (l : List LoginState) → Within [] l → totalCreated l ≡ 0
+unfolding sum
+none-created [] w = refl
+none-created (a ∷ l) w = omega (arith, w .0, none-created l (w .1))
+
+created-in : (us : List User) (l : List LoginState) → Within us l → length us ≤ length l →
+    totalCreated l ≡ sum (map (λ i. getD l i emptyLogin .created) (range 0 (length us)))
+unfolding sum range
+created-in [] l w h = none-created l w
+created-in (u ∷ us) [] w h = absurd (omega arith)
+created-in (u ∷ us) (a ∷ l) w h =
+    ap (λ (n : ℕ). a .created + n) (created-in us l (w .1) (omega arith) ∙ ap sum (sym (range-up (λ i. getD (a ∷ l) i emptyLogin .created) 0 (length us))))
+
+pub grows-by-users : Claims.GrowsByUsers
+unfolding loginAt
+grows-by-users t s acts h =
+    let e = end s acts in
+    let r = at-end (Ran (length (s .fields))) (ran-act (length (s .fields))) s acts (ran-opened t s h) .running in
+    r .grown
+    ∙ ap (λ (n : ℕ). length (s .fields) + n) (
+    created-in (e .tables .users) (e .loginStates) (r .within) (omega (arith, r .users, r .places))
+    ∙ ap (λ (n : ℕ). sum (map (λ i. getD (e .loginStates) i emptyLogin .created) (range 0 n))) (ap length (ap (λ (x : Tables). x .users) (same-tables-end s acts)))
+    ∙ ap sum (map-agree _ _ (range 0 (length (s .tables .users))) (all-every _ (λ i. counts-own-pushes t s acts h i) (range 0 (length (s .tables .users))))))
+
+pub within-quota : Claims.WithinQuota
+unfolding userAt loginAt
+within-quota t s r i u e = within-at (s .tables .users) (s .loginStates) i u e (ran t s r .running .within)
+
+-- ── Lengths ──
+readable-short : (rs : List Rule) (u : User) (gs : Fields) → All Valid gs → length gs ≤ maxFields → length (saved (readable rs u gs)) ≤ 41216
+unfolding readable
+readable-short rs u gs v h = short (keep (λ f. mayRead rs u (f .path)) gs) (all-keep _ _ gs v) (omega (arith, h, length-keep-le (λ (f : Field). mayRead rs u (f .path)) gs))
+  where
+    short : (gs : Fields) → All Valid gs → length gs ≤ maxFields → length (saved gs) ≤ 41216
+    short [] v h = omega (arith, saved-length value-length [] v)
+    short (g ∷ gs) v h = omega (arith, saved-length-some value-length g gs v)
+
+pub copy-bound : Claims.CopyBound
+copy-bound t s r i u e =
+    let q = ran t s r in
+    copy-length (s .tables) i u (readable (s .tables .policy) u (s .fields)) (q .sound .tables) e (readable-short (s .tables .policy) u (s .fields) (q .sound .valid) (few-fields _ s (q .running)))
+
+pub list-ascends : Claims.ListAscends
+list-ascends t s r x b l = told-ascends _ s (ran t s r .running) x b l
+
+-- ── Changes ──
+pub push-changes-one : Claims.PushChangesOne
+push-changes-one t s r x b l n p v e h = push-changes _ s (ran t s r .running) x b l n p v e h
