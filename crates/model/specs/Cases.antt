@@ -7,7 +7,7 @@ use mathlib.Core.Bool.{Bool, true, false, _&&_}
 use lib.Dec.{eqb}
 use lib.ListN.{replicate}
 use lib.IntN.{pos}
-use Rattle.model.specs.Base.{Bytes, text, all}
+use Rattle.model.specs.Base.{Bytes, text, all, _==_}
 use Rattle.model.specs.Limits.{listRoom}
 use Rattle.model.specs.Values.{whole}
 use Rattle.model.specs.Fields.{orderKey, byOrder}
@@ -111,23 +111,12 @@ data Case : Type 0 where
   -- with these lines below the policy's head, the opening is refused by this number in this line
   refuses : List String → ℕ → ℕ → Case
 
-sameAnswer : Answer → Answer → Bool
-sameAnswer (refusal m) (refusal n) = eqb m n
-sameAnswer (refusal m) (session n) = false
-sameAnswer (refusal m) (length-is n) = false
-sameAnswer (refusal m) accepted = false
-sameAnswer (session m) (refusal n) = false
-sameAnswer (session m) (session n) = eqb m n
-sameAnswer (session m) (length-is n) = false
-sameAnswer (session m) accepted = false
-sameAnswer (length-is m) (refusal n) = false
-sameAnswer (length-is m) (session n) = false
-sameAnswer (length-is m) (length-is n) = eqb m n
-sameAnswer (length-is m) accepted = false
-sameAnswer accepted (refusal n) = false
-sameAnswer accepted (session n) = false
-sameAnswer accepted (length-is n) = false
-sameAnswer accepted accepted = true
+-- an answer as numbers, to be compared
+numbers : Answer → List ℕ
+numbers (refusal e) = 0 ∷ e ∷ []
+numbers (session n) = 1 ∷ n ∷ []
+numbers (length-is n) = 2 ∷ n ∷ []
+numbers accepted = 3 ∷ []
 
 asked : ℕ → String → Act
 asked room s = line (text s) (replicate room 0) (replicate listRoom 0)
@@ -141,8 +130,8 @@ isFault n l (refused f) = eqb (f .number) n && eqb (f .inText) 3 && eqb (f .line
 isFault n l (done s) = false
 
 passes : Case → Bool
-unfolding sameAnswer asked clubState isFault rows clubTexts
-passes (replies earlier s room a) = sameAnswer (outcome (end clubState (map (asked room) earlier)) (asked room s) .answer) a
+unfolding numbers asked clubState isFault rows clubTexts
+passes (replies earlier s room a) = numbers (outcome (end clubState (map (asked room) earlier)) (asked room s) .answer) == numbers a
 passes (sorts a b) = byOrder (orderKey (text a) (text b)) true false false
 passes (refuses ls n l) = isFault n l (opened (record {
   usersText = clubTexts .usersText;

@@ -1,6 +1,6 @@
 -- Positions in a text: the rest at a position, where a run ends, and what a reader reads.
 use Prim.Native.Nat.{ℕ, _+_, _-_, _≤_, _<_}
-use mathlib.Core.Path.{_≡_, ap, _∙_}
+use mathlib.Core.Path.{_≡_, refl, ap, ap₂, _∙_}
 use mathlib.Core.Bool.{Bool, true, false, not}
 use mathlib.Core.Option.{Option, none, some}
 use mathlib.Core.List.{List, [], _∷_, _++_}
@@ -9,7 +9,7 @@ use native.Mathlib.Omega.{arith}
 use lib.ListN.{length, getD, take, drop, length-drop, take-append-drop, drop-of-length-le}
 use lib.Seq.{drop-cons, drop-drop}
 use Rattle.rows.specs.Rows.{upTo}
-use Rattle.rows.specs.Positions.{Reader, Reads, Takes, Answers, Ends, one, run, runEnd}
+use Rattle.rows.specs.Positions.{Reader, Reads, behind, placed, LeavesEnd, Takes, Answers, Ends, one, run, runEnd}
 use Rattle.rows.proofs.Rows.{upTo-prefix, length-upTo}
 
 module _ {ℓ} {A : Type ℓ} where
@@ -103,3 +103,41 @@ pub answers-as : {E A : Type 0} (f g : Reader E A) (s : List E) (at m : ℕ) →
     → f (drop at s) ≡ g (drop m s) → (o : Option (A × ℕ)) → Answers g s m o → Answers f s at o
 answers-as f g s at m later e none d = e ∙ d
 answers-as f g s at m later e (some p) d = (omega (arith, d .0), reads-as later (λ r x. e ∙ x) (d .1))
+
+-- ── Readers by positions ──
+position : {A : Type 0} (a b : A) (m n : ℕ) → _≡_ {A = Option (A × ℕ)} (some (a, m)) (some (b, n)) → (a ≡ b) × (m ≡ n)
+position {A} a b m n h =
+    let p : _≡_ {A = A × ℕ} (a, m) (b, n) = cc in
+    (ap (λ (t : A × ℕ). t .0) p, ap (λ (t : A × ℕ). t .1) p)
+
+module _ {E A : Type 0} (f : Reader E A) (s : List E) (at : ℕ) where
+  pub placed-reads : (a : A) (e : ℕ) → Reads f s at a e → placed f s at ≡ some (a, e)
+  unfolding placed behind
+  placed-reads a e r = let n : length s - length (drop e s) ≡ e = omega (arith, length-drop e s, r .to) in rw (r .is, n)
+
+  pub placed-none : f (drop at s) ≡ none → placed f s at ≡ none
+  unfolding placed behind
+  placed-none h = rw h
+
+  pub none-placed : placed f s at ≡ none → f (drop at s) ≡ none
+  unfolding placed behind
+  none-placed h = go (f (drop at s)) refl h
+    where
+      go : (o : Option (A × List E)) → f (drop at s) ≡ o → behind s o ≡ none → f (drop at s) ≡ none
+      go none e h = e
+      go (some t) e h = let z : _≡_ {A = ℕ} 0 1 = unfold behind in cc in absurd (omega arith)
+
+  -- a position that is answered is where the reader ends
+  pub reads-placed : LeavesEnd f → at ≤ length s → (a : A) (e : ℕ) → placed f s at ≡ some (a, e) → Reads f s at a e
+  unfolding placed
+  reads-placed leaves h a e p = go (f (drop at s)) refl p
+    where
+      go : (o : Option (A × List E)) → f (drop at s) ≡ o → behind s o ≡ some (a, e) → Reads f s at a e
+      go none i p = let z : _≡_ {A = ℕ} 0 1 = unfold behind in cc in absurd (omega arith)
+      go (some t) i p =
+          let w = leaves (drop at s) t i in
+          let r : t .1 ≡ drop (at + w .0) s = w .2 ∙ drop-drop (w .0) at s in
+          let to : at + w .0 ≤ length s = omega (arith, w .1, length-drop at s) in
+          let same = position (t .0) a (length s - length (t .1)) e (unfold behind in p) in
+          let x : at + w .0 ≡ e = omega (arith, ap length r, length-drop (at + w .0) s, same .1) in
+          record { from = omega arith; to = omega arith; is = i ∙ ap₂ (λ (y : A) (z : List E). some (y, z)) (same .0) (r ∙ ap (λ (n : ℕ). drop n s) x) }

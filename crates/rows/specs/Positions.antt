@@ -1,5 +1,5 @@
 -- A position in a text stands for the text from there on.
-use Prim.Native.Nat.{ℕ, _+_, _≤_, _<_}
+use Prim.Native.Nat.{ℕ, _+_, _-_, _≤_, _<_}
 use mathlib.Core.Path.{_≡_}
 use mathlib.Core.Bool.{Bool, cond, not}
 use mathlib.Core.Option.{Option, none, some}
@@ -16,6 +16,19 @@ pub record Reads {E A : Type 0} (f : Reader E A) (s : List E) (at : ℕ) (a : A)
   pub from : at ≤ e
   pub to : e ≤ length s
   pub is : f (drop at s) ≡ some (a, drop e s)
+
+-- what was read, and the position behind it, where the rest of the text s is known
+unfoldable pub behind : {E A : Type 0} → List E → Option (A × List E) → Option (A × ℕ)
+behind s none = none
+behind s (some t) = some (t .0, length s - length (t .1))
+
+-- what the reader f reads from the position `at` on, and the position behind it
+unfoldable pub placed : {E A : Type 0} → Reader E A → List E → ℕ → Option (A × ℕ)
+placed f s at = behind s (f (drop at s))
+
+-- what a reader leaves is the end of the text that it was given
+abbrev pub LeavesEnd : {E A : Type 0} → Reader E A → Type 0
+LeavesEnd {E} {A} f = (s : List E) (t : A × List E) → f s ≡ some t → (n : ℕ) × (n ≤ length s) × (t .1 ≡ drop n s)
 
 module _ {E A : Type 0} (f : Reader E A) (s : List E) (at : ℕ) where
   -- the same, of a reader that takes at least one element
