@@ -5,7 +5,7 @@ use mathlib.Core.Bool.{true, false, and-false, or-comm}
 use Rattle.model.specs.Base.{Bytes, any, among, _==_}
 use Rattle.model.specs.Fields.{Keys}
 use Rattle.model.specs.Paths.{Step, names, wildcard, environment, Steps, asSteps}
-use Rattle.model.specs.Tables.{User}
+use Rattle.model.specs.Tables.{Binding}
 use Rattle.model.specs.Rights.{admits, matches, overlap, isAbove, conflict}
 use Rattle.model.proofs.Lists.{by-cases, never, and-both, or-right, or-left, bytes-eq, bytes-refl}
 
@@ -43,7 +43,7 @@ among-one : (n k : Bytes) → among n (k ∷ []) ≡ true → n ≡ k
 unfolding among any
 among-one n k h = by-cases (n == k) (λ e. bytes-eq n k e) (λ e. never (sym (rw e at h)))
 
-overlap-right : (u : User) (s t : Step) (k : Bytes) → admits u t k ≡ true → overlap s (names (k ∷ [])) ≡ true → overlap s t ≡ true
+overlap-right : (u : List Binding) (s t : Step) (k : Bytes) → admits u t k ≡ true → overlap s (names (k ∷ [])) ≡ true → overlap s t ≡ true
 unfolding overlap admits
 overlap-right u (names a) (names b) k h o = let w = shared a (k ∷ []) o in share a b (w .name) (w .inFirst) (ap (λ (x : Bytes). among x b) (among-one _ k (w .inSecond)) ∙ h)
 overlap-right u (names a) wildcard k h o = refl
@@ -51,7 +51,7 @@ overlap-right u (names a) (environment e n) k h o = refl
 overlap-right u wildcard t k h o = refl
 overlap-right u (environment e n) t k h o = refl
 
-overlap-left : (u : User) (s t : Step) (k : Bytes) → admits u t k ≡ true → overlap (names (k ∷ [])) s ≡ true → overlap t s ≡ true
+overlap-left : (u : List Binding) (s t : Step) (k : Bytes) → admits u t k ≡ true → overlap (names (k ∷ [])) s ≡ true → overlap t s ≡ true
 unfolding overlap admits
 overlap-left u (names a) (names b) k h o = let w = shared (k ∷ []) a o in share b a (w .name) (ap (λ (x : Bytes). among x b) (among-one _ k (w .inFirst)) ∙ h) (w .inSecond)
 overlap-left u (names a) wildcard k h o = refl
@@ -64,7 +64,7 @@ overlap-left u (environment e n) wildcard k h o = refl
 overlap-left u (environment e n) (environment f m) k h o = refl
 
 -- ── The same of whole paths ──
-above-right : (u : User) (q ts : Steps) (p : Keys) → matches u ts p ≡ true → isAbove q (asSteps p) ≡ true → isAbove q ts ≡ true
+above-right : (u : List Binding) (q ts : Steps) (p : Keys) → matches u ts p ≡ true → isAbove q (asSteps p) ≡ true → isAbove q ts ≡ true
 unfolding matches isAbove asSteps
 above-right u [] [] [] m h = h
 above-right u [] [] (k ∷ p) m h = never (sym m)
@@ -77,7 +77,7 @@ above-right u (s ∷ q) (t ∷ ts) (k ∷ p) m h =
     let o = and-both _ _ h in
     rw (overlap-right u s t k (w .0) (o .0)) (above-right u q ts p (w .1) (o .1))
 
-above-left : (u : User) (q ts : Steps) (p : Keys) → matches u ts p ≡ true → isAbove (asSteps p) q ≡ true → isAbove ts q ≡ true
+above-left : (u : List Binding) (q ts : Steps) (p : Keys) → matches u ts p ≡ true → isAbove (asSteps p) q ≡ true → isAbove ts q ≡ true
 unfolding matches isAbove asSteps
 above-left u q [] [] m h = h
 above-left u q [] (k ∷ p) m h = never (sym m)
@@ -89,7 +89,7 @@ above-left u (s ∷ q) (t ∷ ts) (k ∷ p) m h =
     rw (overlap-left u s t k (w .0) (o .0)) (above-left u q ts p (w .1) (o .1))
 
 -- what conflicts with a path conflicts with each policy path that matches it
-pub conflict-matched : (u : User) (ts q : Steps) (p : Keys) → matches u ts p ≡ true → conflict (asSteps p) q ≡ true → conflict ts q ≡ true
+pub conflict-matched : (u : List Binding) (ts q : Steps) (p : Keys) → matches u ts p ≡ true → conflict (asSteps p) q ≡ true → conflict ts q ≡ true
 unfolding conflict
 conflict-matched u ts q p m h = by-cases (isAbove (asSteps p) q)
     (λ e. or-left _ _ (above-left u q ts p m e))

@@ -9,7 +9,7 @@ use lib.Dec.{leb, eqb}
 use lib.ListN.{length, length-append}
 use native.Mathlib.Omega.{arith}
 use borrow.Author.Tests.{eqb-true, leb-true}
-use Rattle.model.specs.Base.{Bytes, text, all, _==_, _>>=_, _>>_, _<|>_, check, after, within, isDigit}
+use Rattle.model.specs.Base.{Bytes, text, all, _==_, _>>=_, _>>_, _<|>_, check, after, ifAfter, within, isDigit}
 use Rattle.model.specs.Limits.{maxDepth, maxKey}
 use Rattle.model.specs.Names.{nameByte, isNameOf, isKey}
 use Rattle.model.specs.Values.{Value, quoted, valueText, readValue}
@@ -78,11 +78,6 @@ skip-none : (s : Bytes) → Stops isBlank s → skip s ≡ s
 unfolding skip
 skip-none s h = ap (λ (p : Bytes × Bytes). p .1) (span-all isBlank [] s (unfold all in refl) h)
 
-or-none : {A : Type 0} (x : Option A) → x <|> none ≡ x
-unfolding _<|>_
-or-none none = refl
-or-none (some a) = refl
-
 leaf-none : (s : Bytes) → readLeaf (123 ∷ s) ≡ none
 unfolding Opened
 leaf-none s = refl
@@ -121,7 +116,7 @@ closes d [] v r h b = unfold ascend in refl
 closes zero (g ∷ gs) v r h b = absurd h
 closes (suc d) (g ∷ gs) v r h b =
     rw (ascend-last (g .key) (keys gs) r, closes d gs v (125 ∷ r) (h .1) (unfold isBlank in refl))
-    (unfold _>>=_ _<|>_ readMore token after text asNode in rw (skip-none r b))
+    (unfold _>>=_ ifAfter readMore token after text asNode in rw (skip-none r b))
 
 -- ── Opening ──
 -- of a node that holds a value at q: what stands before the value
@@ -175,9 +170,9 @@ module _ (k : Bytes) (q : Keys) (t : Bytes) where
     pub next-reads : (d : ℕ) (g : Frame) (gs : Frames) (v : Node) → Fits d (keys gs) → 0 < g .bound →
         resume (suc d) (g ∷ gs) (v, ascend (keys gs) ++ (44 ∷ (descend (k ∷ q) ++ t))) ≡ readNode d (start q ++ t) >>=
         behind d (record { before = member (g .before) (g .key) (around gs v); key = k; bound = g .bound - 1 }) >>= asNode
-    unfolding resume readMore token text after _>>=_
+    unfolding resume readMore ifAfter token text after _>>=_
     next-reads d g gs v f n =
-        rw (closes d gs v (44 ∷ (descend (k ∷ q) ++ t)) f (unfold isBlank in refl), descend-skip, or-none, member-reads d _ _ n)
+        rw (closes d gs v (44 ∷ (descend (k ∷ q) ++ t)) f (unfold isBlank in refl), descend-skip, member-reads d _ _ n)
 
 -- ── The whole text ──
 as-object : (x : Option (Members × Bytes)) (n : Node) (r : Bytes) → x >>= asNode ≡ some (n, r) →

@@ -9,7 +9,7 @@ use lib.ListN.{length, length-append}
 use native.Mathlib.Omega.{arith}
 use native.Mathlib.Nat.{pow-suc}
 use borrow.Author.Tests.{eq-eqb, ne-eqb, eqb-true, leb-true, le-leb, ltb-true, ltb-false, lt-ltb, le-ltb}
-use Rattle.model.specs.Base.{Bytes, all, _>>=_, _>>_, _<|>_, check, after, inFront, span, cut}
+use Rattle.model.specs.Base.{Bytes, all, _>>=_, _>>_, _<|>_, check, after, ifAfter, inFront, span, cut}
 use Rattle.model.specs.Base.{within, isDigit, worth, isDecimal, digits, decimal}
 use Rattle.model.proofs.Lists.{by-cases, never, and-both, none-some}
 
@@ -44,6 +44,12 @@ check-some true x a h k = k refl h
 check-some false x a h k = none-some h
 
 -- of several, the last one's case comes first
+pub after-cases : {A C : Type 0} (o : Option Bytes) (f : Bytes → Option A) (y : Option A) (a : A) → ifAfter o f y ≡ some a →
+    (o ≡ none → y ≡ some a → C) → ((r : Bytes) → o ≡ some r → f r ≡ some a → C) → C
+unfolding ifAfter
+after-cases none f y a h g k = g refl h
+after-cases (some r) f y a h g k = k r refl h
+
 pub either-some : {A C : Type 0} (o x : Option A) (a : A) → (o <|> x) ≡ some a → (x ≡ some a → C) → (o ≡ some a → C) → C
 unfolding _<|>_
 either-some none x a h f g = f h
@@ -144,11 +150,11 @@ digits-enough (suc k) (suc l) n h i = by-digits n
     (λ e. rw (digits-one k n e, digits-one l n e))
     (λ e. rw (digits-more k n e, digits-more l n e, digits-enough k l (n / 10) (omega arith) (omega arith)))
 
-decimal-one : (n : ℕ) → n < 10 → decimal n ≡ (48 + n) ∷ []
+pub decimal-one : (n : ℕ) → n < 10 → decimal n ≡ (48 + n) ∷ []
 unfolding decimal
 decimal-one n h = digits-one n n h
 
-decimal-more : (n : ℕ) → 10 ≤ n → decimal n ≡ decimal (n / 10) ++ (48 + n % 10) ∷ []
+pub decimal-more : (n : ℕ) → 10 ≤ n → decimal n ≡ decimal (n / 10) ++ (48 + n % 10) ∷ []
 unfolding decimal
 decimal-more n h = rw (digits-more n n h, digits-enough n (suc (n / 10)) (n / 10) (omega arith) (omega arith))
 

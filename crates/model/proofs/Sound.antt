@@ -141,14 +141,14 @@ module _ (t : Tables) (valid : ValidTables t) (u : User) (p : Keys) (writes : ma
   record Line (P : Rule → Type 0) : Type 0 where
     rule : Rule
     isWriting : isWrite rule ≡ true
-    isMatching : matches u (rule .path) p ≡ true
+    isMatching : matches (u .environment) (rule .path) p ≡ true
     has : P rule
 
   line : (P : Rule → Type 0) → All P (t .policy) → Line P
   unfolding mayWrite
   line P h =
       let (r, e, k) = any-true P _ (t .policy) h writes in
-      let w = and-three (isFor u r) (isWrite r) (matches u (r .path) p) e in
+      let w = and-three (isFor u r) (isWrite r) (matches (u .environment) (r .path) p) e in
       record { rule = r; isWriting = w .0; isMatching = w .1; has = k }
 
   pub written-clear : Clear t p
@@ -159,7 +159,7 @@ module _ (t : Tables) (valid : ValidTables t) (u : User) (p : Keys) (writes : ma
           let l = line (λ r. All (Apart r) (t .policy)) (writes-apart t valid) in
           let (r, c, apart) = any-true (Apart (l .rule)) _ (t .policy) (l .has) e in
           let w = and-both (isWrite r) (conflict (asSteps p) (r .path)) (unfold conflictsWith in c) in
-          never (sym (conflict-matched u (l .rule .path) (r .path) p (l .isMatching) (w .1)) ∙ apart (l .isWriting) (w .0))
+          never (sym (conflict-matched (u .environment) (l .rule .path) (r .path) p (l .isMatching) (w .1)) ∙ apart (l .isWriting) (w .0))
 
   writing-apart : (q : Keys) (r : Rule) → isWrite r ≡ true → conflictsWith (asSteps q) r ≡ false → conflict (asSteps q) (r .path) ≡ false
   unfolding conflictsWith
@@ -171,7 +171,7 @@ module _ (t : Tables) (valid : ValidTables t) (u : User) (p : Keys) (writes : ma
       meets : diverge p q ≡ false → ⊥
       meets e =
           let l = line (λ r. conflictsWith (asSteps q) r ≡ false) (any-false _ (t .policy) clear) in
-          let c = conflict-matched u (l .rule .path) (asSteps q) p (l .isMatching) (same-or-conflict p q e n) in
+          let c = conflict-matched (u .environment) (l .rule .path) (asSteps q) p (l .isMatching) (same-or-conflict p q e n) in
           never (sym c ∙ conflict-flip (l .rule .path) (asSteps q) ∙ writing-apart q (l .rule) (l .isWriting) (l .has))
 
 -- ── Each act keeps it ──

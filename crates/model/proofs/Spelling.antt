@@ -9,7 +9,7 @@ use lib.ListN.{length, length-append}
 use lib.IntN.{pos, negsuc}
 use native.Mathlib.Omega.{arith}
 use borrow.Author.Tests.{leb-true, le-leb}
-use Rattle.model.specs.Base.{Bytes, text, all, joined, between, _==_, _>>=_, _>>_, _<|>_, check, after, span}
+use Rattle.model.specs.Base.{Bytes, text, all, joined, between, _==_, _>>=_, _>>_, _<|>_, check, after, ifAfter, span}
 use Rattle.model.specs.Base.{within, isDigit, isDecimal, worth, decimal}
 use Rattle.model.specs.Limits.{maxName, maxKey, maxDepth, maxString, maxListed, maxPathText}
 use Rattle.model.specs.Names.{nameByte, isNameOf, isName, isKey, isLetter, plainByte, isPlain}
@@ -23,7 +23,7 @@ use Rattle.model.specs.Paths.{readAll, readPath, stepsOf, readKeyStep, k
 use Rattle.model.specs.Claims.{StepsReadBack, OneSpelling, KeysReadBack, ValueReadsBack, KeysAsWritten, ValueAsWritten}
 use Rattle.model.proofs.Lists.{never, and-both, both-and, none-some, bytes-eq, joined-append}
 use Rattle.model.proofs.Valid.{validValue, validKeys}
-use Rattle.model.proofs.Reading.{within-yes, within-bounds, all-snoc, some-same, bind-some, check-some, either-some}
+use Rattle.model.proofs.Reading.{within-yes, within-bounds, all-snoc, some-same, bind-some, check-some, either-some, after-cases}
 use Rattle.model.proofs.Reading.{Stops, span-all, span-passes, span-joins, after-other, after-some, after-span}
 use Rattle.model.proofs.Reading.{digit-bounds, decimal-digits, worth-decimal, decimal-length, decimal-is, decimal-worth}
 
@@ -302,7 +302,7 @@ names-give zero ns s t h g = none-some h
 names-give (suc k) ns s t h g = bind-some _ _ _ h λ n e i.
     let c = all-snoc isKey ns (n .0) g (either-gives s n e) in
     let l = length-append ns (n .0 ∷ []) in
-    either-some _ _ _ i (λ j. rw (← some-same j) (omega arith, omega arith, c)) λ j. bind-some _ _ _ j λ r u v.
+    after-cases _ _ _ _ i (λ o j. rw (← some-same j) (omega arith, omega arith, c)) λ r u v.
     let w = names-give k (ns ++ n .0 ∷ []) r t v c in
     (w .0, omega arith, w .2)
 
@@ -356,7 +356,7 @@ listed-more n m ns r = append-assoc (nameText n) _ r
 
 listed-reads : (k : ℕ) (ns : List Bytes) (n : Bytes) (t : List Bytes) (r : Bytes) → suc (length t) ≤ k → all isKey (n ∷ t) ≡ true →
     readNames k ns (listed (n ∷ t) ++ 0x5D ∷ r) ≡ some (ns ++ n ∷ t, 0x5D ∷ r)
-unfolding readNames readEither text after _>>=_ _<|>_ all
+unfolding readNames readEither text after ifAfter _>>=_ _<|>_ all
 listed-reads zero ns n t r l g = absurd (omega arith)
 listed-reads (suc k) ns n [] r l g = unfold listed between in rw (quoted-reads n (0x5D ∷ r) (and-both (isKey n) _ g .0))
 listed-reads (suc k) ns n (m ∷ t) r l g =

@@ -16,7 +16,7 @@ use Rattle.model.specs.Fields.{Keys, Field, Fields, orderPath, valueAt, 
 use Rattle.model.specs.RecordText.{skip, Node, leaf, object, Members, noMembers, member, readKey, readLeaf, readMore, readMembers, asNode, readObject, readEmpty, treeOf, keysIn, twiceIn, twice, countIn, count, storeNode, storeMembers}
 use Rattle.model.proofs.Lists.{never, or-neither, none-some, All, all-imp, all-append, all-take, true-all}
 use Rattle.model.proofs.Order.{path-orders, by-three, Sorted, sorted-put, sorted-take, all-put, value-less, holds-more, one, absent, length-put, store-fits}
-use Rattle.model.proofs.Reading.{some-same, bind-some, check-some, either-some}
+use Rattle.model.proofs.Reading.{some-same, bind-some, check-some, either-some, after-cases}
 use Rattle.model.proofs.Valid.{validValue, validKeys, Valid}
 use Rattle.model.proofs.Diverge.{pairs-take, diverge, diverge-self, diverge-longer, longer-diverge, siblings-diverge, DivergesFrom, Diverging, diverging-put}
 
@@ -196,9 +196,9 @@ members-read inner P f (suc n) m s t h e =
     bind-some _ _ t h₁ λ s₂ colon h₂.
     bind-some _ _ t h₂ λ v value h₃.
     let more : Keyed P (member m (k .0) (v .0)) = (e, (key-read s k key, f s₂ v value)) in
-    either-some _ _ t h₃
-    (λ c. bind-some _ _ t c λ s₄ brace h₄. subst (λ (t : Members × Bytes). Keyed P (t .0)) (some-same h₄) more)
-    (λ c. bind-some _ _ t c λ s₄ comma h₄. members-read inner P f n (member m (k .0) (v .0)) s₄ t h₄ more)
+    after-cases _ _ _ t h₃
+    (λ o c. bind-some _ _ t c λ s₄ brace h₄. subst (λ (t : Members × Bytes). Keyed P (t .0)) (some-same h₄) more)
+    (λ s₄ comma h₄. members-read inner P f n (member m (k .0) (v .0)) s₄ t h₄ more)
 
 empty-read : (d : ℕ) (s : Bytes) (t : Members × Bytes) → readEmpty s ≡ some t → Deep (suc d) (object (t .0))
 unfolding readEmpty

@@ -35,7 +35,7 @@ and-drop false b c h = h
 
 pub write-reads : (rs : List Rule) (u : User) (p : Keys) → mayWrite rs u p ≡ true → mayRead rs u p ≡ true
 unfolding mayWrite mayRead
-write-reads rs u p h = any-mono _ _ (λ r. and-drop (isFor u r) (isWrite r) (matches u (r .path) p)) rs h
+write-reads rs u p h = any-mono _ _ (λ r. and-drop (isFor u r) (isWrite r) (matches (u .environment) (r .path) p)) rs h
 
 -- ── Login states of which those outside the set are blanked ──
 pub masked : (ℕ → Bool) → ℕ → List LoginState → List LoginState

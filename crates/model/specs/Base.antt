@@ -101,6 +101,11 @@ after [] s = some s
 after (x ∷ w) [] = none
 after (x ∷ w) (y ∷ s) = let r = after w s in if eqb x y then r else none
 
+-- goes on with what stands behind a beginning, or else gives y
+unfoldable pub ifAfter : {A : Type 0} → Option Bytes → (Bytes → A) → A → A
+ifAfter none f y = y
+ifAfter (some r) f y = f r
+
 unfoldable pub inFront : ℕ → Bytes × Bytes → Bytes × Bytes
 inFront x p = (x ∷ p .0, p .1)
 
@@ -146,5 +151,5 @@ decimal n = digits (suc n) n
 
 -- every definition of this file at once, for a proof by computation
 unfoldable pub Opened : Unit {0}
-unfolding text any all keep joined sum range firstFrom isSome _==_ among between _>>=_ _>>_ _<|>_ check after inFront span cut within isDigit worth isDecimal number digits decimal
+unfolding text any all keep joined sum range firstFrom isSome _==_ among between _>>=_ _>>_ _<|>_ check after ifAfter inFront span cut within isDigit worth isDecimal number digits decimal
 Opened = tt

@@ -5,7 +5,7 @@ use mathlib.Core.List.{List, [], _∷_, _++_, map}
 use mathlib.Core.Bool.{Bool, false, not, _&&_, _||_}
 use lib.Dec.{leb, eqb}
 use lib.ListN.{length}
-use Rattle.model.specs.Base.{Bytes, text, joined, between, _>>=_, _>>_, _<|>_, check, after, span, isDigit}
+use Rattle.model.specs.Base.{Bytes, text, joined, between, _>>=_, _>>_, _<|>_, check, after, ifAfter, span, isDigit}
 use Rattle.model.specs.Limits.{maxDepth, maxListed, maxPathText}
 use Rattle.model.specs.Names.{isLetter, nameByte, isKey, plainByte, isPlain}
 use Rattle.model.specs.Fields.{Keys}
@@ -107,7 +107,7 @@ unfoldable pub readNames : ℕ → List Bytes → Bytes → Option (List Bytes �
 readNames zero ns s = none
 readNames (suc k) ns s = do
   (n, r) ← readEither s
-  (after (text ",") r >>= readNames k (ns ++ n ∷ [])) <|> some (ns ++ n ∷ [], r)
+  ifAfter (after (text ",") r) (readNames k (ns ++ n ∷ [])) (some (ns ++ n ∷ [], r))
 
 -- "1 to 4 names in either quote and commas between"
 unfoldable pub readList : Bytes → Option (Step × Bytes)

@@ -5,7 +5,7 @@ use mathlib.Core.List.{List, [], _∷_, _++_}
 use mathlib.Core.Bool.{Bool, false, _||_}
 use lib.Dec.{eqb}
 use lib.ListN.{length}
-use Rattle.model.specs.Base.{Bytes, text, among, _==_, _>>=_, _>>_, _<|>_, check, after, span}
+use Rattle.model.specs.Base.{Bytes, text, among, _==_, _>>=_, _>>_, _<|>_, check, after, ifAfter, span}
 use Rattle.model.specs.Limits.{maxDepth}
 use Rattle.model.specs.Names.{nameByte, isKey}
 use Rattle.model.specs.Values.{Value, readValue}
@@ -48,7 +48,7 @@ readLeaf s = readValue s >>= λ t. some (leaf (t .0), skip (t .1))
 
 -- behind a member: a comma and more members, or the closing brace
 unfoldable pub readMore : (Bytes → Option (Members × Bytes)) → Members → Bytes → Option (Members × Bytes)
-readMore more m s = (token (text ",") s >>= more) <|> (token (text "}") s >>= λ r. some (m, r))
+readMore more m s = ifAfter (token (text ",") s) more (token (text "}") s >>= λ r. some (m, r))
 
 -- one member or more behind those read, up to the closing brace: `inner` reads what a key holds, and the number bounds how many there are
 unfoldable pub readMembers : (Bytes → Option (Node × Bytes)) → ℕ → Members → Bytes → Option (Members × Bytes)

@@ -4,31 +4,31 @@ use mathlib.Core.Bool.{Bool, true, false, _&&_, _||_}
 use Rattle.model.specs.Base.{Bytes, any, keep, among, _==_}
 use Rattle.model.specs.Fields.{Keys}
 use Rattle.model.specs.Paths.{equals, isIn, Step, names, wildcard, environment, Steps}
-use Rattle.model.specs.Tables.{User, Access, READ, WRITE, Rule, everyRole}
+use Rattle.model.specs.Tables.{Binding, User, Access, READ, WRITE, Rule, everyRole}
 use Rattle.model.specs.Tables
 
 -- ── Matching ──
--- "Lines with one user and name form a list": the user's values under the name n
-unfoldable pub listed : User → Bytes → List Bytes
-listed u n = map (λ b. b .value) (keep (λ b. b .name == n) (u .environment))
+-- "Lines with one user and name form a list": of a user's environment lines, the values under the name n
+unfoldable pub listed : List Binding → Bytes → List Bytes
+listed bs n = map (λ b. b .value) (keep (λ b. b .name == n) bs)
 
 unfoldable pub firstIs : Bytes → List Bytes → Bool
 firstIs k [] = false
 firstIs k (v ∷ vs) = k == v
 
 -- "a list that contains it, any key, `=~n` where it equals the first listed value of n for that user, `in~n` where it is any of them"
-unfoldable pub admits : User → Step → Bytes → Bool
-admits u (names ns) k = among k ns
-admits u wildcard k = true
-admits u (environment equals n) k = firstIs k (listed u n)
-admits u (environment isIn n) k = among k (listed u n)
+unfoldable pub admits : List Binding → Step → Bytes → Bool
+admits bs (names ns) k = among k ns
+admits bs wildcard k = true
+admits bs (environment equals n) k = firstIs k (listed bs n)
+admits bs (environment isIn n) k = among k (listed bs n)
 
 -- "A policy path matches a field path when both have as many steps and each step admits its key"
-unfoldable pub matches : User → Steps → Keys → Bool
-matches u [] [] = true
-matches u [] (k ∷ ks) = false
-matches u (t ∷ ts) [] = false
-matches u (t ∷ ts) (k ∷ ks) = let r = matches u ts ks in admits u t k && r
+unfoldable pub matches : List Binding → Steps → Keys → Bool
+matches bs [] [] = true
+matches bs [] (k ∷ ks) = false
+matches bs (t ∷ ts) [] = false
+matches bs (t ∷ ts) (k ∷ ks) = let r = matches bs ts ks in admits bs t k && r
 
 -- ── Rights ──
 unfoldable pub isWriting : Access → Bool
@@ -44,11 +44,11 @@ isFor u r = r .role == u .role || r .role == everyRole
 
 -- "may read it if a line of either kind does"
 unfoldable pub mayRead : List Rule → User → Keys → Bool
-mayRead rs u p = any (λ r. isFor u r && matches u (r .path) p) rs
+mayRead rs u p = any (λ r. isFor u r && matches (u .environment) (r .path) p) rs
 
 -- "A user may write a path if a WRITE line of the role matches it"
 unfoldable pub mayWrite : List Rule → User → Keys → Bool
-mayWrite rs u p = any (λ r. isFor u r && isWrite r && matches u (r .path) p) rs
+mayWrite rs u p = any (λ r. isFor u r && isWrite r && matches (u .environment) (r .path) p) rs
 
 -- ── Conflict; document 01: "tangle" ──
 -- "Lists overlap if they share a name; any key and own steps overlap everything"

@@ -1,8 +1,9 @@
 -- Rows of a fixed size in a flat list and what they mean; elements put in, taken out and written over.
-use Prim.Native.Nat.{ℕ, zero, suc}
+use Prim.Native.Nat.{ℕ, zero, suc, _+_}
+use mathlib.Core.Path.{_≡_}
 use mathlib.Core.Bool.{Bool, cond}
 use mathlib.Core.List.{List, [], _∷_, _++_, map}
-use lib.ListN.{take, drop}
+use lib.ListN.{length, take, drop}
 use lib.Seq.{sets}
 
 module _ {ℓ} {A : Type ℓ} where
@@ -31,6 +32,10 @@ module _ {ℓ} {A : Type ℓ} where
   -- xs stored in the list l from the place i on: what falls outside is not stored
   unfoldable pub written : ℕ → List A → List A → List A
   written i xs l = sets l i xs
+
+  -- what every writer answers: where the text xs ends, and what the buffer o then holds
+  abbrev pub Wrote : ℕ → List A → List A → ℕ → List A → Type ℓ
+  Wrote at xs o e p = (e ≡ at + length xs) × (p ≡ written at xs o)
 
 -- what the first n rows of k elements mean: those before the first that is a stop, decoded
 unfoldable pub table {ℓ κ} : {A : Type ℓ} {B : Type κ} → (List A → Bool) → (List A → B) → ℕ → ℕ → List A → List B
