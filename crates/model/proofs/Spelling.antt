@@ -54,7 +54,7 @@ key-span k r h st = span-all nameByte k r (key-named k h .passes) st
 
 -- ── A value that was read ──
 -- the value is valid, and the text begins with its spelling
-abbrev Spells : Bytes → Value × Bytes → Type 0
+abbrev pub Spells : Bytes → Value × Bytes → Type 0
 Spells s t = (validValue (t .0) ≡ true) × (s ≡ valueText (t .0) ++ t .1)
 
 module _ (s : Bytes) (t : Value × Bytes) where
@@ -87,7 +87,7 @@ module _ (s : Bytes) (t : Value × Bytes) where
       let w = after-some _ s s₁ e ∙ ap (0x2D ∷_) (sym (span-joins isDigit s₁)) in
       rw (← some-same v) (le-leb (worth 0 a - 1) 2147483647 (omega arith), rw (n, decimal-worth a (d .0)) w)
 
-  value-spells : readValue s ≡ some t → Spells s t
+  pub value-spells : readValue s ≡ some t → Spells s t
   unfolding readValue
   value-spells h =
       either-some _ _ _ h neg-spells λ i. either-some _ _ _ i pos-spells λ j. either-some _ _ _ j string-spells truth-spells
@@ -230,7 +230,7 @@ quoted-reads n r h = rw (append-assoc n (0x27 ∷ []) r, key-span n (0x27 ∷ r)
 
 -- ── A field's path ──
 -- a key's spelling: a step of one name
-keyText : Bytes → Bytes
+unfoldable pub keyText : Bytes → Bytes
 keyText k = stepText (names (k ∷ []))
 
 key-gives : (s : Bytes) (t : Bytes × Bytes) → readKeyStep s ≡ some t → (isKey (t .0) ≡ true) × (s ≡ keyText (t .0) ++ t .1)
@@ -254,7 +254,7 @@ pub keys-valid : (s : Bytes) (p : Keys) → keysOf s ≡ some p → validKeys p 
 unfolding keysOf validKeys
 keys-valid s p h = path-gives key-reader s p h
 
-keys-text : (p : Keys) → keysText p ≡ text "$" ++ joined (map keyText p)
+pub keys-text : (p : Keys) → keysText p ≡ text "$" ++ joined (map keyText p)
 unfolding keysText stepsText asSteps keyText
 keys-text p = rw (map-map stepText (λ k. names (k ∷ [])) p)
 

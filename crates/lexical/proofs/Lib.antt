@@ -1,0 +1,8 @@
+-- Laws that the proofs cite, and callers too.
+pub mod Classes
+pub mod Runs
+pub mod Between
+pub mod Slices
+pub mod Decimals
+pub mod Writers
+pub mod Values

@@ -1,0 +1,4 @@
+pub mod Classes
+pub mod Orders
+pub mod Numbers
+pub mod Scalars
