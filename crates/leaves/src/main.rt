@@ -1,7 +1,9 @@
-// Runs a table of inputs through each public function of `lexical`, and prints what came out.
+// Runs a table of inputs through each public function of `lexical` and `paths`, and prints what came out.
 mod scalars;
 mod show;
+mod slots;
 
 fn main() {
     scalars::table();
+    slots::table();
 }

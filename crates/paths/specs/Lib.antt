@@ -1,0 +1,4 @@
+pub mod Layout
+pub mod Fields
+pub mod Steps
+pub mod Environments
