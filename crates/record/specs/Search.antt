@@ -1,0 +1,17 @@
+-- Where the search for a path ends, and what is stored of a slot.
+use Prim.Native.Nat.{ℕ, suc}
+use mathlib.Core.List.{[], _∷_}
+use Rattle.model.specs.Base.{Bytes, if_then_else_}
+use Rattle.model.specs.Fields.{Keys, Fields, orderPath, byOrder, store}
+use Rattle.record.specs.declared.table.Place.{Place}
+use Rattle.record.specs.declared.table.Place.the-variants.{At, Before}
+use Rattle.record.specs.Slots.{fieldIn, isEmpty}
+
+-- where the path p stands, or before which place it belongs, counted from i on
+unfoldable pub placeIn : ℕ → Keys → Fields → Place
+placeIn i p [] = Before i
+placeIn i p (g ∷ gs) = let r = placeIn (suc i) p gs in byOrder (orderPath p (g .path)) (Before i) (At i) r
+
+-- the fields, once a slot is stored; an empty slot changes nothing
+unfoldable pub storedIn : Bytes → Fields → Fields
+storedIn slot fs = if isEmpty slot then fs else store (fieldIn slot) fs
