@@ -25,7 +25,7 @@ use Rattle.lexical.specs.Classes.{readBetween, textAnswer}
 use Rattle.lexical.proofs.Runs.{within-above, span-at}
 use Rattle.lexical.proofs.Slices.{after-at, after-no}
 use Rattle.lexical.proofs.Between.{between-gives, between-leaves, quoted-between}
-use Rattle.paths.specs.Steps.{stepOf, stepAnswer}
+use Rattle.paths.specs.Steps.{stepOf, readBehind, stepAnswer}
 use Rattle.paths.specs.declared.step.StepRead.{StepRead}
 use Rattle.paths.proofs.Names.{push-whole}
 use Rattle.paths.proofs.InBrackets.{brackets-unopened, brackets-empty, brackets-unclosed, brackets-closed, brackets-leave, brackets-shorten}
@@ -123,12 +123,12 @@ module _ (s : Bytes) (at to : ℕ) (is : to ≡ runEnd identifierByte s at) (l :
         (scanned-is identifierByte wellNamed oneName s at to is l (by-first ∙ rw d))
 
 -- ── A plain name behind an operator ──
-module _ (o : Operator) (word : Bytes) (spelled : word ≡ operatorText o) (s : Bytes) (at : ℕ) where
-  after-operator : placed (λ x. after word x >>= scanned plainByte isPlain (environment o)) s at ≡ placed (readEnvironment o) s at
-  unfolding readEnvironment scanned
-  after-operator = rw spelled
+module _ (o : Operator) (word : Bytes) (s : Bytes) (at : ℕ) where
+  after-operator : placed (λ x. after word x >>= scanned plainByte isPlain (environment o)) s at ≡ placed (readBehind word o) s at
+  unfolding readBehind scanned
+  after-operator = refl
 
-  pub environment-not : isSome (after word (drop at s)) ≡ false → none ≡ placed (readEnvironment o) s at
+  pub environment-not : isSome (after word (drop at s)) ≡ false → none ≡ placed (readBehind word o) s at
   environment-not h = word-not word _ s at h ∙ after-operator
 
   module _ (l : at ≤ length s) (h : isSome (after word (drop at s)) ≡ true) (to : ℕ) (is : to ≡ runEnd plainByte s (at + length word)) where
@@ -138,19 +138,24 @@ module _ (o : Operator) (word : Bytes) (spelled : word ≡ operatorText o) (s : 
         let m = after-at word s at l h .1 in
         rw (part-named plainByte plain-name s (at + length word) to is m, part-passes plainByte plain-name s (at + length word) to is m) (and-true _)
 
-    pub environment-misfit : within 1 16 (to - (at + length word)) ≡ false → none ≡ placed (readEnvironment o) s at
+    pub environment-misfit : within 1 16 (to - (at + length word)) ≡ false → none ≡ placed (readBehind word o) s at
     environment-misfit m =
         scanned-not plainByte isPlain (environment o) s (at + length word) to is (plain-fits ∙ m)
         ∙ word-then word _ s at l h ∙ after-operator
 
     pub environment-is : 1 ≤ to - (at + length word) → to - (at + length word) ≤ 16
         → (ns : List Bytes) → ns ≡ take 16 (take (to - (at + length word)) (drop (at + length word) s)) ∷ []
-        → some (environment o (getD ns 0 []), to) ≡ placed (readEnvironment o) s at
+        → some (environment o (getD ns 0 []), to) ≡ placed (readBehind word o) s at
     environment-is lo hi ns e =
         let m = after-at word s at l h .1 in
         rw (e, part-whole plainByte plain-name s (at + length word) to is m hi)
         (scanned-is plainByte isPlain (environment o) s (at + length word) to is m (plain-fits ∙ within-yes 1 16 _ lo hi)
         ∙ word-then word _ s at l h ∙ after-operator)
+
+-- behind the word of an operator it is what the model reads
+pub behind-operator : (o : Operator) (s : Bytes) (at : ℕ) → placed (readBehind (operatorText o) o) s at ≡ placed (readEnvironment o) s at
+unfolding readBehind readEnvironment
+behind-operator o s at = refl
 
 -- ── A wildcard, and what stands behind a dot ──
 module _ (s : Bytes) (at : ℕ) where

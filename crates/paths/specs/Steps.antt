@@ -4,8 +4,9 @@ use mathlib.Core.Option.{Option, none, some}
 use mathlib.Core.List.{List, [], map}
 use lib.Dec.{eqb}
 use lib.ListN.{getD, drop}
-use Rattle.model.specs.Base.{Bytes, text, if_then_else_, between}
+use Rattle.model.specs.Base.{Bytes, text, if_then_else_, _>>=_, _>>_, check, after, span, between}
 use Rattle.model.specs.Limits.{maxListed, maxDepth}
+use Rattle.model.specs.Names.{plainByte, isPlain}
 use Rattle.model.specs.Paths.{Step, names, wildcard, environment, nameText}
 use Rattle.model.specs.Paths as paths
 use Rattle.paths.specs.Layout.{nameIn, counted}
@@ -55,6 +56,14 @@ spelledNames ns = between (text ",") (map nameText ns)
 
 unfoldable pub stepOf : code.Step → Step
 stepOf t = byKind (t .kind) (namesIn (t .names))
+
+-- a word and a plain name behind it: an environment step, if the word is that of its operator
+unfoldable pub readBehind : Bytes → paths.Operator → Bytes → Option (Step × Bytes)
+readBehind w o s = do
+  s₁ ← after w s
+  let (n, r) = span plainByte s₁
+  check (isPlain n)
+  some (environment o n, r)
 
 abbrev pub stepAnswer : StepRead → Option (Step × ℕ)
 stepAnswer r = if r .ok then some (stepOf (r .step), r .to) else none

@@ -12,9 +12,9 @@ ghost use mathlib.Core.List.{[], _∷_};
 ghost use Prim.Native.Nat.{_≤_};
 ghost use lib.ListN.{length, take};
 ghost use Rattle.rows.specs.Positions.{placed};
-ghost use Rattle.model.specs.Paths.{operatorText, readEither, inBrackets, readWildcard, readIdentifier, readDotted, readEnvironment, readList, readSelector, readStep};
+ghost use Rattle.model.specs.Paths.{readEither, inBrackets, readWildcard, readIdentifier, readDotted, readList, readSelector, readStep};
 ghost use Rattle.lexical.specs.Classes.{textAnswer};
-ghost use Rattle.paths.specs.Steps.{operatorOf, namesIn, byKind, stepAnswer};
+ghost use Rattle.paths.specs.Steps.{operatorOf, namesIn, byKind, readBehind, stepAnswer};
 
 pub enum Operator {
     Equals,
@@ -107,10 +107,10 @@ fn identifier_at(s: &[u8], at: usize) -> StepRead
     found(to, Kind::Names, names)
 }
 
-// The word of an operator, and a plain name behind it.
+// A word, and the plain name of an environment step behind it.
 fn environment_at(s: &[u8], at: usize, word: &[u8], operator: Operator) -> StepRead
-    requires { ⌜ (at ≤ length (now s)) × (now word ≡ operatorText (operatorOf operator)) ⌝ }
-    ensures { λ r. ⌜ stepAnswer r ≡ placed (readEnvironment (operatorOf operator)) (now (s .entry)) at ⌝ }
+    requires { ⌜ at ≤ length (now s) ⌝ }
+    ensures { λ r. ⌜ stepAnswer r ≡ placed (readBehind (now (word .entry)) (operatorOf operator)) (now (s .entry)) at ⌝ }
 {
     if !starts(s, at, word) {
         return no_step();

@@ -17,13 +17,13 @@ no-step-requires : tie.Need-no-step-requires
 no-step-requires c κs = search needs
 
 returns : tie.Need-returns
-returns c = c .no-step .ensures ∙ environment-not _ _ (c .before .before .before .before .before .pre .1) _ _ (sym (c .before .before .starts .ensures) ∙ not-true _ (c .before .if1 .taken))
+returns c = c .no-step .ensures ∙ environment-not _ _ _ _ (sym (c .before .before .starts .ensures) ∙ not-true _ (c .before .if1 .taken))
 
 add-from : tie.Need-add-from
 add-from c = search needs
 
 run-requires : tie.Need-run-requires
-run-requires c κs = after-at _ _ _ (c .before .before .before .before .pre .0) (sym (c .before .starts .ensures) ∙ not-false _ (c .if1 .left)) .1
+run-requires c κs = after-at _ _ _ (c .before .before .before .before .pre) (sym (c .before .starts .ensures) ∙ not-false _ (c .if1 .left)) .1
 
 sub-if2 : tie.Need-sub-if2
 sub-if2 c = run-within _ _ _ _ (c .run .ensures) (run-requires (c .before) (c .run .lifetimes)) .0
@@ -36,7 +36,7 @@ returns-2 c =
     let r = c .before .before in
     let b = r .before in
     c .no-step2 .ensures
-    ∙ environment-misfit _ _ (b .before .before .before .before .pre .1) _ _ (search needs) (sym (b .before .starts .ensures) ∙ not-false _ (b .if1 .left)) _ (r .run .ensures) (within-below 1 16 _ (c .before .if2 .taken))
+    ∙ environment-misfit _ _ _ _ (search needs) (sym (b .before .starts .ensures) ∙ not-false _ (b .if1 .left)) _ (r .run .ensures) (within-below 1 16 _ (c .before .if2 .taken))
 
 sub-if3 : tie.Need-sub-if3
 sub-if3 c = search needs
@@ -49,7 +49,7 @@ returns-3 c =
     let r = c .before .before .before in
     let b = r .before in
     c .no-step3 .ensures
-    ∙ environment-misfit _ _ (b .before .before .before .before .pre .1) _ _ (search needs) (sym (b .before .starts .ensures) ∙ not-false _ (b .if1 .left)) _ (r .run .ensures) (within-above 1 16 _ (c .before .if3 .taken))
+    ∙ environment-misfit _ _ _ _ (search needs) (sym (b .before .starts .ensures) ∙ not-false _ (b .if1 .left)) _ (r .run .ensures) (within-above 1 16 _ (c .before .if3 .taken))
 
 sub-one-name : tie.Need-sub-one-name
 sub-one-name c = search needs
@@ -72,7 +72,7 @@ returns-4 c =
     let r = l .before .before in
     let b = r .before in
     c .found .ensures
-    ∙ environment-is _ _ (b .before .before .before .before .pre .1) _ _ (search needs) (sym (b .before .starts .ensures) ∙ not-false _ (b .if1 .left)) _ (r .run .ensures) (l .before .if2 .left) (l .if3 .left) _ (c .before .one-name .ensures)
+    ∙ environment-is _ _ _ _ (search needs) (sym (b .before .starts .ensures) ∙ not-false _ (b .if1 .left)) _ (r .run .ensures) (l .before .if2 .left) (l .if3 .left) _ (c .before .one-name .ensures)
 
 pub environment-at-spec : {M : Type 1} → statement M
 environment-at-spec =
