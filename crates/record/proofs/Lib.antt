@@ -3,3 +3,4 @@ pub mod Search
 pub mod Changes
 pub mod Places
 pub mod Stores
+pub mod Slots

@@ -7,7 +7,7 @@ use lib.ListN.{getD, take, drop}
 use Rattle.rows.specs.Rows.{table}
 use Rattle.model.specs.Base.{Bytes}
 use Rattle.model.specs.Limits.{maxFields}
-use Rattle.model.specs.Values.{Value, truth, readValue}
+use Rattle.model.specs.Values.{Value, truth, readValue, valueText}
 use Rattle.model.specs.Fields.{Field, Fields}
 use Rattle.paths.specs.Layout.{pathIn}
 
@@ -17,8 +17,15 @@ valueOr none = truth false
 valueOr (some t) = t .0
 
 -- a slot of 138 bytes: the path, how long the value's text is, and the text
+unfoldable pub textIn : Bytes → Bytes
+textIn s = take (min (getD s 103 0) 34) (drop 104 s)
+
 unfoldable pub valueIn : Bytes → Value
-valueIn s = valueOr (readValue (take (min (getD s 103 0) 34) (drop 104 s)))
+valueIn s = valueOr (readValue (textIn s))
+
+-- what a slot holds of a value that was written into it: all of it, if its text has at most 34 bytes
+unfoldable pub heldValue : Value → Value
+heldValue v = valueOr (readValue (take 34 (valueText v)))
 
 unfoldable pub fieldIn : Bytes → Field
 fieldIn s = record { path = pathIn s; value = valueIn s }

@@ -1,2 +1,3 @@
-// The record: the table of its fields, sorted by path.
+// The record: the table of its fields, sorted by path, and the slot of one.
+pub mod slot;
 pub mod table;

@@ -92,7 +92,7 @@ fn shift(tail: &mut [u8])
 }
 
 // The bytes of `src` at the start of `dst`.
-fn copy(dst: &mut [u8], src: &[u8])
+pub fn copy(dst: &mut [u8], src: &[u8])
     requires { ⌜ length (now src) ≤ length (now dst) ⌝ }
     ensures { λ _. ⌜ now (dst .exit) ≡ now (src .entry) ++ drop (length (now (src .entry))) (now (dst .entry)) ⌝ }
 {

@@ -1,0 +1,57 @@
+// A slot of 138 bytes: a path (103 bytes), how long the value's text is (one byte), and room for the text (34 bytes).
+use crate::table::copy;
+use lexical::value::Scalar;
+use lexical::value::ValueAt;
+use lexical::value::put_value;
+use lexical::value::value_at;
+use paths::layout::count;
+ghost use mathlib.Core.Path.{_≡_};
+ghost use Prim.Native.Nat.{_≤_, min};
+ghost use lib.ListN.{length};
+ghost use Rattle.lexical.specs.Scalars as scalars;
+ghost use Rattle.paths.specs.Layout.{pathIn};
+ghost use Rattle.record.specs.Slots.{textIn, valueIn, heldValue, fieldIn, isEmpty};
+
+// The text of a slot's value.
+pub fn value_text(slot: &[u8]) -> &[u8]
+    requires { ⌜ length (now slot) ≡ 138 ⌝ }
+    ensures { λ r. ⌜ now r ≡ textIn (now (slot .entry)) ⌝ }
+    ensures { λ r. ⌜ length (now r) ≤ 34 ⌝ }
+{
+    let end = 104 + count(&slot[103..], 34);
+    &slot[104..end]
+}
+
+// The value that a slot holds; a string is a part of the value's text.
+pub fn value_of(slot: &[u8]) -> Scalar
+    requires { ⌜ length (now slot) ≡ 138 ⌝ }
+    ensures { λ r. ⌜ scalars.valueIn (textIn (now (slot .entry))) r ≡ valueIn (now (slot .entry)) ⌝ }
+    ensures { λ r. ⌜ scalars.InText r (textIn (now (slot .entry))) ⌝ }
+{
+    let text = value_text(slot);
+    let ValueAt::At(v, _) = value_at(text, 0) else {
+        return Scalar::False;
+    };
+    v
+}
+
+// The length of a value's text as the byte that says it: at most 34.
+fn length_byte(n: usize) -> u8
+    ensures { λ r. ⌜ r ≡ min n 34 ⌝ }
+{
+    if n < 34 {
+        return n as u8;
+    }
+    34
+}
+
+// A field into a slot: the path of another slot, and a value whose string is a part of the text.
+pub fn fill(slot: &mut [u8], path: &[u8], v: Scalar, text: &[u8])
+    requires { ⌜ (length (now slot) ≡ 138) × (103 ≤ length (now path)) × (length (now text) ≤ 65536) × scalars.InText v (now text) ⌝ }
+    ensures { λ _. ⌜ fieldIn (now (slot .exit)) ≡ record { path = pathIn (now (path .entry)); value = heldValue (scalars.valueIn (now (text .entry)) v) } ⌝ }
+    ensures { λ _. ⌜ isEmpty (now (slot .exit)) ≡ isEmpty (now (path .entry)) ⌝ }
+{
+    copy(slot, &path[0..103]);
+    let n = put_value(&mut slot[104..], 0, v, text);
+    slot[103] = length_byte(n);
+}
