@@ -9,6 +9,7 @@ use paths::field::read_path;
 use paths::layout::count;
 use paths::layout::name;
 use paths::layout::name_at;
+use paths::layout::name_from;
 use paths::layout::push_name;
 use paths::layout::put_name;
 use paths::matching::admits;
@@ -47,6 +48,8 @@ fn names() {
     push_name(&mut slot, b"bob", 4);
     show::count(count(&slot, 4) as u64);
     show::text(name_at(&slot, 1));
+    show::text(b"\n");
+    show::text(name_from(&slot, 1));
     show::text(b"\n");
     show::flag(has_name(&slot, b"bob"));
     show::flag(has_name(&slot, b"bo"));
