@@ -1,3 +1,5 @@
-// The record: the table of its fields, sorted by path, and the slot of one.
+// The record: the table of its fields, sorted by path, and the slot of one; tokens and grammar of its text.
+pub mod grammar;
 pub mod slot;
 pub mod table;
+pub mod tokens;
