@@ -176,7 +176,7 @@ pub stored-count : (m : Members) → twice m ≡ false → count m ≤ maxFields
 stored-count m h l = members-apart (λ n fs. n ≤ maxFields → length fs ≡ n) count-store m [] 0 [] h tt (λ k. refl) (rw zero-add l) ∙ zero-add (count m)
 
 -- ── Reading ──
-key-read : (s : Bytes) (t : Bytes × Bytes) → readKey s ≡ some t → isKey (t .0) ≡ true
+pub key-read : (s : Bytes) (t : Bytes × Bytes) → readKey s ≡ some t → isKey (t .0) ≡ true
 unfolding readKey
 key-read s t h =
     bind-some _ _ t h λ s₁ quote h₁.

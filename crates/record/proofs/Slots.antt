@@ -9,11 +9,12 @@ use lib.ListN.{length, getD, take, drop, set, length-take, length-drop, length-a
 use lib.Seq.{take-take, take-at, take-all, take-append-le, take-set-le, drop-at, drop-set-lt, length-take-le, getD-take, getD-set-same}
 use Rattle.rows.specs.Rows.{replaced, written, Wrote}
 use Rattle.rows.proofs.Rows.{drop-take, rows-take}
+use Rattle.rows.proofs.Table.{table-at}
 use Rattle.rows.proofs.Parts.{part-at, tail-replaced}
 use Rattle.rows.proofs.Writing.{length-written, written-clipped}
 use Rattle.rows.specs.Positions.{placed}
 use Rattle.model.specs.Base.{Bytes}
-use Rattle.model.specs.Limits.{maxDepth}
+use Rattle.model.specs.Limits.{maxDepth, maxFields}
 use Rattle.model.specs.Values.{Value, truth, readValue, valueText}
 use Rattle.model.proofs.Valid.{validValue}
 use Rattle.model.proofs.Spelling as spelling
@@ -23,7 +24,7 @@ use Rattle.lexical.specs.declared.value.ValueAt.the-variants.{At, Bad}
 use Rattle.lexical.specs.Scalars as scalars
 use Rattle.lexical.proofs.Values.{value-reads, value-bad, value-inside}
 use Rattle.paths.specs.Layout.{nameIn, counted, pathIn}
-use Rattle.record.specs.Slots.{textIn, valueIn, heldValue, fieldIn, isEmpty}
+use Rattle.record.specs.Slots.{textIn, valueIn, heldValue, fieldIn, isEmpty, fieldsIn, fieldAt}
 
 -- ── The value's text, and the value ──
 pub text-part : (s : Bytes) (n : ℕ) → 103 < length s → n ≡ min (getD (take (length s - 103) (drop 103 s)) 0 0) 34 → take (104 + n - 104) (drop 104 s) ≡ textIn s
@@ -57,6 +58,18 @@ module _ (s p : Bytes) (same : take 103 s ≡ take 103 p) where
   pub empty-same : isEmpty s ≡ isEmpty p
   unfolding isEmpty
   empty-same = rw (← getD-take 103 s 0 0 (omega arith), same, getD-take 103 p 0 0 (omega arith))
+
+pub path-part : (s : Bytes) → pathIn (take 103 s) ≡ pathIn s
+path-part s = path-same (take 103 s) s (take-take 103 103 s (omega arith))
+
+-- the path's bytes of the slot at i
+pub path-bytes : (s slot : Bytes) (i : ℕ) → slot ≡ take 138 (drop (i * 138) s) → take 103 slot ≡ take 103 (drop (i * 138) s)
+path-bytes s slot i here = rw here (take-take 103 138 (drop (i * 138) s) (omega arith))
+
+-- the slot of a field in use means that field
+pub field-slot : (s slot : Bytes) (i : ℕ) → slot ≡ take 138 (drop (i * 138) s) → i < length (fieldsIn s) → fieldIn slot ≡ fieldAt i (fieldsIn s)
+unfolding fieldsIn fieldAt
+field-slot s slot i here h = ap fieldIn here ∙ sym (table-at isEmpty fieldIn 138 i maxFields s _ h)
 
 -- a text that is written into the room of 34 bytes, read back by its length: what there was room for
 text-clipped : (xs room : Bytes) → length room ≡ 34 → (n : ℕ) → n ≡ min (length xs) 34 → take (min n 34) (written 0 xs room) ≡ take 34 xs

@@ -1,7 +1,8 @@
 -- What the bytes of a table of fields mean, whatever they are.
-use Prim.Native.Nat.{min}
+use Prim.Native.Nat.{ℕ, min}
 use mathlib.Core.Option.{Option, none, some}
 use mathlib.Core.Bool.{Bool, false}
+use mathlib.Core.List.{[]}
 use lib.Dec.{eqb}
 use lib.ListN.{getD, take, drop}
 use Rattle.rows.specs.Rows.{table}
@@ -37,3 +38,7 @@ isEmpty s = eqb (getD s 0 0) 0
 -- the fields of a table: 256 slots, up to the first that is empty
 unfoldable pub fieldsIn : Bytes → Fields
 fieldsIn s = table isEmpty fieldIn 138 maxFields s
+
+-- the i-th of some fields, where there is one
+unfoldable pub fieldAt : ℕ → Fields → Field
+fieldAt i fs = getD fs i (record { path = []; value = truth false })

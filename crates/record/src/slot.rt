@@ -1,5 +1,6 @@
 // A slot of 138 bytes: a path (103 bytes), how long the value's text is (one byte), and room for the text (34 bytes).
 use crate::table::copy;
+use crate::table::store;
 use lexical::value::Scalar;
 use lexical::value::ValueAt;
 use lexical::value::put_value;
@@ -10,7 +11,8 @@ ghost use Prim.Native.Nat.{_≤_, min};
 ghost use lib.ListN.{length};
 ghost use Rattle.lexical.specs.Scalars as scalars;
 ghost use Rattle.paths.specs.Layout.{pathIn};
-ghost use Rattle.record.specs.Slots.{textIn, valueIn, heldValue, fieldIn, isEmpty};
+ghost use Rattle.record.specs.Slots.{textIn, valueIn, heldValue, fieldIn, isEmpty, fieldsIn};
+ghost use Rattle.record.specs.Search.{storedAt};
 
 // The text of a slot's value.
 pub fn value_text(slot: &[u8]) -> &[u8]
@@ -54,4 +56,14 @@ pub fn fill(slot: &mut [u8], path: &[u8], v: Scalar, text: &[u8])
     copy(slot, &path[0..103]);
     let n = put_value(&mut slot[104..], 0, v, text);
     slot[103] = length_byte(n);
+}
+
+// A value, whose string is a part of the text, at the path of another slot: without keys nothing changes.
+pub fn store_value(table: &mut [u8], path: &[u8], v: Scalar, text: &[u8])
+    requires { ⌜ (length (now table) ≡ 35328) × (103 ≤ length (now path)) × (length (now text) ≤ 65536) × scalars.InText v (now text) ⌝ }
+    ensures { λ _. ⌜ fieldsIn (now (table .exit)) ≡ storedAt (now (path .entry)) (scalars.valueIn (now (text .entry)) v) (fieldsIn (now (table .entry))) ⌝ }
+{
+    let mut slot = [0u8; 138];
+    fill(&mut slot, path, v, text);
+    store(table, &slot);
 }

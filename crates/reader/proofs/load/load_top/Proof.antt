@@ -1,0 +1,76 @@
+-- The table is emptied; an object whose closing brace stands right behind the opening one adds nothing, and any other has members.
+use mathlib.Core.Path.{_∙_}
+use mathlib.Core.List.{[]}
+use Rattle.rows.specs.Positions.{Reads}
+use Rattle.paths.specs.Layout.{counted, pathIn}
+use Rattle.reader.specs.Tokens.{readToken}
+use Rattle.reader.proofs.Spaced.{token-leaves, end-bad, end-reads}
+use Rattle.reader.proofs.Tops.{top-unopened, top-empty, top-object}
+use Rattle.reader.proofs.Loading.{none-loaded, emptied}
+use borrow.Author.Needs.{needs}
+use Rattle.reader.proofs.load.load_top.Statement.{statement}
+use Rattle.reader.proofs.load.load_top.Tie as tie
+
+element-write-table : tie.Need-element-write-table
+element-write-table c = search needs
+
+token-at-requires : tie.Need-token-at-requires
+token-at-requires c κs = search needs
+
+enum-known-open : tie.Need-enum-known-open
+enum-known-open c = search needs
+
+enum-told : tie.Need-enum-told
+enum-told c = search needs
+
+returns : tie.Need-returns
+returns c = top-unopened _ _ _ (end-bad _ _ _ _ (c .before .before .token-at .ensures) (c .enum-told .given .1))
+
+-- the brace stands where `token_at` says
+opened : (c : tie.After-known-told)
+    → let a = c .before .before .before .before .before .args in Reads (readToken 0x7B) (a .s .now) (a .at) tt (c .before .«open» .given .0 .0)
+opened c = end-reads _ _ _ _ (c .before .before .before .token-at .ensures) (token-leaves 0x7B) (search needs) _ (c .before .«open» .given .1)
+
+token-at-requires-2 : tie.Need-token-at-requires-2
+token-at-requires-2 c κs = opened c .to
+
+enum-known-e : tie.Need-enum-known-e
+enum-known-e c = search needs
+
+returns-2 : tie.Need-returns-2
+returns-2 c =
+    let o = c .before .before .before .before in
+    let none = emptied (o .before .before .before .before .before .args .table .now) ∙ none-loaded [] [] in
+    let closed = end-reads _ _ _ _ (c .before .before .before .token-at2 .ensures) (token-leaves 0x7D) (opened o .to) _ (c .before .e .given .1) in
+    rw none (top-empty _ _ _ _ (opened o) _ closed)
+
+enum-told-2 : tie.Need-enum-told-2
+enum-told-2 c = search needs
+
+load-object-requires : tie.Need-load-object-requires
+unfolding pathIn counted
+load-object-requires c κs = search needs
+
+returns-3 : tie.Need-returns-3
+unfolding pathIn counted
+returns-3 c =
+    let o = c .before .before .before .before .before .before in
+    let none = emptied (o .before .before .before .before .before .args .table .now) in
+    let not-closed = end-bad _ _ _ _ (c .before .before .before .before .before .token-at2 .ensures) (c .before .before .before .enum-told2 .given .1) in
+    rw none at (c .load-object .ensures) ∙ top-object _ _ _ _ (opened o) not-closed
+
+pub load-top-spec : {M : Type 1} → statement M
+load-top-spec =
+    tie.close
+    (tie.spec
+    element-write-table
+    token-at-requires
+    enum-known-open
+    enum-told
+    returns
+    token-at-requires-2
+    enum-known-e
+    returns-2
+    enum-told-2
+    load-object-requires
+    returns-3)

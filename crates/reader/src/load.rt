@@ -1,0 +1,103 @@
+// The fields of a record's text, put into a table.
+use crate::grammar::RecordRead;
+use crate::grammar::read_summary;
+use crate::tokens::KeyAt;
+use crate::tokens::leaf_at;
+use crate::tokens::member_at;
+use crate::tokens::token_at;
+use lexical::class::Class;
+use lexical::class::End;
+use lexical::class::run;
+use lexical::value::ValueAt;
+use paths::field::push_key;
+use record::slot::store_value;
+use record::table::SLOTS;
+use record::table::copy;
+ghost use mathlib.Core.Path.{_≡_};
+ghost use mathlib.Core.List.{[], _∷_, _++_};
+ghost use Prim.Native.Nat.{_+_, _≤_};
+ghost use lib.ListN.{length, take};
+ghost use Rattle.rows.specs.Positions.{placed};
+ghost use Rattle.model.specs.RecordText.{readObject};
+ghost use Rattle.paths.specs.Layout.{pathIn};
+ghost use Rattle.record.specs.Slots.{fieldsIn};
+ghost use Rattle.reader.specs.Tokens.{mapped, readTop};
+ghost use Rattle.reader.specs.Summaries.{readingOf, readAnswer};
+ghost use Rattle.reader.specs.Loaded.{loaded, loadAnswer, fieldsOf, HoldsOrKeeps};
+
+// The path of a key in the object at a path.
+fn put_child(child: &mut [u8; 103], path: &[u8; 103], key: &[u8])
+    ensures { λ _. ⌜ pathIn (now (child .exit)) ≡ take 6 (pathIn (now (path .entry)) ++ (take 16 (now (key .entry)) ∷ [])) ⌝ }
+    ensures { λ _. ⌜ length (now (child .exit)) ≡ 103 ⌝ }
+{
+    copy(child, path);
+    push_key(child, key);
+}
+
+// The fields of an object that stands at a path, in which at most `depth` keys stand one inside the other.
+fn load_object(table: &mut [u8; 35328], s: &[u8], at: usize, depth: usize, path: &[u8; 103]) -> End
+    requires { ⌜ (at ≤ length (now s)) × (length (now s) ≤ 65536) × (length (pathIn (now path)) + depth ≤ 6) ⌝ }
+    ensures { λ r. ⌜ loadAnswer (fieldsIn (now (table .exit))) r ≡ placed (mapped (loaded (pathIn (now (path .entry))) (fieldsIn (now (table .entry)))) (readObject depth)) (now (s .entry)) at ⌝ }
+{
+    if depth == 0 {
+        return End::Bad;
+    }
+    let End::At(open) = token_at(s, at, b'{') else {
+        return End::Bad;
+    };
+    let mut child = [0u8; 103];
+    let mut i = open;
+    loop {
+        let KeyAt::At(from, to, v) = member_at(s, i) else {
+            return End::Bad;
+        };
+        put_child(&mut child, path, &s[from..to]);
+        let leaf = leaf_at(s, v);
+        let got = match leaf {
+            ValueAt::At(value, e) => {
+                store_value(table, &child, value, s);
+                End::At(e)
+            }
+            ValueAt::Bad => load_object(table, s, v, depth - 1, &child),
+        };
+        let End::At(e) = got else {
+            return End::Bad;
+        };
+        let End::At(next) = token_at(s, e, b',') else {
+            return token_at(s, e, b'}');
+        };
+        i = next;
+    }
+}
+
+// The fields of a record's object, which may be empty, into a table that holds none.
+fn load_top(table: &mut [u8; 35328], s: &[u8], at: usize) -> End
+    requires { ⌜ (at ≤ length (now s)) × (length (now s) ≤ 65536) ⌝ }
+    ensures { λ r. ⌜ loadAnswer (fieldsIn (now (table .exit))) r ≡ placed (mapped (loaded [] []) readTop) (now (s .entry)) at ⌝ }
+{
+    table[0] = 0;
+    let End::At(open) = token_at(s, at, b'{') else {
+        return End::Bad;
+    };
+    if let End::At(e) = token_at(s, open, b'}') {
+        return End::At(e);
+    }
+    let path = [0u8; 103];
+    load_object(table, s, at, 6, &path)
+}
+
+// A record's text: refused, or how many fields it has; where a table has room for them it then holds them, else it keeps its bytes.
+pub fn read_record(table: &mut [u8; 35328], s: &[u8]) -> RecordRead
+    requires { ⌜ length (now s) ≤ 65536 ⌝ }
+    ensures { λ r. ⌜ readAnswer r ≡ readingOf (now (s .entry)) ⌝ }
+    ensures { λ r. ⌜ HoldsOrKeeps (fieldsOf (now (s .entry))) (now (table .entry)) (now (table .exit)) ⌝ }
+{
+    let read = read_summary(s);
+    if let RecordRead::Fields(n) = read {
+        if n <= SLOTS {
+            let at = run(s, 0, Class::Blank);
+            load_top(table, s, at);
+        }
+    }
+    read
+}

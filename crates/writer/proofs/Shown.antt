@@ -1,0 +1,140 @@
+-- The fields that a selection shows, from a place on: the steps of a loop over the slots, and what the place of the first of them says.
+use Prim.Native.Nat.{ℕ, suc, _+_, _*_, _-_, _≤_, _<_}
+use mathlib.Core.Path.{_≡_, refl, sym, _∙_}
+use mathlib.Core.Bool.{true, false}
+use mathlib.Core.Option.{Option, none, some}
+use mathlib.Core.List.{[], _∷_}
+use native.Mathlib.Nat.{add-zero}
+use native.Mathlib.Numerals.{add-one}
+use native.Mathlib.Omega.{arith}
+use borrow.Author.Tests.{ne-eqb}
+use lib.Dec.{eqb}
+use lib.ListN.{length, getD, take, drop, length-map, length-drop}
+use lib.Seq.{getD-drop, drop-drop}
+use Rattle.rows.specs.Rows.{rows, table}
+use Rattle.rows.proofs.Rows.{map-drop, upTo-drop, drop-rows}
+use Rattle.rows.proofs.Table.{table-at}
+use Rattle.model.specs.Base.{Bytes}
+use Rattle.model.specs.Limits.{maxFields}
+use Rattle.model.specs.Values.{Value, readValue, valueText}
+use Rattle.model.specs.Fields.{Field, Fields}
+use Rattle.model.proofs.Valid.{validValue}
+use Rattle.model.proofs.Spelling.{value-valid, value-length}
+use Rattle.model.proofs.Lists.{by-cases}
+use Rattle.record.specs.Slots.{textIn, valueOr, valueIn, fieldIn, isEmpty, fieldsIn}
+use Rattle.record.proofs.Stores.{fields-fit}
+use Rattle.record.proofs.Search.{fieldsFrom, fields-end, fields-stop, fields-step}
+use Rattle.writer.specs.Selected.{selected, shownFrom}
+
+-- the value of a slot is spelled with at most 34 bytes
+pub held-short : (s : Bytes) → length (valueText (valueIn s)) ≤ 34
+unfolding valueIn
+held-short s = go (readValue (textIn s)) refl
+  where
+    go : (o : Option (Value × Bytes)) → readValue (textIn s) ≡ o → length (valueText (valueOr o)) ≤ 34
+    go none e = value-length _ (unfold validValue in refl)
+    go (some t) e = value-length (t .0) (value-valid (textIn s) (t .1) (t .0) e)
+
+-- ── Fields by their places ──
+-- those from i on, where there are i fields at least
+pub fields-drop : (s : Bytes) (i : ℕ) → i ≤ length (fieldsIn s) → drop i (fieldsIn s) ≡ fieldsFrom i s
+unfolding fieldsIn table
+fields-drop s i h =
+    rw (← map-drop fieldIn i, ← upTo-drop isEmpty i (rows 138 maxFields s) (rw length-map at h), drop-rows)
+
+field-at : (s : Bytes) (n : ℕ) (z : Field) → n < length (fieldsIn s) → getD (fieldsIn s) n z ≡ fieldIn (take 138 (drop (n * 138) s))
+unfolding fieldsIn
+field-at s n z h = table-at isEmpty fieldIn 138 n maxFields s z h
+
+-- ── The place of the first field that is shown ──
+-- of no fields
+shown-none : (i : ℕ) (bs : Bytes) → shownFrom i bs [] ≡ maxFields
+unfolding shownFrom
+shown-none i [] = refl
+shown-none i (b ∷ bs) = refl
+
+-- of fields of which the first is not shown, or is
+shown-pass : (i : ℕ) (bs : Bytes) (f : Field) (fs : Fields) → getD bs 0 0 ≡ 0 → shownFrom i bs (f ∷ fs) ≡ shownFrom (suc i) (drop 1 bs) fs
+unfolding shownFrom
+shown-pass i [] f fs z = refl
+shown-pass i (b ∷ bs) f fs z = rw z
+
+shown-first : (i : ℕ) (bs : Bytes) (f : Field) (fs : Fields) → (getD bs 0 0 ≡ 0 → ⊥) → shownFrom i bs (f ∷ fs) ≡ i
+unfolding shownFrom
+shown-first i [] f fs z = absurd (z refl)
+shown-first i (b ∷ bs) f fs z = rw (ne-eqb b 0 z)
+
+-- of the fields from slot j on
+module _ (s shown : Bytes) (j : ℕ) where
+  pub shown-over : maxFields ≤ j → shownFrom j (drop j shown) (fieldsFrom j s) ≡ maxFields
+  shown-over h = rw (fields-end s j h) (shown-none j (drop j shown))
+
+  byte-at : getD (drop j shown) 0 0 ≡ getD shown j 0
+  byte-at = rw (getD-drop, add-zero)
+
+  module _ (h : j < maxFields) {slot : Bytes} (at : slot ≡ take 138 (drop (j * 138) s)) where
+    pub shown-stop : isEmpty slot ≡ true → shownFrom j (drop j shown) (fieldsFrom j s) ≡ maxFields
+    shown-stop e = rw (fields-stop s j at h e) (shown-none j (drop j shown))
+
+    module _ (e : isEmpty slot ≡ false) where
+      pub shown-step : getD shown j 0 ≡ 0
+          → shownFrom j (drop j shown) (fieldsFrom j s) ≡ shownFrom (j + 1) (drop (j + 1) shown) (fieldsFrom (j + 1) s)
+      shown-step z = rw (fields-step s j at h e, shown-pass j (drop j shown) (fieldIn slot) _ (byte-at ∙ z), drop-drop, add-one)
+
+      pub shown-here : (getD shown j 0 ≡ 0 → ⊥) → shownFrom j (drop j shown) (fieldsFrom j s) ≡ j
+      shown-here z = rw (fields-step s j at h e) (shown-first j (drop j shown) _ _ (λ k. z (sym byte-at ∙ k)))
+
+-- ── What that place, counted from i, says of the fields that are shown ──
+-- it is past the last place where none is shown
+none-from : (i : ℕ) (bs : Bytes) (fs : Fields) → i + length fs ≤ maxFields → shownFrom i bs fs ≡ maxFields → selected bs fs ≡ []
+unfolding selected shownFrom
+none-from i [] fs l h = refl
+none-from i (b ∷ bs) [] l h = refl
+none-from i (b ∷ bs) (f ∷ fs) l h = by-cases (eqb b 0)
+    (λ e. rw e (none-from (suc i) bs fs (omega arith) (rw e at h)))
+    (λ e. absurd (omega (arith, rw e at h)))
+
+-- else the first stands there, d fields further on, and the others stand behind it
+record FirstFrom (i : ℕ) (bs : Bytes) (fs : Fields) : Type 0 where
+  d : ℕ
+  place : shownFrom i bs fs ≡ i + d
+  within : d < length fs
+  is : (z : Field) → selected bs fs ≡ getD fs d z ∷ selected (drop (suc d) bs) (drop (suc d) fs)
+
+first-from : (i : ℕ) (bs : Bytes) (fs : Fields) → (shownFrom i bs fs ≡ maxFields → ⊥) → FirstFrom i bs fs
+unfolding selected shownFrom
+first-from i [] fs h = absurd (h refl)
+first-from i (b ∷ bs) [] h = absurd (h refl)
+first-from i (b ∷ bs) (f ∷ fs) h = by-cases (eqb b 0)
+    (λ e. let r = first-from (suc i) bs fs (λ k. h (rw e k)) in
+    record { d = suc (r .d); place = rw e (omega (arith, r .place)); within = omega (arith, r .within); is = λ z. rw e (r .is z) })
+    (λ e. record { d = 0; place = rw e (omega arith); within = omega arith; is = λ z. rw e })
+
+-- ── Of a table: the fields from the place i on that the selection shows ──
+abbrev pub selectedFrom : ℕ → Bytes → Bytes → Fields
+selectedFrom i shown s = selected (drop i shown) (drop i (fieldsIn s))
+
+-- the first of them is in slot n, and the others stand behind it
+pub record Next (s shown : Bytes) (i n : ℕ) : Type 0 where
+  pub from : i ≤ n
+  pub below : n < maxFields
+  pub within : n < length (fieldsIn s)
+  pub is : {slot : Bytes} → slot ≡ take 138 (drop (n * 138) s) → selectedFrom i shown s ≡ fieldIn slot ∷ selectedFrom (n + 1) shown s
+
+module _ (s shown : Bytes) (i n : ℕ) (l : i ≤ length (fieldsIn s)) (at : n ≡ shownFrom i (drop i shown) (drop i (fieldsIn s))) where
+  pub none-next : n ≡ maxFields → selectedFrom i shown s ≡ []
+  none-next h =
+      none-from i (drop i shown) (drop i (fieldsIn s)) (rw length-drop (omega (arith, fields-fit s))) (sym at ∙ h)
+
+  pub next : (n ≡ maxFields → ⊥) → Next s shown i n
+  next h =
+      let r = first-from i (drop i shown) (drop i (fieldsIn s)) (λ k. h (at ∙ k)) in
+      let p : i + suc (r .d) ≡ n + 1 = omega (arith, r .place) in
+      let q : i + r .d ≡ n = omega (arith, r .place) in
+      let w : n < length (fieldsIn s) = omega (arith, rw length-drop at (r .within)) in
+      record {
+        from = omega arith;
+        below = omega (arith, fields-fit s);
+        within = w;
+        is = λ e. r .is (fieldIn s) ∙ simp (drop-drop, getD-drop, p, q, e, field-at s n (fieldIn s) w);
+      }

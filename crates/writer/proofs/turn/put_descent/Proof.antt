@@ -1,0 +1,111 @@
+-- Each turn writes the next key in quotes, a colon and, before a further key, a brace: at most 20 bytes of what remains.
+use Prim.Native.Nat.{_+_, _*_, _-_, _≤_}
+use mathlib.Core.Path.{_≡_, refl}
+use native.Mathlib.Omega.{arith}
+use borrow.Author.Needs.{needs}
+use lib.ListN.{length, drop}
+use Rattle.model.specs.Base.{text}
+use Rattle.model.specs.SavedText.{descend}
+use Rattle.paths.specs.Layout.{pathIn}
+use Rattle.paths.proofs.Spelled.{wrote-none, name-length}
+use Rattle.writer.proofs.Remains.{Remains, remains-step, remains-end}
+use Rattle.writer.proofs.Turns.{descend-more, descend-last, descend-over}
+use Rattle.writer.proofs.turn.put_descent.Statement.{statement}
+use Rattle.writer.proofs.turn.put_descent.Tie as tie
+
+abbrev Inv-loop : tie.InvT-loop
+Inv-loop out₀ at path from n to₀ i₀ t8 out to i =
+    (to + 20 * (n - i) ≤ at + 20 * (n - from)) × (length out ≡ length out₀)
+    × Remains at (descend (drop from (pathIn path))) out₀ to (descend (drop i (pathIn path))) out
+
+abbrev μ-loop : tie.MeasureT-loop
+μ-loop out₀ at path from n to₀ i₀ t8 out to i = n - i
+
+count-requires : tie.Need-count-requires Inv-loop μ-loop
+count-requires c κs = search needs
+
+loop-holds : tie.Need-loop-holds Inv-loop μ-loop
+loop-holds c = (search needs, refl, (refl, refl))
+
+put-byte-requires : tie.Need-put-byte-requires Inv-loop μ-loop
+put-byte-requires c κs = search needs
+
+name-at-requires : tie.Need-name-at-requires Inv-loop μ-loop
+name-at-requires c κs = search needs
+
+put-requires : tie.Need-put-requires Inv-loop μ-loop
+put-requires c κs = let k = name-length _ _ (c .name-at .ensures) in omega arith
+
+slice-aggregate-put : tie.Need-slice-aggregate-put Inv-loop μ-loop
+slice-aggregate-put c = search needs
+
+put-requires-2 : tie.Need-put-requires-2 Inv-loop μ-loop
+put-requires-2 c κs = let k = name-length _ _ (c .before .before .before .before .before .name-at .ensures) in omega arith
+
+add-i : tie.Need-add-i Inv-loop μ-loop
+add-i c = search needs
+
+put-byte-requires-2 : tie.Need-put-byte-requires-2 Inv-loop μ-loop
+put-byte-requires-2 c κs = let k = name-length _ _ (c .before .before .before .before .before .before .before .before .before .before .name-at .ensures) in omega arith
+
+loop-less : tie.Need-loop-less Inv-loop μ-loop
+loop-less c = search needs
+
+loop-again : tie.Need-loop-again Inv-loop μ-loop
+unfolding text
+loop-again c =
+    let n = c .before .before .before .before .before .before .before .before .before .before .before .before .before in
+    let l = n .before .before .before .before .before .before .before .loop in
+    let name = n .name-at .ensures in
+    let k = name-length _ _ name in
+    let e = descend-more (n .before .before .before .before .before .before .before .before .before .before .before .args .path .now) (l .i) name (search needs) (search needs) in
+    let quote = remains-step _ _ _ _ _ _ _ _ _ (rw e at (l .inv .2)) (n .before .before .before .before .put-byte .ensures) in
+    let key = remains-step _ _ _ _ _ _ _ _ _ quote (c .before .before .before .before .before .before .before .before .before .before .before .before .put .ensures) in
+    let colon = remains-step _ _ _ _ _ _ _ _ _ key (c .before .before .before .before .before .before .before .put2 .ensures) in
+    (omega arith, search needs, remains-step _ _ _ _ _ _ _ _ _ colon (c .before .before .put-byte2 .ensures))
+
+loop-less-2 : tie.Need-loop-less-2 Inv-loop μ-loop
+loop-less-2 c = search needs
+
+loop-again-2 : tie.Need-loop-again-2 Inv-loop μ-loop
+unfolding text
+loop-again-2 c =
+    let n = c .before .before .before .before .before .before .before .before .before in
+    let l = n .before .before .before .before .before .before .before .loop in
+    let name = n .name-at .ensures in
+    let k = name-length _ _ name in
+    let e = descend-last (n .before .before .before .before .before .before .before .before .before .before .before .args .path .now) (l .i) name (search needs) (search needs) in
+    let quote = remains-step _ _ _ _ _ _ _ _ _ (rw e at (l .inv .2)) (n .before .before .before .before .put-byte .ensures) in
+    let key = remains-step _ _ _ _ _ _ _ _ _ quote (c .before .before .before .before .before .before .before .before .put .ensures) in
+    (omega arith, search needs, remains-step _ _ _ _ _ _ _ _ _ key (c .before .before .before .put2 .ensures))
+
+same-length : tie.Need-same-length Inv-loop μ-loop
+same-length c = search needs
+
+returns : tie.Need-returns Inv-loop μ-loop
+returns c =
+    let l = c .before .loop in
+    let e = descend-over (c .before .before .before .before .before .args .path .now) (l .i) (search needs) in
+    (remains-end _ _ _ _ _ _ _ _ (rw e at (l .inv .2)) (wrote-none _ _), search needs)
+
+pub put-descent-spec : {M : Type 1} → statement M
+put-descent-spec =
+    tie.close
+    (tie.spec
+    Inv-loop
+    μ-loop
+    count-requires
+    loop-holds
+    put-byte-requires
+    name-at-requires
+    put-requires
+    slice-aggregate-put
+    put-requires-2
+    add-i
+    put-byte-requires-2
+    loop-less
+    loop-again
+    loop-less-2
+    loop-again-2
+    same-length
+    returns)

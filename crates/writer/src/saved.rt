@@ -1,0 +1,74 @@
+// The saved text of the fields that a selection shows.
+use crate::turn::put_braces;
+use crate::turn::put_descent;
+use crate::turn::put_turn;
+use lexical::value::put_value;
+use lexical::write::put;
+use lexical::write::put_byte;
+use paths::layout::count;
+use record::slot::value_of;
+use record::slot::value_text;
+use record::table::SLOTS;
+use record::table::is_empty;
+use record::table::slot_at;
+ghost use mathlib.Core.Path.{_≡_};
+ghost use Prim.Native.Nat.{_+_, _≤_, _<_, _^_};
+ghost use lib.ListN.{length, drop};
+ghost use Rattle.rows.specs.Rows.{Wrote};
+ghost use Rattle.model.specs.Values.{valueText};
+ghost use Rattle.model.specs.SavedText.{saved};
+ghost use Rattle.record.specs.Slots.{valueIn, fieldsIn};
+ghost use Rattle.writer.specs.Selected.{selected, shownFrom};
+
+// The place of the first field from i on that the selection shows, or 256.
+fn next_shown(table: &[u8; 35328], shown: &[u8; 256], i: usize) -> usize
+    requires { ⌜ i ≤ length (fieldsIn (now table)) ⌝ }
+    ensures { λ r. ⌜ r ≡ shownFrom i (drop i (now (shown .entry))) (drop i (fieldsIn (now (table .entry)))) ⌝ }
+{
+    let mut j = i;
+    while j < SLOTS {
+        if is_empty(slot_at(table, j)) {
+            return SLOTS;
+        }
+        if shown[j] != 0 {
+            return j;
+        }
+        j += 1;
+    }
+    SLOTS
+}
+
+// The value of a slot.
+fn put_held(out: &mut [u8], at: usize, slot: &[u8]) -> usize
+    requires { ⌜ (length (now slot) ≡ 138) × (at + 47 < 2 ^ 64) ⌝ }
+    ensures { λ r. ⌜ Wrote at (valueText (valueIn (now (slot .entry)))) (now (out .entry)) r (now (out .exit)) ⌝ }
+    ensures { λ r. ⌜ r ≤ at + 34 ⌝ }
+{
+    let v = value_of(slot);
+    put_value(out, at, v, value_text(slot))
+}
+
+// The saved text of the fields that the selection shows: those whose byte in it is not 0.
+pub fn put_saved(out: &mut [u8], at: usize, table: &[u8; 35328], shown: &[u8; 256]) -> usize
+    requires { ⌜ at + 65536 < 2 ^ 64 ⌝ }
+    ensures { λ r. ⌜ Wrote at (saved (selected (now (shown .entry)) (fieldsIn (now (table .entry))))) (now (out .entry)) r (now (out .exit)) ⌝ }
+{
+    let mut i = next_shown(table, shown, 0);
+    if i == SLOTS {
+        return put(out, at, b"{}");
+    }
+    let first = slot_at(table, i);
+    let mut to = put_byte(out, at, b'{');
+    to = put_descent(out, to, first, 0);
+    to = put_held(out, to, first);
+    loop {
+        let next = next_shown(table, shown, i + 1);
+        if next == SLOTS {
+            return put_braces(out, to, count(slot_at(table, i), 6));
+        }
+        let slot = slot_at(table, next);
+        to = put_turn(out, to, slot_at(table, i), slot);
+        to = put_held(out, to, slot);
+        i = next;
+    }
+}
