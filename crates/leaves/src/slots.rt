@@ -1,7 +1,5 @@
 // The functions of `paths`.
 use crate::show;
-use paths::conflict::conflict;
-use paths::conflict::steps_of;
 use paths::field::compare_paths;
 use paths::field::push_key;
 use paths::field::put_path;
@@ -12,19 +10,21 @@ use paths::layout::name_at;
 use paths::layout::name_from;
 use paths::layout::push_name;
 use paths::layout::put_name;
-use paths::matching::admits;
-use paths::matching::has_name;
-use paths::matching::matches;
-use paths::policy::kind_of;
-use paths::policy::push_step;
-use paths::policy::put_steps;
-use paths::policy::read_steps;
-use paths::policy::row;
-use paths::step::Kind;
-use paths::step::Operator;
-use paths::step::Step;
-use paths::step::one_name;
-use paths::step::step_at;
+use steps::conflict::conflict;
+use steps::conflict::steps_of;
+use steps::matching::admits;
+use steps::matching::has_name;
+use steps::matching::matches;
+use steps::policy::kind_of;
+use steps::policy::push_step;
+use steps::policy::put_steps;
+use steps::policy::read_steps;
+use steps::policy::row;
+use steps::step::Kind;
+use steps::step::Operator;
+use steps::step::Step;
+use steps::step::one_name;
+use steps::step::step_at;
 
 fn kind(k: Kind) {
     match k {

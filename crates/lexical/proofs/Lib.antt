@@ -3,6 +3,7 @@ pub mod Classes
 pub mod Runs
 pub mod Between
 pub mod Slices
+pub mod Readers
 pub mod Decimals
 pub mod Writers
 pub mod Values

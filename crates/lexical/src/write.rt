@@ -1,8 +1,8 @@
-// Writers: each stores what falls inside the buffer from `at` on, and answers where the text ends.
+// Writers: each stores what falls inside the buffer from `at` on, and answers where the text ends; and a copy of a slice.
 ghost use mathlib.Core.Path.{_≡_};
-ghost use mathlib.Core.List.{[], _∷_};
-ghost use Prim.Native.Nat.{_+_, _<_, _^_};
-ghost use lib.ListN.{length};
+ghost use mathlib.Core.List.{[], _∷_, _++_};
+ghost use Prim.Native.Nat.{_+_, _≤_, _<_, _^_};
+ghost use lib.ListN.{length, drop};
 ghost use Rattle.rows.specs.Rows.{Wrote};
 ghost use Rattle.model.specs.Base.{decimal};
 ghost use Rattle.model.specs.Values.{valueText, whole};
@@ -56,4 +56,16 @@ pub fn put_whole(out: &mut [u8], at: usize, z: i32) -> usize
         return put_decimal(out, to, (0 - z) as u32);
     }
     put_decimal(out, at, z as u32)
+}
+
+// The bytes of `src` at the start of `dst`.
+pub fn copy(dst: &mut [u8], src: &[u8])
+    requires { ⌜ length (now src) ≤ length (now dst) ⌝ }
+    ensures { λ _. ⌜ now (dst .exit) ≡ now (src .entry) ++ drop (length (now (src .entry))) (now (dst .entry)) ⌝ }
+{
+    let mut i: usize = 0;
+    while i < src.len() {
+        dst[i] = src[i];
+        i += 1;
+    }
 }

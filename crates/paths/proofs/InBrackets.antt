@@ -10,7 +10,7 @@ use Rattle.model.specs.Base.{Bytes, text, _>>=_, after}
 use Rattle.model.specs.Paths.{inBrackets}
 use Rattle.model.proofs.Reading.{bind-some, some-same, after-some}
 use Rattle.lexical.proofs.Runs.{after-here}
-use Rattle.paths.proofs.Readers.{leaves-word, word-taken, leaves-some, leaves-bind}
+use Rattle.lexical.proofs.Readers.{leaves-word, word-taken, leaves-some, leaves-bind}
 
 module _ {A : Type 0} (inner : Reader ℕ A) where
   -- ── By positions ──

@@ -1,4 +1,2 @@
 pub mod Layout
 pub mod Fields
-pub mod Steps
-pub mod Environments

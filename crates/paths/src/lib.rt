@@ -1,7 +1,3 @@
-// Paths of fields and of a policy in slots of bytes: read, spelled, ordered, matched, and in conflict or not.
-pub mod conflict;
+// Names and fields' paths in slots of bytes: read, spelled and ordered.
 pub mod field;
 pub mod layout;
-pub mod matching;
-pub mod policy;
-pub mod step;

@@ -8,7 +8,7 @@ use Rattle.rows.proofs.Positions.{placed-reads, placed-none, none-placed, reads
 use Rattle.model.specs.Base.{Bytes, _>>=_}
 use Rattle.model.proofs.Lists.{none-some}
 use Rattle.model.proofs.Reading.{bind-some, some-same}
-use Rattle.paths.proofs.Readers.{leaves-bind, leaves-some}
+use Rattle.lexical.proofs.Readers.{leaves-bind, leaves-some}
 use Rattle.reader.specs.Tokens.{mapped}
 
 module _ {A B : Type 0} (g : A → B) (f : Reader ℕ A) where

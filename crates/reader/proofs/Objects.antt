@@ -16,7 +16,7 @@ use Rattle.lexical.specs.declared.value.ValueAt.{ValueAt}
 use Rattle.lexical.specs.declared.value.ValueAt.the-variants as value-at
 use Rattle.lexical.specs.Scalars.{valueIn, valueAnswer}
 use Rattle.lexical.proofs.Runs.{bind-same, bind-bind}
-use Rattle.paths.proofs.Readers.{rest-on, leaves-or, leaves-bind, leaves-some}
+use Rattle.lexical.proofs.Readers.{rest-on, leaves-or, leaves-bind, leaves-some}
 use Rattle.reader.specs.Tokens.{readToken, readScalar, readMember, mapped}
 use Rattle.reader.proofs.Spaced.{scalar-leaves, token-none, token-some, token-rest, token-then, scalar-bad, scalar-reads, member-leaves, member-moves}
 use Rattle.reader.proofs.Mapped.{mapped-none, mapped-is}

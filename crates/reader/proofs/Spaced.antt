@@ -25,7 +25,7 @@ use Rattle.lexical.specs.Scalars.{valueIn, valueAnswer}
 use Rattle.lexical.proofs.Runs.{span-at, after-here, rest-of, bind-same, bind-bind, check-bind}
 use Rattle.lexical.proofs.Between.{Stands, Quoted, between-gives, between-leaves, quoted-between}
 use Rattle.lexical.proofs.Values.{told, value-leaves}
-use Rattle.paths.proofs.Readers.{rest-on, leaves-bind, leaves-word, leaves-some}
+use Rattle.lexical.proofs.Readers.{rest-on, leaves-bind, leaves-word, leaves-some}
 use Rattle.reader.specs.Tokens.{readToken, readScalar, readMember, endAnswer, keyAnswer, MemberInText}
 use Rattle.reader.specs.declared.tokens.KeyAt.{KeyAt}
 use Rattle.reader.specs.declared.tokens.KeyAt.the-variants as key-at

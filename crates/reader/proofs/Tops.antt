@@ -10,7 +10,7 @@ use Rattle.rows.proofs.Positions.{here, over}
 use Rattle.model.specs.Base.{Bytes, text, _==_, _>>=_, _>>_, _<|>_, check}
 use Rattle.model.specs.Limits.{maxDepth}
 use Rattle.model.specs.RecordText.{Members, noMembers, isBlank, token, readObject, readEmpty, treeOf}
-use Rattle.paths.proofs.Readers.{leaves-or, leaves-some}
+use Rattle.lexical.proofs.Readers.{leaves-or, leaves-some}
 use Rattle.reader.specs.Tokens.{readToken, mapped, readTop}
 use Rattle.reader.proofs.Spaced.{skip-at, token-none, token-some, token-then}
 use Rattle.reader.proofs.Mapped.{mapped-none, mapped-is}

@@ -1,10 +1,10 @@
 // A slot of 138 bytes: a path (103 bytes), how long the value's text is (one byte), and room for the text (34 bytes).
-use crate::table::copy;
 use crate::table::store;
 use lexical::value::Scalar;
 use lexical::value::ValueAt;
 use lexical::value::put_value;
 use lexical::value::value_at;
+use lexical::write::copy;
 use paths::layout::count;
 ghost use mathlib.Core.Path.{_≡_};
 ghost use Prim.Native.Nat.{_≤_, min};

@@ -1,5 +1,6 @@
 // A table of 256 slots of 138 bytes, sorted by path: the slots before the first empty one are in use.
 use lexical::slice::Order;
+use lexical::write::copy;
 use paths::field::compare_paths;
 ghost use mathlib.Core.Path.{_≡_};
 ghost use mathlib.Core.Bool.{false};
@@ -88,18 +89,6 @@ fn shift(tail: &mut [u8])
     while SLOT < i {
         i -= 1;
         tail[i] = tail[i - SLOT];
-    }
-}
-
-// The bytes of `src` at the start of `dst`.
-pub fn copy(dst: &mut [u8], src: &[u8])
-    requires { ⌜ length (now src) ≤ length (now dst) ⌝ }
-    ensures { λ _. ⌜ now (dst .exit) ≡ now (src .entry) ++ drop (length (now (src .entry))) (now (dst .entry)) ⌝ }
-{
-    let mut i: usize = 0;
-    while i < src.len() {
-        dst[i] = src[i];
-        i += 1;
     }
 }
 

@@ -1,5 +1,5 @@
 -- The row of a step has the length that `admits` asks for.
-use Rattle.paths.proofs.StepRows.{row-length}
+use Rattle.steps.proofs.StepRows.{row-length}
 use borrow.Author.Needs.{needs}
 use Rattle.leaves.proofs.slots.matched.Statement.{statement}
 use Rattle.leaves.proofs.slots.matched.Tie as tie

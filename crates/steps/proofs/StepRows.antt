@@ -1,0 +1,46 @@
+-- A step in its row, the byte of its kind and the names: how it is written, and how it is read back.
+use Prim.Native.Nat.{ℕ, suc, _+_, _*_, _-_, _≤_}
+use mathlib.Core.Path.{_≡_, refl, ap, _∙_}
+use mathlib.Core.List.{_∷_, append-nil}
+use native.Mathlib.Omega.{arith}
+use lib.ListN.{length, getD, take, drop}
+use lib.Seq.{take-all}
+use Rattle.rows.specs.Rows.{written}
+use Rattle.rows.proofs.Writing.{written-clipped}
+use Rattle.rows.proofs.Positions.{over}
+use Rattle.rows.proofs.Parts.{tail-part, length-part}
+use Rattle.model.specs.Base.{Bytes}
+use Rattle.steps.specs.declared.step.Operator.the-variants.{Equals, In}
+use Rattle.steps.specs.declared.step.Kind.{Kind}
+use Rattle.steps.specs.declared.step.Kind.the-variants.{Names, Wildcard, Environment}
+use Rattle.steps.specs.declared.step.Step as code
+use Rattle.steps.specs.Steps.{namesIn, byKind, byteOf, kindOf, stepIn, stepOf}
+
+-- the i-th row of a slot
+pub row-length : (s : Bytes) (i : ℕ) {row : Bytes} → i * 70 + 71 ≤ length s → row ≡ take 70 (drop (i * 70 + 1) s) → length row ≡ 70
+row-length s i h e = ap length e ∙ length-part (i * 70 + 1) 70 s (omega arith)
+
+-- a row that is written whole: a byte and the k bytes behind it
+pub row-filled : (k b : ℕ) (xs row : Bytes) → length xs ≡ k → length row ≡ suc k → written 0 (b ∷ take k xs) row ≡ b ∷ xs
+row-filled k b xs row h l =
+    let all = take-all (length row - 0) (b ∷ xs) (omega arith) in
+    let none = over row (0 + length (b ∷ xs)) (omega arith) in
+    rw (take-all k xs (omega arith), written-clipped, all, none) (append-nil (b ∷ xs))
+
+-- the byte of a kind says the kind
+kind-said : (k : Kind) → kindOf (byteOf k) ≡ k
+kind-said Names = refl
+kind-said Wildcard = refl
+kind-said (Environment Equals) = refl
+kind-said (Environment In) = refl
+
+-- a step that was written into a row is read back
+pub step-written : (t : code.Step) → stepIn (byteOf (t .kind) ∷ t .names) ≡ stepOf t
+unfolding stepIn stepOf
+step-written t = rw (kind-said (t .kind))
+
+-- the step of a row whose first byte was matched with a kind: the names are the part behind that byte
+pub step-told : (row : Bytes) {r k : Kind} → r ≡ kindOf (getD row 0 0) → r ≡ k
+    → stepIn row ≡ byKind k (namesIn (take (length row - 1) (drop 1 row)))
+unfolding stepIn
+step-told row e t = rw (tail-part 1 row, ← e, t)

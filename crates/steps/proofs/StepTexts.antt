@@ -1,0 +1,119 @@
+-- The texts of a policy path: names with commas between, a step, and how long they are.
+use Prim.Native.Nat.{ℕ, zero, suc, _+_, _*_, _≤_, _<_, min}
+use mathlib.Core.Path.{_≡_, refl, sym, ap, _∙_}
+use mathlib.Core.List.{List, [], _∷_, _++_, map, map-map, map-append, append-assoc}
+use native.Mathlib.Nat.{mul-le-mul-right}
+use native.Mathlib.Omega.{arith}
+use lib.Dec.{ltb}
+use lib.ListN.{length, getD, take, drop, length-take, length-append, length-map, List·getD-eq-default}
+use borrow.Author.Tests.{ltb-true, ltb-false}
+use Rattle.rows.specs.Rows.{rows}
+use Rattle.rows.proofs.Rows.{length-rows}
+use Rattle.model.specs.Base.{Bytes, text, between}
+use Rattle.model.specs.Paths.{Operator, environment, operatorText, nameText, stepText}
+use Rattle.model.proofs.Lists.{by-cases}
+use Rattle.paths.specs.Layout.{nameIn, counted}
+use Rattle.steps.specs.declared.step.Operator.the-variants.{Equals, In}
+use Rattle.steps.specs.declared.step.Kind.{Kind}
+use Rattle.steps.specs.declared.step.Kind.the-variants.{Names, Wildcard, Environment}
+use Rattle.steps.specs.Steps.{namesIn, byKind, kindOf, stepIn, spelledNames}
+use Rattle.paths.proofs.Counted.{length-counted, counted-at, counted-more, counted-all}
+use Rattle.paths.proofs.Spelled.{name-length}
+use Rattle.steps.proofs.StepRows.{step-told}
+
+-- ── Texts with a text between each two ──
+-- what stands before the text at the place i: nothing before the first
+abbrev pub divider : Bytes → ℕ → Bytes
+divider c zero = []
+divider c (suc i) = c
+
+module _ (c : Bytes) where
+  pub divider-some : (i : ℕ) → 0 < i → divider c i ≡ c
+  divider-some zero h = absurd (omega arith)
+  divider-some (suc i) h = refl
+
+  pub divider-none : (i : ℕ) → i ≤ 0 → divider c i ≡ []
+  divider-none zero h = refl
+  divider-none (suc i) h = absurd (omega arith)
+
+  regroup : (y b d x : Bytes) → y ++ (c ++ (b ++ d ++ x)) ≡ y ++ (c ++ b) ++ d ++ x
+  regroup y b d x = simp append-assoc
+
+  -- one text more
+  between-more : (xs : List Bytes) (x : Bytes) → between c (xs ++ x ∷ []) ≡ between c xs ++ divider c (length xs) ++ x
+  unfolding between
+  between-more [] x = refl
+  between-more (y ∷ []) x = sym (append-assoc y c x)
+  between-more (y ∷ (z ∷ xs)) x = ap (λ (r : Bytes). y ++ (c ++ r)) (between-more (z ∷ xs) x) ∙ regroup y (between c (z ∷ xs)) c x
+
+-- where each, with what stands between, has at most b bytes
+module _ (c : Bytes) (b : ℕ) (spell : Bytes → Bytes) (short : (r : Bytes) → length (spell r) + length c ≤ b) where
+  between-length : (rs : List Bytes) → length (between c (map spell rs)) ≤ length rs * b
+  unfolding between
+  between-length [] = omega arith
+  between-length (r ∷ []) = omega (arith, short r)
+  between-length (r ∷ (s ∷ rs)) = simp length-append (omega (arith, short r, between-length (s ∷ rs)))
+
+-- ── Names ──
+-- the first i of the names in a slot, and one more
+pub names-step : (s : Bytes) (i : ℕ) → i < min (getD s 0 0) 4
+    → spelledNames (take (i + 1) (namesIn s))
+    ≡ spelledNames (take i (namesIn s)) ++ divider (text ",") i ++ nameText (nameIn (take 17 (drop (i * 17 + 1) s)))
+unfolding spelledNames namesIn
+names-step s i h =
+    let ns = counted nameIn 17 4 s in
+    let l : i < length ns = rw length-counted h in
+    let n : length (map nameText (take i ns)) ≡ i = simp (length-map, length-take) (omega arith) in
+    rw (counted-more nameIn 17 4 s i h, map-append, between-more, n)
+
+-- all of them
+pub names-all : (s : Bytes) (i : ℕ) → min (getD s 0 0) 4 ≤ i → take i (namesIn s) ≡ namesIn s
+unfolding namesIn
+names-all s i h = counted-all nameIn 17 4 s i h
+
+-- at most four names of at most 16 bytes, in quotes, with commas between
+pub names-length : (s : Bytes) → length (spelledNames (namesIn s)) ≤ 76
+unfolding spelledNames namesIn counted nameText text
+names-length s =
+    let n = min (getD s 0 0) 4 in
+    let rs = take n (rows 17 4 (drop 1 s)) in
+    let l : length rs ≤ 4 = simp (length-take, length-rows) (omega arith) in
+    rw (map-map nameText nameIn) (omega (arith, between-length (text ",") 19 (λ r. nameText (nameIn r)) short rs, mul-le-mul-right 19 l))
+  where
+    short : (r : Bytes) → length (nameText (nameIn r)) + length (text ",") ≤ 19
+    short r = simp length-append (omega (arith, name-length _ r refl))
+
+-- the first of them, if there is one
+module _ (s : Bytes) where
+  pub first-name : 0 < min (getD s 0 0) 4 → getD (namesIn s) 0 [] ≡ nameIn (take 17 (drop 1 s))
+  unfolding namesIn
+  first-name h = counted-at nameIn 17 4 s 0 [] h
+
+  pub first-none : min (getD s 0 0) 4 ≤ 0 → getD (namesIn s) 0 [] ≡ []
+  unfolding namesIn
+  first-none h = List·getD-eq-default (counted nameIn 17 4 s) [] (rw length-counted h)
+
+  first-length : length (getD (namesIn s) 0 []) ≤ 16
+  first-length = by-cases (ltb 0 (min (getD s 0 0) 4))
+      (λ e. name-length _ _ (first-name (ltb-true _ _ e)))
+      (λ e. rw (first-none (ltb-false _ _ e)) (omega arith))
+
+-- ── Steps ──
+-- what stands before the name of an environment step
+unfoldable pub opened : Operator → Bytes
+opened o = text "[" ++ operatorText o
+
+pub environment-text : (o : Operator) (n : Bytes) → stepText (environment o n) ≡ opened o ++ (n ++ text "]")
+unfolding stepText opened
+environment-text o n = sym (append-assoc (text "[") (operatorText o) (n ++ text "]"))
+
+-- a step has at most 78 bytes, the longest one four names
+kind-length : (k : Kind) (s : Bytes) → length (stepText (byKind k (namesIn s))) ≤ 78
+unfolding stepText operatorText text
+kind-length Names s = unfold spelledNames in simp length-append (omega (arith, names-length s))
+kind-length Wildcard s = omega arith
+kind-length (Environment Equals) s = simp length-append (omega (arith, first-length s))
+kind-length (Environment In) s = simp length-append (omega (arith, first-length s))
+
+pub step-length : (row : Bytes) → length (stepText (stepIn row)) ≤ 78
+step-length row = rw (step-told row refl refl) (kind-length (kindOf (getD row 0 0)) _)

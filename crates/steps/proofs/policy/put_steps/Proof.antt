@@ -1,0 +1,86 @@
+-- Before each turn the steps so far are written behind the first byte, each with at most 78 bytes.
+use Prim.Native.Nat.{_+_, _*_, _-_, _≤_}
+use mathlib.Core.Path.{_≡_, refl}
+use native.Mathlib.Omega.{arith}
+use borrow.Author.Needs.{needs}
+use lib.ListN.{length}
+use Rattle.rows.specs.Rows.{Wrote}
+use Rattle.rows.proofs.Parts.{length-part}
+use Rattle.model.specs.Base.{text, joined}
+use Rattle.model.specs.Paths.{stepText, stepsText}
+use Rattle.lexical.proofs.Writers.{wrote-both}
+use Rattle.steps.specs.Steps.{stepIn, stepsIn}
+use Rattle.paths.proofs.Spelled.{spelled, wrote-none, spelled-step, spelled-all}
+use Rattle.steps.proofs.StepTexts.{step-length}
+use Rattle.steps.proofs.policy.put_steps.Statement.{statement}
+use Rattle.steps.proofs.policy.put_steps.Tie as tie
+
+abbrev Inv-loop : tie.InvT-loop
+Inv-loop out₀ at slot n to₀ i₀ out to i =
+    (i ≤ n) × (to ≤ to₀ + 78 * i) × (length out ≡ length out₀) × Wrote to₀ (spelled stepIn 70 6 stepText slot i) out₀ to out
+
+abbrev μ-loop : tie.MeasureT-loop
+μ-loop out₀ at slot n to₀ i₀ out to i = n - i
+
+count-requires : tie.Need-count-requires Inv-loop μ-loop
+count-requires c κs = search needs
+
+put-byte-requires : tie.Need-put-byte-requires Inv-loop μ-loop
+put-byte-requires c κs = search needs
+
+loop-holds : tie.Need-loop-holds Inv-loop μ-loop
+unfolding joined
+loop-holds c = (search needs, search needs, refl, wrote-none _ _)
+
+row-requires : tie.Need-row-requires Inv-loop μ-loop
+row-requires c κs = search needs
+
+put-step-requires : tie.Need-put-step-requires Inv-loop μ-loop
+put-step-requires c κs =
+    let l = c .before .before .before .loop in
+    let s = c .before .before .before .before .before .before .before .before .before .before .before .args .slot .now in
+    (rw (c .row .ensures) (length-part (l .i * 70 + 1) 70 s (search needs)), search needs)
+
+add-i : tie.Need-add-i Inv-loop μ-loop
+add-i c = search needs
+
+loop-less : tie.Need-loop-less Inv-loop μ-loop
+loop-less c = search needs
+
+loop-again : tie.Need-loop-again Inv-loop μ-loop
+loop-again c =
+    let l = c .before .before .before .before .before .before .loop in
+    let s = c .before .before .before .before .before .before .before .before .before .before .before .before .before .before .args .slot .now in
+    let row = c .before .before .before .row in
+    let put = c .before .before .put-step .ensures in
+    let k = step-length (row .result .now) in
+    let all = wrote-both _ _ _ _ _ _ _ _ (l .inv .3) put in
+    (search needs, omega arith, search needs, rw (spelled-step stepIn 70 6 stepText s (l .i) (search needs), ← row .ensures) all)
+
+same-length : tie.Need-same-length Inv-loop μ-loop
+same-length c = search needs
+
+returns : tie.Need-returns Inv-loop μ-loop
+unfolding stepsIn stepsText text
+returns c =
+    let l = c .before .loop in
+    let s = c .before .before .before .before .before .before .before .before .before .args .slot .now in
+    rw (← spelled-all stepIn 70 6 stepText s (l .i) (search needs))
+    (wrote-both _ _ _ _ _ _ _ _ (c .before .before .before .before .put-byte .ensures) (l .inv .3))
+
+pub put-steps-spec : {M : Type 1} → statement M
+put-steps-spec =
+    tie.close
+    (tie.spec
+    Inv-loop
+    μ-loop
+    count-requires
+    put-byte-requires
+    loop-holds
+    row-requires
+    put-step-requires
+    add-i
+    loop-less
+    loop-again
+    same-length
+    returns)

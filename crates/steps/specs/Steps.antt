@@ -1,0 +1,72 @@
+-- What a step of the code means, and the answers of its readers.
+use Prim.Native.Nat.{ℕ}
+use mathlib.Core.Option.{Option, none, some}
+use mathlib.Core.List.{List, [], map}
+use lib.Dec.{eqb}
+use lib.ListN.{getD, drop}
+use Rattle.model.specs.Base.{Bytes, text, if_then_else_, _>>=_, _>>_, check, after, span, between}
+use Rattle.model.specs.Limits.{maxListed, maxDepth}
+use Rattle.model.specs.Names.{plainByte, isPlain}
+use Rattle.model.specs.Paths.{Step, names, wildcard, environment, nameText}
+use Rattle.model.specs.Paths as paths
+use Rattle.paths.specs.Layout.{nameIn, counted}
+use Rattle.steps.specs.declared.step.Operator.{Operator}
+use Rattle.steps.specs.declared.step.Operator.the-variants.{Equals, In}
+use Rattle.steps.specs.declared.step.Kind.{Kind}
+use Rattle.steps.specs.declared.step.Kind.the-variants.{Names, Wildcard, Environment}
+use Rattle.steps.specs.declared.step.Step as code
+use Rattle.steps.specs.declared.step.StepRead.{StepRead}
+use Rattle.steps.specs.declared.policy.StepsRead.{StepsRead}
+
+abbrev pub operatorOf : Operator → paths.Operator
+operatorOf Equals = paths.equals
+operatorOf In = paths.isIn
+
+-- at most four names
+unfoldable pub namesIn : Bytes → List Bytes
+namesIn s = counted nameIn 17 maxListed s
+
+-- a step, from its kind and the names beside it
+abbrev pub byKind : Kind → List Bytes → Step
+byKind Names ns = names ns
+byKind Wildcard ns = wildcard
+byKind (Environment o) ns = environment (operatorOf o) (getD ns 0 [])
+
+-- the byte that says a kind, and the kind that a byte says
+abbrev pub byteOf : Kind → ℕ
+byteOf Names = 0
+byteOf Wildcard = 1
+byteOf (Environment Equals) = 2
+byteOf (Environment In) = 3
+
+abbrev pub kindOf : ℕ → Kind
+kindOf b = if eqb b 1 then Wildcard else if eqb b 2 then Environment Equals else if eqb b 3 then Environment In else Names
+
+-- a step in its row: the byte of its kind, and the names
+unfoldable pub stepIn : Bytes → Step
+stepIn row = byKind (kindOf (getD row 0 0)) (namesIn (drop 1 row))
+
+-- a policy path: rows of 70 bytes
+unfoldable pub stepsIn : Bytes → paths.Steps
+stepsIn s = counted stepIn 70 maxDepth s
+
+-- names in single quotes with commas between
+unfoldable pub spelledNames : List Bytes → Bytes
+spelledNames ns = between (text ",") (map nameText ns)
+
+unfoldable pub stepOf : code.Step → Step
+stepOf t = byKind (t .kind) (namesIn (t .names))
+
+-- a word and a plain name behind it: an environment step, if the word is that of its operator
+unfoldable pub readBehind : Bytes → paths.Operator → Bytes → Option (Step × Bytes)
+readBehind w o s = do
+  s₁ ← after w s
+  let (n, r) = span plainByte s₁
+  check (isPlain n)
+  some (environment o n, r)
+
+abbrev pub stepAnswer : StepRead → Option (Step × ℕ)
+stepAnswer r = if r .ok then some (stepOf (r .step), r .to) else none
+
+abbrev pub stepsAnswer : StepsRead → Option paths.Steps
+stepsAnswer r = if r .ok then some (stepsIn (r .slot)) else none

@@ -1,0 +1,235 @@
+// Steps of a policy path: lists of names, wildcards and environment steps, read in every spelling.
+use lexical::class::Class;
+use lexical::class::End;
+use lexical::class::between;
+use lexical::class::is_digit;
+use lexical::class::run;
+use lexical::slice::starts;
+use paths::layout::push_name;
+ghost use mathlib.Core.Path.{_≡_};
+ghost use mathlib.Core.Option.{none, some};
+ghost use mathlib.Core.List.{[], _∷_};
+ghost use Prim.Native.Nat.{_≤_};
+ghost use lib.ListN.{length, take};
+ghost use Rattle.rows.specs.Positions.{placed};
+ghost use Rattle.model.specs.Paths.{readEither, inBrackets, readWildcard, readIdentifier, readDotted, readList, readSelector, readStep};
+ghost use Rattle.lexical.specs.Classes.{textAnswer};
+ghost use Rattle.steps.specs.Steps.{operatorOf, namesIn, byKind, readBehind, stepAnswer};
+
+pub enum Operator {
+    Equals,
+    In,
+}
+
+pub enum Kind {
+    Names,
+    Wildcard,
+    Environment(Operator),
+}
+
+// The names of a list, or the one of an environment step, stand beside the kind: how many, and four rows.
+pub struct Step {
+    pub kind: Kind,
+    pub names: [u8; 69],
+}
+
+pub struct StepRead {
+    pub ok: bool,
+    pub to: usize,
+    pub step: Step,
+}
+
+// A slot of one name.
+pub fn one_name(name: &[u8]) -> [u8; 69]
+    ensures { λ r. ⌜ namesIn r ≡ take 16 (now (name .entry)) ∷ [] ⌝ }
+{
+    let mut names = [0u8; 69];
+    push_name(&mut names, name, 4);
+    names
+}
+
+// A step that was read up to `to`.
+fn found(to: usize, kind: Kind, names: [u8; 69]) -> StepRead
+    ensures { λ r. ⌜ stepAnswer r ≡ some (byKind kind (namesIn names), to) ⌝ }
+{
+    let step = Step {
+        kind: kind,
+        names: names,
+    };
+    StepRead {
+        ok: true,
+        to: to,
+        step: step,
+    }
+}
+
+fn no_step() -> StepRead
+    ensures { λ r. ⌜ stepAnswer r ≡ none ⌝ }
+{
+    let step = Step {
+        kind: Kind::Wildcard,
+        names: [0; 69],
+    };
+    StepRead {
+        ok: false,
+        to: 0,
+        step: step,
+    }
+}
+
+// Any key.
+fn wildcard_at(s: &[u8], at: usize) -> StepRead
+    requires { ⌜ at ≤ length (now s) ⌝ }
+    ensures { λ r. ⌜ stepAnswer r ≡ placed readWildcard (now (s .entry)) at ⌝ }
+{
+    if starts(s, at, b"*") {
+        return found(at + 1, Kind::Wildcard, [0; 69]);
+    }
+    no_step()
+}
+
+// An identifier of 1 to 16 bytes that begins with no digit.
+fn identifier_at(s: &[u8], at: usize) -> StepRead
+    requires { ⌜ at ≤ length (now s) ⌝ }
+    ensures { λ r. ⌜ stepAnswer r ≡ placed readIdentifier (now (s .entry)) at ⌝ }
+{
+    let to = run(s, at, Class::Identifier);
+    if to - at < 1 {
+        return no_step();
+    }
+    if 16 < to - at {
+        return no_step();
+    }
+    if is_digit(s[at]) {
+        return no_step();
+    }
+    let names = one_name(&s[at..to]);
+    found(to, Kind::Names, names)
+}
+
+// A word, and the plain name of an environment step behind it.
+fn environment_at(s: &[u8], at: usize, word: &[u8], operator: Operator) -> StepRead
+    requires { ⌜ at ≤ length (now s) ⌝ }
+    ensures { λ r. ⌜ stepAnswer r ≡ placed (readBehind (now (word .entry)) (operatorOf operator)) (now (s .entry)) at ⌝ }
+{
+    if !starts(s, at, word) {
+        return no_step();
+    }
+    let from = at + word.len();
+    let to = run(s, from, Class::Plain);
+    if to - from < 1 {
+        return no_step();
+    }
+    if 16 < to - from {
+        return no_step();
+    }
+    let names = one_name(&s[from..to]);
+    found(to, Kind::Environment(operator), names)
+}
+
+// A name in either quote: where the closing one ends.
+fn either_at(s: &[u8], at: usize) -> End
+    requires { ⌜ at ≤ length (now s) ⌝ }
+    ensures { λ r. ⌜ textAnswer (now (s .entry)) at r ≡ placed readEither (now (s .entry)) at ⌝ }
+{
+    if let End::At(e) = between(s, at, b'\'', Class::Name, 1, 16) {
+        return End::At(e);
+    }
+    between(s, at, b'"', Class::Name, 1, 16)
+}
+
+// One to four names with commas between.
+fn list_at(s: &[u8], at: usize) -> StepRead
+    requires { ⌜ at ≤ length (now s) ⌝ }
+    ensures { λ r. ⌜ stepAnswer r ≡ placed readList (now (s .entry)) at ⌝ }
+{
+    let mut names = [0u8; 69];
+    let mut from = at;
+    let mut n: usize = 0;
+    while n < 4 {
+        let End::At(e) = either_at(s, from) else {
+            return no_step();
+        };
+        let a = from + 1;
+        let b = e - 1;
+        push_name(&mut names, &s[a..b], 4);
+        if !starts(s, e, b",") {
+            return found(e, Kind::Names, names);
+        }
+        from = e + 1;
+        n += 1;
+    }
+    no_step()
+}
+
+// What a step has between brackets.
+fn selector_at(s: &[u8], at: usize) -> StepRead
+    requires { ⌜ at ≤ length (now s) ⌝ }
+    ensures { λ r. ⌜ stepAnswer r ≡ placed readSelector (now (s .entry)) at ⌝ }
+{
+    let any = wildcard_at(s, at);
+    if any.ok {
+        return any;
+    }
+    let equals = environment_at(s, at, b"=~", Operator::Equals);
+    if equals.ok {
+        return equals;
+    }
+    let inside = environment_at(s, at, b"in~", Operator::In);
+    if inside.ok {
+        return inside;
+    }
+    list_at(s, at)
+}
+
+// A wildcard or an identifier behind a dot.
+fn dotted_at(s: &[u8], at: usize) -> StepRead
+    requires { ⌜ at ≤ length (now s) ⌝ }
+    ensures { λ r. ⌜ stepAnswer r ≡ placed readDotted (now (s .entry)) at ⌝ }
+{
+    if !starts(s, at, b".") {
+        return no_step();
+    }
+    let from = at + 1;
+    let any = wildcard_at(s, from);
+    if any.ok {
+        return any;
+    }
+    identifier_at(s, from)
+}
+
+// A step in brackets.
+fn bracketed_at(s: &[u8], at: usize) -> StepRead
+    requires { ⌜ at ≤ length (now s) ⌝ }
+    ensures { λ r. ⌜ stepAnswer r ≡ placed (inBrackets readSelector) (now (s .entry)) at ⌝ }
+{
+    if !starts(s, at, b"[") {
+        return no_step();
+    }
+    let inner = selector_at(s, at + 1);
+    if !inner.ok {
+        return no_step();
+    }
+    let to = inner.to;
+    if !starts(s, to, b"]") {
+        return no_step();
+    }
+    let step = inner.step;
+    StepRead {
+        ok: true,
+        to: to + 1,
+        step: step,
+    }
+}
+
+// A step in any spelling.
+pub fn step_at(s: &[u8], at: usize) -> StepRead
+    requires { ⌜ at ≤ length (now s) ⌝ }
+    ensures { λ r. ⌜ stepAnswer r ≡ placed readStep (now (s .entry)) at ⌝ }
+{
+    let dotted = dotted_at(s, at);
+    if dotted.ok {
+        return dotted;
+    }
+    bracketed_at(s, at)
+}
