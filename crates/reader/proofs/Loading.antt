@@ -164,7 +164,7 @@ module _ (s : Bytes) where
 
   -- one with n fields
   module _ (n : ℕ) (h : readingOf s ≡ done n) where
-    tree : (m : Members) × (treeOf s ≡ some m) × (twice m ≡ false) × (count m ≡ n)
+    pub tree : (m : Members) × (treeOf s ≡ some m) × (twice m ≡ false) × (count m ≡ n)
     unfolding readingOf
     tree =
         let (m, t, r) = or-done (treeOf s) 8 _ n h in

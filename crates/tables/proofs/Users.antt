@@ -38,7 +38,7 @@ module _ (s : Bytes) {m : ℕ} (counted : m ≡ length (upTo isEmptyRow (rows 59
     pub user-inside : 19104 ≤ length s → i * 597 + 597 ≤ length s
     user-inside h = omega (arith, counted-within isEmptyRow userIn 597 maxUsers s counted)
 
-    user-left : {row : Bytes} → row ≡ take 597 (drop (i * 597) s) → drop i (usersIn s) ≡ userIn row ∷ drop (i + 1) (usersIn s)
+    pub user-left : {row : Bytes} → row ≡ take 597 (drop (i * 597) s) → drop i (usersIn s) ≡ userIn row ∷ drop (i + 1) (usersIn s)
     unfolding usersIn
     user-left is = row-left isEmptyRow userIn 597 maxUsers s counted i below is
 

@@ -1,0 +1,115 @@
+// One reader for the three tables.
+use crate::row::RowRead;
+use crate::row::add_binding;
+use crate::row::add_rule;
+use crate::row::add_user;
+use lines::count;
+use lines::has_column;
+use lines::until;
+use lines::value;
+ghost use mathlib.Core.Path.{_≡_};
+ghost use mathlib.Core.Bool.{_&&_};
+ghost use Prim.Native.Nat.{_≤_};
+ghost use lib.ListN.{length};
+ghost use Rattle.model.specs.Base.{all, among};
+ghost use Rattle.model.specs.Table.{split, under, sameLength, isHead, readRow, readTable, ended};
+ghost use Rattle.tables.specs.Memory.{tablesIn};
+ghost use Rattle.tabletext.specs.Reading.{rowAnswer, keptOr, tableOf, tableAnswer, tablesAsFar};
+
+pub enum Table {
+    Users,
+    Environments,
+    Policy,
+}
+
+// Read to its end, or the number and the line of a refusal.
+pub enum TableRead {
+    Done,
+    Refused(usize, usize),
+}
+
+// Whether a head has as many columns as a line names, and each of these.
+fn has_columns(columns: &[u8], head: &[u8]) -> bool
+    requires { ⌜ (length (now columns) ≤ 65536) × (length (now head) ≤ 65536) ⌝ }
+    ensures { λ r. ⌜ r ≡ (sameLength (split (now (head .entry))) (split (now (columns .entry))) && all (λ c. among c (split (now (head .entry)))) (split (now (columns .entry)))) ⌝ }
+{
+    let n = count(columns);
+    if count(head) != n {
+        return false;
+    }
+    let mut j: usize = 0;
+    while j < n {
+        if !has_column(head, value(columns, j)) {
+            return false;
+        }
+        j += 1;
+    }
+    true
+}
+
+// Whether a line has the columns of a table, each once, in any order.
+fn is_head(t: Table, head: &[u8]) -> bool
+    requires { ⌜ length (now head) ≤ 65536 ⌝ }
+    ensures { λ r. ⌜ r ≡ isHead (tableOf t) (split (now (head .entry))) ⌝ }
+{
+    match t {
+        Table::Users => has_columns(b"user;role;key;allowance", head),
+        Table::Environments => has_columns(b"user;name;value", head),
+        Table::Policy => has_columns(b"role;access;path", head),
+    }
+}
+
+// What a line adds to the tables.
+fn add_row(t: Table, tables: &mut [u8], head: &[u8], line: &[u8]) -> RowRead
+    requires { ⌜ (length (now tables) ≡ 47200) × (length (now head) ≤ 65536) ⌝ }
+    ensures { λ r. ⌜ r ≡ rowAnswer (tableOf t .row (under (split (now (head .entry))) (split (now (line .entry)))) (tablesIn (now (tables .entry)))) ⌝ }
+    ensures { λ r. ⌜ tablesIn (now (tables .exit)) ≡ keptOr (tablesIn (now (tables .entry))) (tableOf t .row (under (split (now (head .entry))) (split (now (line .entry)))) (tablesIn (now (tables .entry)))) ⌝ }
+{
+    match t {
+        Table::Users => add_user(&mut tables[..19104], head, line),
+        Table::Environments => add_binding(&mut tables[..19104], head, line),
+        Table::Policy => add_rule(&mut tables[19104..], head, line),
+    }
+}
+
+// The same, if the line has as many values as the head.
+fn read_row(t: Table, tables: &mut [u8], head: &[u8], line: &[u8]) -> RowRead
+    requires { ⌜ (length (now tables) ≡ 47200) × (length (now head) ≤ 65536) × (length (now line) ≤ 65536) ⌝ }
+    ensures { λ r. ⌜ r ≡ rowAnswer (readRow (tableOf t) (split (now (head .entry))) (tablesIn (now (tables .entry))) (ended (now (line .entry)))) ⌝ }
+    ensures { λ r. ⌜ tablesIn (now (tables .exit)) ≡ keptOr (tablesIn (now (tables .entry))) (readRow (tableOf t) (split (now (head .entry))) (tablesIn (now (tables .entry))) (ended (now (line .entry)))) ⌝ }
+{
+    if count(line) != count(head) {
+        return RowRead::Refused(2);
+    }
+    add_row(t, tables, head, line)
+}
+
+// A table's text into the tables: what the lines before a refusal added stays.
+pub fn read_table(t: Table, tables: &mut [u8], s: &[u8]) -> TableRead
+    requires { ⌜ (length (now tables) ≡ 47200) × (length (now s) ≤ 65536) ⌝ }
+    ensures { λ r. ⌜ r ≡ tableAnswer (readTable (tableOf t) (tablesIn (now (tables .entry))) (now (s .entry))) ⌝ }
+    ensures { λ r. ⌜ tablesIn (now (tables .exit)) ≡ tablesAsFar (tableOf t) (tablesIn (now (tables .entry))) (now (s .entry)) ⌝ }
+{
+    let end = until(s, 0, b'\n');
+    if end == s.len() {
+        return TableRead::Refused(1, 0);
+    }
+    let head = &s[..end];
+    if !is_head(t, head) {
+        return TableRead::Refused(1, 0);
+    }
+    let mut at = end + 1;
+    let mut n: usize = 2;
+    while at < s.len() {
+        let to = until(s, at, b'\n');
+        if to == s.len() {
+            return TableRead::Refused(2, n);
+        }
+        if let RowRead::Refused(e) = read_row(t, tables, head, &s[at..to]) {
+            return TableRead::Refused(e, n);
+        }
+        at = to + 1;
+        n += 1;
+    }
+    TableRead::Done
+}

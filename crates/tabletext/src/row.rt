@@ -1,0 +1,163 @@
+// What a line of values adds to a table, or the number of its refusal.
+use lexical::class::is_key;
+use lexical::class::is_name;
+use lexical::class::is_plain;
+use lexical::number::Natural;
+use lexical::number::number;
+use lexical::slice::same;
+use lines::value_under;
+use paths::layout::name_from;
+use steps::policy::read_steps;
+use tables::layout::RULE;
+use tables::layout::RULES;
+use tables::layout::USER;
+use tables::layout::USERS;
+use tables::layout::UserAt;
+use tables::layout::find_user;
+use tables::layout::row_count;
+use tables::push::push_binding;
+use tables::push::push_rule;
+use tables::push::push_user;
+ghost use mathlib.Core.Path.{_≡_};
+ghost use Prim.Native.Nat.{_≤_};
+ghost use lib.ListN.{length};
+ghost use Rattle.model.specs.Base.{any};
+ghost use Rattle.model.specs.Table.{split, under};
+ghost use Rattle.model.specs.Tables.{usersTable, environmentsTable, policyTable, sameBinding, accessOf};
+ghost use Rattle.steps.specs.Environments.{bindingsIn};
+ghost use Rattle.tables.specs.Memory.{usersIn, policyIn};
+ghost use Rattle.tabletext.specs.Reading.{accessAnswer, rowAnswer, keptOr};
+
+pub enum RowRead {
+    Done,
+    Refused(usize),
+}
+
+pub enum AccessRead {
+    Is(u8),
+    Bad,
+}
+
+// A user.
+pub fn add_user(users: &mut [u8], head: &[u8], line: &[u8]) -> RowRead
+    requires { ⌜ (length (now users) ≡ 19104) × (length (now head) ≤ 65536) ⌝ }
+    ensures { λ r. ⌜ r ≡ rowAnswer (usersTable .row (under (split (now (head .entry))) (split (now (line .entry)))) (usersIn (now (users .entry)))) ⌝ }
+    ensures { λ r. ⌜ usersIn (now (users .exit)) ≡ keptOr (usersIn (now (users .entry))) (usersTable .row (under (split (now (head .entry))) (split (now (line .entry)))) (usersIn (now (users .entry)))) ⌝ }
+{
+    let name = value_under(head, line, b"user");
+    let role = value_under(head, line, b"role");
+    let key = value_under(head, line, b"key");
+    if !is_name(name) {
+        return RowRead::Refused(2);
+    }
+    if !is_name(role) {
+        return RowRead::Refused(2);
+    }
+    if !is_name(key) {
+        return RowRead::Refused(2);
+    }
+    if same(role, b"*") {
+        return RowRead::Refused(2);
+    }
+    let Natural::Is(quota) = number(value_under(head, line, b"allowance"), 256) else {
+        return RowRead::Refused(2);
+    };
+    if let UserAt::At(_) = find_user(users, name) {
+        return RowRead::Refused(6);
+    }
+    if USERS <= row_count(users, USER, USERS) {
+        return RowRead::Refused(4);
+    }
+    push_user(users, name, role, key, quota as u16);
+    RowRead::Done
+}
+
+// Whether a user's environment lines have this one.
+fn has_binding(lines: &[u8], name: &[u8], value: &[u8]) -> bool
+    requires { ⌜ length (now lines) ≡ 544 ⌝ }
+    ensures { λ r. ⌜ r ≡ any (sameBinding (record { name = now (name .entry); value = now (value .entry) })) (bindingsIn (now (lines .entry))) ⌝ }
+{
+    let n = row_count(lines, 34, 16);
+    let mut i: usize = 0;
+    while i < n {
+        let at = i * 34;
+        if same(name, name_from(lines, at)) {
+            if same(value, name_from(lines, at + 17)) {
+                return true;
+            }
+        }
+        i += 1;
+    }
+    false
+}
+
+// An environment line, which joins those of its user.
+pub fn add_binding(users: &mut [u8], head: &[u8], line: &[u8]) -> RowRead
+    requires { ⌜ (length (now users) ≡ 19104) × (length (now head) ≤ 65536) ⌝ }
+    ensures { λ r. ⌜ r ≡ rowAnswer (environmentsTable .row (under (split (now (head .entry))) (split (now (line .entry)))) (usersIn (now (users .entry)))) ⌝ }
+    ensures { λ r. ⌜ usersIn (now (users .exit)) ≡ keptOr (usersIn (now (users .entry))) (environmentsTable .row (under (split (now (head .entry))) (split (now (line .entry)))) (usersIn (now (users .entry)))) ⌝ }
+{
+    let user = value_under(head, line, b"user");
+    let name = value_under(head, line, b"name");
+    let value = value_under(head, line, b"value");
+    if !is_name(user) {
+        return RowRead::Refused(2);
+    }
+    if !is_plain(name) {
+        return RowRead::Refused(2);
+    }
+    if !is_key(value) {
+        return RowRead::Refused(2);
+    }
+    let UserAt::At(i) = find_user(users, user) else {
+        return RowRead::Refused(7);
+    };
+    let start = i * USER + 53;
+    let end = start + 544;
+    if has_binding(&users[start..end], name, value) {
+        return RowRead::Refused(6);
+    }
+    if 16 <= row_count(&users[start..end], 34, 16) {
+        return RowRead::Refused(4);
+    }
+    push_binding(&mut users[start..end], name, value);
+    RowRead::Done
+}
+
+// The byte of an access.
+fn access(s: &[u8]) -> AccessRead
+    ensures { λ r. ⌜ r ≡ accessAnswer (accessOf (now (s .entry))) ⌝ }
+{
+    if same(s, b"READ") {
+        return AccessRead::Is(0);
+    }
+    if same(s, b"WRITE") {
+        return AccessRead::Is(1);
+    }
+    AccessRead::Bad
+}
+
+// A policy line.
+pub fn add_rule(policy: &mut [u8], head: &[u8], line: &[u8]) -> RowRead
+    requires { ⌜ (length (now policy) ≡ 28096) × (length (now head) ≤ 65536) ⌝ }
+    ensures { λ r. ⌜ r ≡ rowAnswer (policyTable .row (under (split (now (head .entry))) (split (now (line .entry)))) (policyIn (now (policy .entry)))) ⌝ }
+    ensures { λ r. ⌜ policyIn (now (policy .exit)) ≡ keptOr (policyIn (now (policy .entry))) (policyTable .row (under (split (now (head .entry))) (split (now (line .entry)))) (policyIn (now (policy .entry)))) ⌝ }
+{
+    let role = value_under(head, line, b"role");
+    if !is_name(role) {
+        return RowRead::Refused(2);
+    }
+    let AccessRead::Is(b) = access(value_under(head, line, b"access")) else {
+        return RowRead::Refused(2);
+    };
+    let path = read_steps(value_under(head, line, b"path"));
+    if !path.ok {
+        return RowRead::Refused(3);
+    }
+    if RULES <= row_count(policy, RULE, RULES) {
+        return RowRead::Refused(4);
+    }
+    let slot = path.slot;
+    push_rule(policy, role, b, &slot);
+    RowRead::Done
+}
