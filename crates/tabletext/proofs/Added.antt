@@ -1,34 +1,32 @@
 -- What a line adds to a table, or the number of its refusal, from what its tests found.
-use Prim.Native.Nat.{ℕ, suc, _+_, _≤_, _<_}
-use mathlib.Core.Path.{_≡_, refl, sym, ap, _∙_}
+use Prim.Native.Nat.{ℕ, suc, _≤_, _<_}
+use mathlib.Core.Path.{_≡_, refl, sym, _∙_}
 use mathlib.Core.Option.{Option, none, some}
 use mathlib.Core.Bool.{Bool, true, false, not, _&&_}
 use mathlib.Core.List.{List, [], _∷_, _++_}
 use native.Mathlib.Omega.{arith}
 use borrow.Author.Tests.{le-leb, lt-leb, not-true, not-false}
-use lib.ListN.{length, take, set, length-append}
+use lib.ListN.{length, take, set}
 use lib.Seq.{take-all}
 use Rattle.model.specs.Base.{Bytes, text, any, firstFrom, isSome, _==_, number}
-use Rattle.model.specs.Limits.{maxUsers, maxQuota, maxBindings, maxRules}
+use Rattle.model.specs.Limits.{maxName, maxUsers, maxQuota, maxBindings, maxRules}
 use Rattle.model.specs.Names.{isName, isKey, isPlain}
 use Rattle.model.specs.Paths.{Steps, stepsOf}
-use Rattle.model.specs.Refusals.{Result, refused, done, _>>=_, _>>_, refuse_if_, _or_}
+use Rattle.model.specs.Refusals.{Result, refused, _>>=_, _>>_, refuse_if_, _or_}
 use Rattle.model.specs.Tables.{Binding, User, Access, READ, WRITE, Rule, userNamed, everyRole, usersTable, sameBinding, bound, environmentsTable, accessOf, policyTable}
 use Rattle.model.proofs.Lists.{by-cases, and-both}
-use Rattle.model.proofs.Spelling.{name-named, key-named}
+use Rattle.model.proofs.Spelling.{Named, name-named, key-named}
 use Rattle.rows.specs.Rows.{rows, upTo}
-use Rattle.steps.specs.Environments.{isEmptyRow, bindingIn, bindingsIn}
+use Rattle.steps.specs.Environments.{isEmptyRow}
 use Rattle.steps.specs.Steps.{stepsIn, stepsAnswer}
 use Rattle.steps.specs.declared.policy.StepsRead.{StepsRead}
-use Rattle.tables.specs.declared.layout.UserAt.{UserAt}
-use Rattle.tables.specs.declared.layout.UserAt.the-variants.{At, Unknown}
-use Rattle.tables.specs.Memory.{userIn, usersIn, accessIn, ruleIn, policyIn, userAnswer}
+use Rattle.tables.specs.Memory.{userIn, usersIn, accessIn, ruleIn, policyIn}
 use Rattle.tables.proofs.Tabled.{length-decoded}
 use Rattle.tabletext.specs.declared.row.RowRead.the-variants.{Done, Refused}
 use Rattle.tabletext.specs.declared.row.AccessRead.{AccessRead}
 use Rattle.tabletext.specs.declared.row.AccessRead.the-variants.{Is, Bad}
 use Rattle.tabletext.specs.Reading.{accessAnswer, rowAnswer, keptOr}
-use Rattle.tabletext.proofs.Bindings.{one-more}
+use Rattle.tabletext.proofs.Standing.{one-more}
 
 -- ── A test that the code negates: it failed, or it was passed ──
 pub failed : {a b : Bool} → b ≡ a → not b ≡ true → a ≡ false
@@ -42,30 +40,15 @@ pub refuses : {A : Type 0} (a : A) {x : Result ℕ A} {e : ℕ} → x ≡ refuse
 unfolding keptOr
 refuses a h = rw h (refl, refl)
 
--- ── Names: of 1 to 16 bytes ──
-pub name-some : (n : Bytes) → isName n ≡ true → 0 < length n
-name-some n h = name-named n h .low
+-- ── Names: none is empty, and none is cut ──
+pub plain-named : (n : Bytes) → isPlain n ≡ true → Named maxName n
+unfolding isPlain
+plain-named n h = name-named n (and-both _ _ h .0)
 
-name-whole : (n : Bytes) → isName n ≡ true → take 16 n ≡ n
-name-whole n h = take-all 16 n (name-named n h .high)
+whole : {n : Bytes} → Named 16 n → take 16 n ≡ n
+whole {n} h = take-all 16 n (h .high)
 
 -- ── Users ──
--- the user of the name n was looked for: there is none, or there is one at i
-module _ (us : List User) {m n : Bytes} (is : m ≡ n) {r : UserAt} (h : r ≡ userAnswer (userNamed m us)) where
-  pub user-unknown : r ≡ Unknown → userNamed n us ≡ none
-  user-unknown e = rw (← is) (go (userNamed m us) h)
-    where
-      go : (o : Option (ℕ × User)) → r ≡ userAnswer o → o ≡ none
-      go none h = refl
-      go (some t) h = let z : _≡_ {A = ℕ} 0 1 = cc in absurd (omega arith)
-
-  pub user-known : {i : ℕ} → r ≡ At i → (u : User) × (userNamed n us ≡ some (i, u))
-  user-known {i} e = rw (← is) (go (userNamed m us) h)
-    where
-      go : (o : Option (ℕ × User)) → r ≡ userAnswer o → (u : User) × (o ≡ some (i, u))
-      go none h = let z : _≡_ {A = ℕ} 0 1 = cc in absurd (omega arith)
-      go (some t) h = (t .1, let z : t .0 ≡ i = cc in rw z)
-
 pub users-counted : (s : Bytes) {m : ℕ} → m ≡ length (upTo isEmptyRow (rows 597 maxUsers s)) → m ≡ length (usersIn s)
 unfolding usersIn
 users-counted s h = h ∙ sym (length-decoded isEmptyRow userIn 597 maxUsers s)
@@ -100,34 +83,25 @@ module _ (val : Bytes → Bytes) (us : List User) where
         unfolding usersTable _>>_ _>>=_ refuse_if_ _or_ userNamed isSome
         user-doubled h = rw (names, one, q, any-first _ 0 us, h)
 
-        module _ (new : userNamed (val (text "user")) us ≡ none) where
-          -- there are m users
-          module _ {m : ℕ} (counted : m ≡ length us) where
-            pub user-full : maxUsers ≤ m → usersTable .row val us ≡ refused 4
-            unfolding usersTable _>>_ _>>=_ refuse_if_ _or_ userNamed isSome
-            user-full h = rw (names, one, q, any-first _ 0 us, new, ← counted, le-leb maxUsers m h)
+        -- there are m users
+        module _ (new : userNamed (val (text "user")) us ≡ none) {m : ℕ} (counted : m ≡ length us) where
+          pub user-full : maxUsers ≤ m → usersTable .row val us ≡ refused 4
+          unfolding usersTable _>>_ _>>=_ refuse_if_ _or_ userNamed isSome
+          user-full h = rw (names, one, q, any-first _ 0 us, new, ← counted, le-leb maxUsers m h)
 
-            -- the user that was pushed is the line's
-            pub user-added : {name role key : Bytes} {vs : List User}
-                → m < maxUsers → name ≡ val (text "user") → role ≡ val (text "role") → key ≡ val (text "key")
-                → vs ≡ take maxUsers (us ++ record { name = take 16 name; role = take 16 role; key = take 16 key; quota = quota; environment = [] } ∷ [])
-                → (Done ≡ rowAnswer (usersTable .row val us)) × (vs ≡ keptOr us (usersTable .row val us))
-            unfolding usersTable _>>_ _>>=_ refuse_if_ _or_ userNamed isSome keptOr
-            user-added h n r k e =
-                let (two, key) = and-both _ _ names in
-                let (name, role) = and-both _ _ two in
-                rw (names, one, q, any-first _ 0 us, new, ← counted, lt-leb maxUsers m h)
-                (refl, rw (e, one-more maxUsers us _ counted h, n, r, k, name-whole _ name, name-whole _ role, name-whole _ key))
+          -- the user that was pushed is the line's
+          pub user-added : {name role key : Bytes} {vs : List User}
+              → m < maxUsers → name ≡ val (text "user") → role ≡ val (text "role") → key ≡ val (text "key")
+              → vs ≡ take maxUsers (us ++ record { name = take 16 name; role = take 16 role; key = take 16 key; quota = quota; environment = [] } ∷ [])
+              → (Done ≡ rowAnswer (usersTable .row val us)) × (vs ≡ keptOr us (usersTable .row val us))
+          unfolding usersTable _>>_ _>>=_ refuse_if_ _or_ userNamed isSome keptOr
+          user-added h n r k e =
+              let (two, key) = and-both _ _ names in
+              let (name, role) = and-both _ _ two in
+              rw (names, one, q, any-first _ 0 us, new, ← counted, lt-leb maxUsers m h)
+              (refl, rw (e, one-more maxUsers us _ counted h, n, r, k, whole (name-named _ name), whole (name-named _ role), whole (name-named _ key)))
 
 -- ── Environment lines ──
-plain-name : (n : Bytes) → isPlain n ≡ true → isName n ≡ true
-unfolding isPlain
-plain-name n h = and-both _ _ h .0
-
--- a plain name is not empty
-pub plain-some : (n : Bytes) → isPlain n ≡ true → 0 < length n
-plain-some n h = name-some n (plain-name n h)
-
 module _ (val : Bytes → Bytes) where
   -- whether the line's user is a name, its name plain, and its value a key
   abbrev pub bindingNames : Bool
@@ -151,22 +125,21 @@ module _ (val : Bytes → Bytes) (us : List User) where
       unfolding environmentsTable _>>_ _>>=_ refuse_if_ _or_
       binding-doubled h = rw (names, found, h)
 
-      module _ (new : any (sameBinding (newBinding val)) (u .environment) ≡ false) where
-        -- there are m lines
-        module _ {m : ℕ} (counted : m ≡ length (u .environment)) where
-          pub binding-full : maxBindings ≤ m → environmentsTable .row val us ≡ refused 4
-          unfolding environmentsTable _>>_ _>>=_ refuse_if_ _or_
-          binding-full h = rw (names, found, new, ← counted, le-leb maxBindings m h)
+      -- there are m lines
+      module _ (new : any (sameBinding (newBinding val)) (u .environment) ≡ false) {m : ℕ} (counted : m ≡ length (u .environment)) where
+        pub binding-full : maxBindings ≤ m → environmentsTable .row val us ≡ refused 4
+        unfolding environmentsTable _>>_ _>>=_ refuse_if_ _or_
+        binding-full h = rw (names, found, new, ← counted, le-leb maxBindings m h)
 
-          -- the line that was pushed is this one
-          pub binding-added : {name value : Bytes} {vs : List User} → m < maxBindings → name ≡ val (text "name") → value ≡ val (text "value")
-              → vs ≡ set us i (bound u (record { name = take 16 name; value = take 16 value }))
-              → (Done ≡ rowAnswer (environmentsTable .row val us)) × (vs ≡ keptOr us (environmentsTable .row val us))
-          unfolding environmentsTable _>>_ _>>=_ refuse_if_ _or_ keptOr
-          binding-added h n v e =
-              let (two, value) = and-both _ _ names in
-              let name = plain-name (val (text "name")) (and-both (isName (val (text "user"))) _ two .1) in
-              rw (names, found, new, ← counted, lt-leb maxBindings m h) (refl, rw (e, n, v, name-whole _ name, take-all 16 (val (text "value")) (key-named _ value .high)))
+        -- the line that was pushed is this one
+        pub binding-added : {name value : Bytes} {vs : List User} → m < maxBindings → name ≡ val (text "name") → value ≡ val (text "value")
+            → vs ≡ set us i (bound u (record { name = take 16 name; value = take 16 value }))
+            → (Done ≡ rowAnswer (environmentsTable .row val us)) × (vs ≡ keptOr us (environmentsTable .row val us))
+        unfolding environmentsTable _>>_ _>>=_ refuse_if_ _or_ keptOr
+        binding-added h n v e =
+            let (two, value) = and-both _ _ names in
+            let name = and-both (isName (val (text "user"))) _ two .1 in
+            rw (names, found, new, ← counted, lt-leb maxBindings m h) (refl, rw (e, n, v, whole (plain-named _ name), whole (key-named _ value)))
 
 -- ── Policy ──
 -- what an answer says of an access
@@ -213,17 +186,16 @@ module _ (val : Bytes → Bytes) (rs : List Rule) where
       unfolding policyTable _>>_ _>>=_ refuse_if_ _or_
       rule-unread h = rw (role, access, h)
 
-      module _ {p : Steps} (path : stepsOf (val (text "path")) ≡ some p) where
-        -- there are m lines
-        module _ {m : ℕ} (counted : m ≡ length rs) where
-          pub rule-full : maxRules ≤ m → policyTable .row val rs ≡ refused 4
-          unfolding policyTable _>>_ _>>=_ refuse_if_ _or_
-          rule-full h = rw (role, access, path, ← counted, le-leb maxRules m h)
+      -- there are m lines
+      module _ {p : Steps} (path : stepsOf (val (text "path")) ≡ some p) {m : ℕ} (counted : m ≡ length rs) where
+        pub rule-full : maxRules ≤ m → policyTable .row val rs ≡ refused 4
+        unfolding policyTable _>>_ _>>=_ refuse_if_ _or_
+        rule-full h = rw (role, access, path, ← counted, le-leb maxRules m h)
 
-          -- the line that was pushed is this one
-          pub rule-added : {name : Bytes} {vs : List Rule} → m < maxRules → name ≡ val (text "role")
-              → vs ≡ take maxRules (rs ++ record { role = take 16 name; access = a; path = p } ∷ [])
-              → (Done ≡ rowAnswer (policyTable .row val rs)) × (vs ≡ keptOr rs (policyTable .row val rs))
-          unfolding policyTable _>>_ _>>=_ refuse_if_ _or_ keptOr
-          rule-added h n e =
-              rw (role, access, path, ← counted, lt-leb maxRules m h) (refl, rw (e, one-more maxRules rs _ counted h, n, name-whole _ role))
+        -- the line that was pushed is this one
+        pub rule-added : {name : Bytes} {vs : List Rule} → m < maxRules → name ≡ val (text "role")
+            → vs ≡ take maxRules (rs ++ record { role = take 16 name; access = a; path = p } ∷ [])
+            → (Done ≡ rowAnswer (policyTable .row val rs)) × (vs ≡ keptOr rs (policyTable .row val rs))
+        unfolding policyTable _>>_ _>>=_ refuse_if_ _or_ keptOr
+        rule-added h n e =
+            rw (role, access, path, ← counted, lt-leb maxRules m h) (refl, rw (e, one-more maxRules rs _ counted h, n, whole (name-named _ role)))

@@ -1,33 +1,19 @@
 -- A user's environment lines in memory: what a search for a line has left at each row.
-use Prim.Native.Nat.{ℕ, zero, suc, _+_, _*_, _-_, _≤_, _<_}
-use mathlib.Core.Path.{_≡_, refl, sym, ap, _∙_}
-use mathlib.Core.Bool.{Bool, true, false, _&&_, _||_}
-use mathlib.Core.Option.{Option, none, some}
-use mathlib.Core.List.{List, [], _∷_, _++_, append-assoc}
-use native.Mathlib.Nat.{add-sub-cancel-left, le-of-suc-le-suc}
+use Prim.Native.Nat.{ℕ, _+_, _*_, _≤_, _<_}
+use mathlib.Core.Path.{_≡_, refl}
+use mathlib.Core.Bool.{Bool, false, _&&_, _||_}
 use native.Mathlib.Omega.{arith}
-use lib.ListN.{length, getD, getElem?, take, drop, set, length-append, length-drop, take-append-drop, List·getD-append}
-use lib.Seq.{take-add, take-all, take-take, take-append-le, drop-drop, drop-at, drop-append-le, length-take-le}
-use Rattle.rows.specs.Rows.{rows, upTo, replaced}
-use Rattle.rows.proofs.Rows.{drop-take, row-at}
-use Rattle.rows.proofs.Table.{length-table, table-set}
-use Rattle.rows.proofs.Parts.{length-part}
-use Rattle.model.specs.Base.{Bytes, any, firstFrom, _==_}
-use Rattle.model.specs.Limits.{maxUsers, maxBindings}
-use Rattle.model.specs.Tables.{Binding, User, userAt, userNamed, sameBinding, bound}
-use Rattle.model.proofs.Lists.{by-cases, none-some, elem-below}
-use Rattle.model.proofs.Reading.{some-same}
+use lib.ListN.{length, take, drop}
+use lib.Seq.{take-take, drop-drop}
+use Rattle.rows.specs.Rows.{rows, upTo}
+use Rattle.rows.proofs.Rows.{drop-take}
+use Rattle.model.specs.Base.{Bytes, any, _==_}
+use Rattle.model.specs.Limits.{maxBindings}
+use Rattle.model.specs.Tables.{Binding, sameBinding}
 use Rattle.paths.specs.Layout.{nameIn}
 use Rattle.steps.specs.Environments.{isEmptyRow, bindingIn, bindingsIn}
-use Rattle.tables.specs.Memory.{userIn, usersIn}
-use Rattle.tables.proofs.Tabled.{length-decoded, counted-within, row-left, rows-over}
-use Rattle.tables.proofs.Users.{user-some}
+use Rattle.tables.proofs.Tabled.{counted-within, row-left, rows-over}
 
--- one more of at most n, of which there are m
-pub one-more : {A : Type 0} (n : ℕ) (xs : List A) (x : A) {m : ℕ} → m ≡ length xs → m < n → take n (xs ++ x ∷ []) ≡ xs ++ x ∷ []
-one-more n xs x e h = take-all n (xs ++ x ∷ []) (rw length-append (omega arith))
-
--- ── A search for a line ──
 -- m rows were counted
 module _ (s : Bytes) {m : ℕ} (counted : m ≡ length (upTo isEmptyRow (rows 34 maxBindings s))) (i : ℕ) where
   pub binding-inside : i < m → i * 34 + 34 ≤ 544
@@ -46,120 +32,3 @@ module _ (s : Bytes) {m : ℕ} (counted : m ≡ length (upTo isEmptyRow (rows 34
     pub binding-over : m ≤ i → any (sameBinding b) (drop i (bindingsIn s)) ≡ false
     unfolding bindingsIn any
     binding-over h = rw (rows-over isEmptyRow bindingIn 34 maxBindings s counted i h)
-
--- ── The row of a user: 53 bytes and the lines ──
-module _ (h : Bytes) (long : length h ≡ 53) where
-  user-parts : (ls : Bytes) → userIn (h ++ ls) ≡ record {
-    name = nameIn (take 17 h);
-    role = nameIn (take 17 (drop 17 h));
-    key = nameIn (take 17 (drop 34 h));
-    quota = getD h 51 0 + 256 * getD h 52 0;
-    environment = bindingsIn ls;
-  }
-  unfolding userIn
-  user-parts ls =
-      let role = take-append-le 17 (drop 17 h) ls (rw length-drop (omega arith)) in
-      let key = take-append-le 17 (drop 34 h) ls (rw length-drop (omega arith)) in
-      let low = List·getD-append h ls 0 51 (omega arith) in
-      let high = List·getD-append h ls 0 52 (omega arith) in
-      rw (take-append-le 17 h ls (omega arith), drop-append-le 17 h ls (omega arith), role, drop-append-le 34 h ls (omega arith), key, low, high, drop-at h ls 53 long)
-
-  -- with one line more it is the row of the user so bound
-  user-bound : (ls ms : Bytes) (b : Binding) → bindingsIn ms ≡ bindingsIn ls ++ b ∷ [] → userIn (h ++ ms) ≡ bound (userIn (h ++ ls)) b
-  unfolding bound
-  user-bound ls ms b e = rw (user-parts ms, user-parts ls, e)
-
-  -- it is empty where it was empty
-  same-empty : (ls ms : Bytes) → isEmptyRow (h ++ ls) ≡ isEmptyRow (h ++ ms)
-  unfolding isEmptyRow
-  same-empty ls ms = rw (List·getD-append h ls 0 0 (omega arith), List·getD-append h ms 0 0 (omega arith))
-
--- ── The lines of the user at i, in the rows of all users ──
-module _ (s : Bytes) (i : ℕ) where
-  abbrev rowAt : Bytes
-  rowAt = take 597 (drop (i * 597) s)
-
-  abbrev pub linesAt : Bytes
-  linesAt = take (i * 597 + 53 + 544 - (i * 597 + 53)) (drop (i * 597 + 53) s)
-
-  row-split : rowAt ≡ take 53 rowAt ++ linesAt
-  row-split = rw (add-sub-cancel-left, ← drop-drop 53 (i * 597) s, ← drop-take 53 597 (drop (i * 597) s)) (sym (take-append-drop 53 rowAt))
-
-  -- where other lines came back, so did the row with them
-  row-back : (ls : Bytes) → replaced (i * 597 + 53) (i * 597 + 53 + 544 - (i * 597 + 53)) ls s ≡ replaced (i * 597) 597 (take 53 rowAt ++ ls) s
-  row-back ls =
-      let e : i * 597 + 53 + 544 ≡ i * 597 + 597 = omega arith in
-      rw (add-sub-cancel-left, take-add (i * 597) 53 s, drop-drop 544 (i * 597 + 53) s, drop-drop 597 (i * 597) s, e, take-take 53 597 (drop (i * 597) s) (omega arith))
-      (simp append-assoc)
-
--- ── A user that was found ──
--- the first element that passes is one of the list
-first-at : {A : Type 0} (p : A → Bool) (j : ℕ) (xs : List A) {i : ℕ} {x : A} → firstFrom j p xs ≡ some (i, x)
-    → (k : ℕ) × (i ≡ j + k) × (getElem? xs k ≡ some x)
-unfolding firstFrom
-first-at p j [] h = none-some h
-first-at {A} p j (y ∷ xs) {i} {x} h = by-cases (p y)
-    (λ e.
-    let q : _≡_ {A = ℕ × A} (j, y) (i, x) = cc (rw e at h) in
-    (0, omega (arith, ap (λ (t : ℕ × A). t .0) q), ap (λ (t : ℕ × A). some (t .1)) q))
-    (λ e. let (k, n, g) = first-at p (suc j) xs (rw e at h) in (suc k, omega arith, g))
-
--- no element before the first stop is one
-kept-at : {A : Type 0} (stop : A → Bool) (i : ℕ) (xs : List A) (z : A) → i < length (upTo stop xs) → stop (getD xs i z) ≡ false
-unfolding upTo
-kept-at stop i [] z h = absurd (omega arith)
-kept-at stop zero (x ∷ xs) z h = by-cases (stop x) (λ e. absurd (omega (arith, rw e at h))) (λ e. e)
-kept-at stop (suc i) (x ∷ xs) z h = by-cases (stop x) (λ e. absurd (omega (arith, rw e at h))) (λ e. kept-at stop i xs z (le-of-suc-le-suc (rw e at h)))
-
--- the user of the name n stands at i
-pub record Stands (s n : Bytes) (i : ℕ) : Type 0 where
-  pub user : User
-  pub named : userNamed n (usersIn s) ≡ some (i, user)
-  pub below : i < length (usersIn s)
-  pub inside : i * 597 + 597 ≤ 19104
-  pub is : user ≡ userIn (take 597 (drop (i * 597) s))
-
-pub stands : (s : Bytes) {n : Bytes} {i : ℕ} {u : User} → userNamed n (usersIn s) ≡ some (i, u) → Stands s n i
-unfolding usersIn userNamed userAt
-stands s {i = i} {u = u} h =
-    let (k, e, g) = first-at _ 0 (usersIn s) h in
-    let same : k ≡ i = omega arith in
-    let at : getElem? (usersIn s) i ≡ some u = rw (← same) g in
-    let below = elem-below (usersIn s) i u at in
-    let counted = length-decoded isEmptyRow userIn 597 maxUsers s in
-    record {
-      user = u;
-      named = h;
-      below = below;
-      inside = omega (arith, length-table isEmptyRow userIn 597 maxUsers s);
-      is = some-same (sym at ∙ user-some s counted i below refl);
-    }
-
-module _ {s n : Bytes} {i : ℕ} (u : Stands s n i) (size : length s ≡ 19104) where
-  front : length (take 53 (rowAt s i)) ≡ 53
-  front = length-take-le 53 (rowAt s i) (rw (length-part (i * 597) 597 s (omega (arith, u .inside))) (omega arith))
-
-  pub lines-long : length (linesAt s i) ≡ 544
-  lines-long = rw add-sub-cancel-left (length-part (i * 597 + 53) 544 s (omega (arith, u .inside)))
-
-  pub lines-are : u .user .environment ≡ bindingsIn (linesAt s i)
-  lines-are = rw (u .is, row-split s i, user-parts (take 53 (rowAt s i)) front)
-
-  pub lines-counted : {m : ℕ} → m ≡ length (upTo isEmptyRow (rows 34 maxBindings (linesAt s i))) → m ≡ length (u .user .environment)
-  unfolding bindingsIn
-  lines-counted h = rw (lines-are, length-decoded isEmptyRow bindingIn 34 maxBindings (linesAt s i)) h
-
-  -- other lines came back: where there is room, those that there were and the line b
-  pub lines-joined : {m : ℕ} (ls : Bytes) (b : Binding) → length ls ≡ 544 → m ≡ length (u .user .environment) → m < maxBindings
-      → bindingsIn ls ≡ take maxBindings (bindingsIn (linesAt s i) ++ b ∷ [])
-      → usersIn (replaced (i * 597 + 53) (i * 597 + 53 + 544 - (i * 597 + 53)) ls s) ≡ set (usersIn s) i (bound (u .user) b)
-  unfolding usersIn
-  lines-joined ls b long counted room e =
-      let row = take 53 (rowAt s i) ++ ls in
-      let l : length row ≡ 597 = rw (length-append, front, long) in
-      let below : i < maxUsers = omega (arith, u .inside) in
-      let full = kept-at isEmptyRow i (rows 597 maxUsers s) [] (rw length-decoded at (u .below)) in
-      let kept : isEmptyRow row ≡ false = rw (same-empty (take 53 (rowAt s i)) front ls (linesAt s i), ← row-split s i, ← row-at 597 i maxUsers s [] below) full in
-      let more = e ∙ one-more maxBindings (bindingsIn (linesAt s i)) b (counted ∙ ap length lines-are) room in
-      let joined = user-bound (take 53 (rowAt s i)) front (linesAt s i) ls b more in
-      rw (row-back s i ls, table-set isEmptyRow userIn 597 i maxUsers row s l below kept (omega arith) (u .below), joined, ← row-split s i, ← u .is)

@@ -8,8 +8,8 @@ use Rattle.model.specs.Base.{Bytes, text, any}
 use Rattle.model.specs.Names.{isName, isPlain}
 use Rattle.model.specs.Table.{split, under}
 use Rattle.model.specs.Tables.{sameBinding}
-use Rattle.tabletext.proofs.Bindings.{Stands, stands, lines-are, lines-long, lines-counted, lines-joined}
-use Rattle.tabletext.proofs.Added.{passed, failed, refuses, user-unknown, user-known, plain-some, bindingNames, newBinding}
+use Rattle.tabletext.proofs.Standing.{user-unknown, user-known, Stands, stands, lines-are, lines-long, lines-counted, lines-joined}
+use Rattle.tabletext.proofs.Added.{passed, failed, refuses, plain-named, bindingNames, newBinding}
 use Rattle.tabletext.proofs.Added.{binding-unnamed, binding-lost, binding-doubled, binding-full, binding-added}
 use Rattle.tabletext.proofs.row.add_binding.Statement.{statement}
 use Rattle.tabletext.proofs.row.add_binding.Tie as tie
@@ -44,6 +44,7 @@ found c = stands _ (user-known _ (c .before .before .before .before .before .bef
 inside : (c : tie.After-known-told) → c .before .i .given .0 .0 * 597 + 597 ≤ 19104
 inside c = found c .inside
 
+-- what the search for the line said, and that it found none
 has : (c : tie.After-has-binding) → c .has-binding .result ≡ any (sameBinding (newBinding (val (start (c .before .before .before .before .before .before .before .before .before .before .before .before))))) (found (c .before .before .before) .user .environment)
 unfolding text
 has c =
@@ -162,7 +163,7 @@ returns-6 : tie.Need-returns-6
 returns-6 c =
     let k = c .before .before .before .before .before .before .before .before in
     let count = lines-counted (found k) (start (k .before .before .before .before .before .before .before .before .before) .pre .0) (c .before .row-count .ensures) in
-    refuses _ (binding-full _ _ (names (k .before .before .before .before .before)) (found k .named) (new (c .before .before .before .before)) count (c .if5 .taken))
+    refuses _ (binding-full _ _ (names (k .before .before .before .before .before)) (found k .named) (new (c .before .before .before .before)) count (omega (arith, c .if5 .taken)))
 
 sub-push-binding : tie.Need-sub-push-binding
 sub-push-binding c = search needs
@@ -176,7 +177,7 @@ part-push-binding-end c = omega (arith, inside (c .before .before .before .befor
 push-binding-requires : tie.Need-push-binding-requires
 push-binding-requires c κs =
     let k = c .before .before .before .before .before .before .before .before .before .before .before .before .before .before .before .before in
-    (lines-long (found (c .before .before .before .before .before .before .before .before .before)) (start (c .before .before .before .before .before .before .before .before .before .before .before .before .before .before .before .before .before .before) .pre .0), plain-some _ (passed (k .before .is-plain .ensures) (k .if2 .left)))
+    (lines-long (found (c .before .before .before .before .before .before .before .before .before)) (start (c .before .before .before .before .before .before .before .before .before .before .before .before .before .before .before .before .before .before) .pre .0), plain-named _ (passed (k .before .is-plain .ensures) (k .if2 .left)) .low)
 
 same-length-4 : tie.Need-same-length-4
 same-length-4 c = search needs
@@ -189,9 +190,8 @@ returns-7 c =
     let v = k .before .before .before .before .before .before .before .before .before .before .before in
     let put = c .before .before .push-binding in
     let count = lines-counted (found k) size (c .before .before .before .before .before .row-count .ensures) in
-    let room = c .before .before .before .before .if5 .left in
-    let joined = lines-joined (found k) size _ _ (put .kept .0 ∙ lines-long (found k) size) count room (put .ensures) in
-    binding-added _ _ (names (k .before .before .before .before .before)) (found k .named) (new (c .before .before .before .before .before .before .before .before)) count room (v .before .before .value-under2 .ensures) (v .value-under3 .ensures) joined
+    let joined = lines-joined (found k) size _ _ (put .kept .0 ∙ lines-long (found k) size) count (omega (arith, c .before .before .before .before .if5 .left)) (put .ensures) in
+    binding-added _ _ (names (k .before .before .before .before .before)) (found k .named) (new (c .before .before .before .before .before .before .before .before)) count (omega (arith, c .before .before .before .before .if5 .left)) (v .before .before .value-under2 .ensures) (v .value-under3 .ensures) joined
 
 pub add-binding-spec : {M : Type 1} → statement M
 add-binding-spec =

@@ -9,9 +9,10 @@ use Rattle.model.specs.Names.{isName}
 use Rattle.model.specs.Paths.{stepsOf}
 use Rattle.model.specs.Table.{split, under}
 use Rattle.model.specs.Tables.{accessOf}
+use Rattle.model.proofs.Spelling.{name-named}
 use Rattle.steps.specs.Steps.{stepsIn}
 use Rattle.tables.specs.Memory.{accessIn}
-use Rattle.tabletext.proofs.Added.{passed, failed, refuses, name-some, access-unknown, access-known, path-unread, path-read, rules-counted}
+use Rattle.tabletext.proofs.Added.{passed, failed, refuses, access-unknown, access-known, path-unread, path-read, rules-counted}
 use Rattle.tabletext.proofs.Added.{rule-unnamed, rule-bad, rule-unread, rule-full, rule-added}
 use Rattle.tabletext.proofs.row.add_rule.Statement.{statement}
 use Rattle.tabletext.proofs.row.add_rule.Tie as tie
@@ -97,13 +98,13 @@ same-length c = search needs
 returns-4 : tie.Need-returns-4
 returns-4 c =
     let k = c .before .before .before .before .before .before .before .before in
-    refuses _ (rule-full _ _ (role (k .before .before .before .before .before .before)) (access k) (path (c .before .before .before)) (rules-counted _ (c .before .row-count .ensures)) (c .if3 .taken))
+    refuses _ (rule-full _ _ (role (k .before .before .before .before .before .before)) (access k) (path (c .before .before .before)) (rules-counted _ (c .before .row-count .ensures)) (omega (arith, c .if3 .taken)))
 
 slice-aggregate-push-rule : tie.Need-slice-aggregate-push-rule
 slice-aggregate-push-rule c = search needs
 
 push-rule-requires : tie.Need-push-rule-requires
-push-rule-requires c κs = let k = c .before .before .before .before .before .before .before .before .before .before .before .before .before .before .before .before .before in (search needs, name-some _ (passed (k .before .is-name .ensures) (k .if1 .left)), omega (arith, slice-aggregate-push-rule c))
+push-rule-requires c κs = let k = c .before .before .before .before .before .before .before .before .before .before .before .before .before .before .before .before .before in (search needs, name-named _ (passed (k .before .is-name .ensures) (k .if1 .left)) .low, omega (arith, slice-aggregate-push-rule c))
 
 same-length-2 : tie.Need-same-length-2
 same-length-2 c = search needs
@@ -112,7 +113,7 @@ returns-5 : tie.Need-returns-5
 unfolding text
 returns-5 c =
     let k = c .before .before .before .before .before .before .before .before .before .before .before .before .before .before in
-    rule-added _ _ (role (k .before .before .before .before .before .before)) (access k) (path (c .before .before .before .before .before .before .before .before .before)) (rules-counted _ (c .before .before .before .before .before .before .before .row-count .ensures)) (c .before .before .before .before .before .before .if3 .left) (k .before .before .before .before .before .before .before .before .value-under .ensures) (c .before .before .push-rule .ensures)
+    rule-added _ _ (role (k .before .before .before .before .before .before)) (access k) (path (c .before .before .before .before .before .before .before .before .before)) (rules-counted _ (c .before .before .before .before .before .before .before .row-count .ensures)) (omega (arith, c .before .before .before .before .before .before .if3 .left)) (k .before .before .before .before .before .before .before .before .value-under .ensures) (c .before .before .push-rule .ensures)
 
 pub add-rule-spec : {M : Type 1} → statement M
 add-rule-spec =

@@ -9,11 +9,13 @@ use Rattle.model.specs.Limits.{maxQuota}
 use Rattle.model.specs.Names.{isName}
 use Rattle.model.specs.Table.{split, under}
 use Rattle.model.specs.Tables.{everyRole, userNamed}
+use Rattle.model.proofs.Spelling.{name-named}
 use Rattle.lexical.specs.Numbers.{numberAnswer}
 use Rattle.lexical.proofs.Values.{told}
 use Rattle.lexical.proofs.Decimals.{number-some}
 use Rattle.tables.specs.Memory.{usersIn}
-use Rattle.tabletext.proofs.Added.{passed, failed, refuses, name-some, user-known, user-unknown, users-counted, userNames}
+use Rattle.tabletext.proofs.Standing.{user-known, user-unknown}
+use Rattle.tabletext.proofs.Added.{passed, failed, refuses, users-counted, userNames}
 use Rattle.tabletext.proofs.Added.{user-unnamed, user-every, user-bad, user-doubled, user-full, user-added}
 use Rattle.tabletext.proofs.row.add_user.Statement.{statement}
 use Rattle.tabletext.proofs.row.add_user.Tie as tie
@@ -48,7 +50,7 @@ quota : (c : tie.After-known-told) → number maxQuota (val (start (c .before .b
 unfolding text
 quota c = rw (← c .before .before .before .before .value-under4 .ensures) (told numberAnswer (c .before .before .before .number .ensures) (c .before .quota .given .1))
 
-new : (c : tie.After-enum-told3) → userNamed (val (start (c .before .before .before .before .before .before .before .before .before .before .before .before .before .before .before .before .before)) (text "user")) (usersIn (start (c .before .before .before .before .before .before .before .before .before .before .before .before .before .before .before .before .before) .args .users .now)) ≡ none
+new : (c : tie.After-enum-told3) → let s = start (c .before .before .before .before .before .before .before .before .before .before .before .before .before .before .before .before .before) in userNamed (val s (text "user")) (usersIn (s .args .users .now)) ≡ none
 unfolding text
 new c = user-unknown _ (c .before .before .before .before .before .before .before .before .before .before .before .before .before .before .before .before .before .before .before .before .before .before .before .value-under .ensures) (c .before .before .find-user .ensures) (c .enum-told3 .given .1)
 
@@ -141,8 +143,8 @@ returns-6 : tie.Need-returns-6
 unfolding text
 returns-6 c =
     let k = c .before .before .before .before in
-    let other = user-known _ (k .before .before .before .before .before .before .before .before .before .before .before .before .before .before .before .before .before .before .before .value-under .ensures) (c .before .before .find-user .ensures) (c .enum-told2 .given .1) in
-    refuses _ (user-doubled _ _ (names (k .before .before .before .before .before .before .before .before .before)) (one-role (k .before .before .before .before .before .before)) (quota k) (other .1))
+    refuses _ (user-doubled _ _ (names (k .before .before .before .before .before .before .before .before .before)) (one-role (k .before .before .before .before .before .before)) (quota k)
+    (user-known _ {n = val (start (k .before .before .before .before .before .before .before .before .before .before .before .before .before)) (text "user")} (k .before .before .before .before .before .before .before .before .before .before .before .before .before .before .before .before .before .before .before .value-under .ensures) (c .before .before .find-user .ensures) (c .enum-told2 .given .1) .1))
 
 enum-told-3 : tie.Need-enum-told-3
 enum-told-3 c = search needs
@@ -157,13 +159,13 @@ returns-7 : tie.Need-returns-7
 returns-7 c =
     let n = c .before .before .before in
     let k = n .before .before .before .before in
-    refuses _ (user-full _ _ (names (k .before .before .before .before .before .before .before .before .before)) (one-role (k .before .before .before .before .before .before)) (quota k) (new n) (users-counted _ (c .before .row-count .ensures)) (c .if5 .taken))
+    refuses _ (user-full _ _ (names (k .before .before .before .before .before .before .before .before .before)) (one-role (k .before .before .before .before .before .before)) (quota k) (new n) (users-counted _ (c .before .row-count .ensures)) (omega (arith, c .if5 .taken)))
 
 cast-push-user : tie.Need-cast-push-user
 cast-push-user c = record { fits = omega (arith, number-some _ _ _ (quota (c .before .before .before .before .before .before .before .before)) .2) }
 
 push-user-requires : tie.Need-push-user-requires
-push-user-requires c κs = let k = c .before .before .before .before .before .before .before .before .before .before .before .before .before .before .before .before .before .before .before .before .before in (omega (arith, start k .pre .0), name-some _ (passed (k .before .is-name .ensures) (k .if1 .left)))
+push-user-requires c κs = let k = c .before .before .before .before .before .before .before .before .before .before .before .before .before .before .before .before .before .before .before .before .before in (omega (arith, start k .pre .0), name-named _ (passed (k .before .is-name .ensures) (k .if1 .left)) .low)
 
 same-length-3 : tie.Need-same-length-3
 same-length-3 c = search needs
@@ -174,7 +176,7 @@ returns-8 c =
     let n = c .before .before .before .before .before .before .before in
     let k = n .before .before .before .before in
     let v = k .before .before .before .before .before .before .before .before .before .before .before .before .before .before .before in
-    user-added _ _ (names (k .before .before .before .before .before .before .before .before .before)) (one-role (k .before .before .before .before .before .before)) (quota k) (new n) (users-counted _ (c .before .before .before .before .before .row-count .ensures)) (c .before .before .before .before .if5 .left)
+    user-added _ _ (names (k .before .before .before .before .before .before .before .before .before)) (one-role (k .before .before .before .before .before .before)) (quota k) (new n) (users-counted _ (c .before .before .before .before .before .row-count .ensures)) (omega (arith, c .before .before .before .before .if5 .left))
     (v .before .before .before .before .value-under .ensures) (v .before .before .value-under2 .ensures) (v .value-under3 .ensures) (c .before .before .push-user .ensures)
 
 pub add-user-spec : {M : Type 1} → statement M
