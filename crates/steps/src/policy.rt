@@ -140,6 +140,7 @@ fn put_environment(out: &mut [u8], at: usize, operator: Operator, names: &[u8]) 
 pub fn put_steps(out: &mut [u8], at: usize, slot: &[u8]) -> usize
     requires { ⌜ (421 ≤ length (now slot)) × (at + 600 < 2 ^ 64) ⌝ }
     ensures { λ r. ⌜ Wrote at (stepsText (stepsIn (now (slot .entry)))) (now (out .entry)) r (now (out .exit)) ⌝ }
+    ensures { λ r. ⌜ r ≤ at + 600 ⌝ }
 {
     let n = count(slot, 6);
     let mut to = put_byte(out, at, b'$');

@@ -31,7 +31,7 @@ module _ (s : Bytes) {m : ℕ} (counted : m ≡ length (upTo isEmptyRow (rows 43
 
     -- the line in the row at i
     module _ {row : Bytes} (is : row ≡ take 439 (drop (i * 439) s)) where
-      rule-left : drop i (policyIn s) ≡ ruleIn row ∷ drop (i + 1) (policyIn s)
+      pub rule-left : drop i (policyIn s) ≡ ruleIn row ∷ drop (i + 1) (policyIn s)
       unfolding policyIn
       rule-left = row-left isEmptyRow ruleIn 439 maxRules s counted i below is
 

@@ -52,6 +52,7 @@ fn put_held(out: &mut [u8], at: usize, slot: &[u8]) -> usize
 pub fn put_saved(out: &mut [u8], at: usize, table: &[u8; 35328], shown: &[u8; 256]) -> usize
     requires { ⌜ at + 65536 < 2 ^ 64 ⌝ }
     ensures { λ r. ⌜ Wrote at (saved (selected (now (shown .entry)) (fieldsIn (now (table .entry))))) (now (out .entry)) r (now (out .exit)) ⌝ }
+    ensures { λ r. ⌜ r ≤ at + 65536 ⌝ }
 {
     let mut i = next_shown(table, shown, 0);
     if i == SLOTS {

@@ -65,8 +65,8 @@ unfolding stepsIn stepsText text
 returns c =
     let l = c .before .loop in
     let s = c .before .before .before .before .before .before .before .before .before .args .slot .now in
-    rw (← spelled-all stepIn 70 6 stepText s (l .i) (search needs))
-    (wrote-both _ _ _ _ _ _ _ _ (c .before .before .before .before .put-byte .ensures) (l .inv .3))
+    let all = wrote-both _ _ _ _ _ _ _ _ (c .before .before .before .before .put-byte .ensures) (l .inv .3) in
+    (rw (← spelled-all stepIn 70 6 stepText s (l .i) (search needs)) all, search needs)
 
 pub put-steps-spec : {M : Type 1} → statement M
 put-steps-spec =

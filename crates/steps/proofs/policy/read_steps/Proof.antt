@@ -23,12 +23,12 @@ put-steps-requires c κs = (omega (arith, slice-aggregate-put-steps-2 c), search
 returns : tie.Need-returns
 returns c =
     let k = c .before .before .before .before .before .before in
-    steps-fit _ _ (k .before .read-all .ensures) (k .if1 .taken) _ (c .before .before .put-steps .ensures .0) (omega arith)
+    steps-fit _ _ (k .before .read-all .ensures) (k .if1 .taken) _ (c .before .before .put-steps .ensures .0 .0) (omega arith)
 
 returns-2 : tie.Need-returns-2
 returns-2 c =
     let k = c .before .before .before .before .before .before in
-    steps-long _ _ (k .before .read-all .ensures) (k .if1 .taken) _ (c .before .before .put-steps .ensures .0) (omega arith)
+    steps-long _ _ (k .before .read-all .ensures) (k .if1 .taken) _ (c .before .before .put-steps .ensures .0 .0) (omega arith)
 
 returns-3 : tie.Need-returns-3
 returns-3 c = steps-none _ _ (c .before .read-all .ensures) (c .if1 .left)

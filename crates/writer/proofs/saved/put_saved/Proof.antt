@@ -3,7 +3,7 @@ use Prim.Native.Nat.{ℕ, _+_, _*_, _-_, _≤_, _<_}
 use mathlib.Core.Path.{_≡_, refl}
 use native.Mathlib.Omega.{arith}
 use borrow.Author.Needs.{needs}
-use lib.ListN.{length, take, drop}
+use lib.ListN.{length, take, drop, length-replicate}
 use Rattle.model.specs.Base.{Bytes, text}
 use Rattle.model.specs.SavedText.{savedBehind}
 use Rattle.lexical.proofs.Writers.{wrote-both}
@@ -52,7 +52,7 @@ returns : tie.Need-returns Inv-loop μ-loop
 unfolding text
 returns c =
     let t = c .before .before .before .before .before in
-    rw (none-next _ _ 0 _ (omega arith) (t .before .next-shown .ensures) (t .if1 .taken), saved-none) (c .before .before .put .ensures)
+    (rw (none-next _ _ 0 _ (omega arith) (t .before .next-shown .ensures) (t .if1 .taken), saved-none) (c .before .before .put .ensures), search needs)
 
 slot-at-requires : tie.Need-slot-at-requires Inv-loop μ-loop
 slot-at-requires c κs = let n = first-shown (c .before) in search needs
@@ -103,7 +103,7 @@ returns-2 c =
     let slot = p .before .before .slot-at .ensures .0 in
     let held = wrote-both _ _ _ _ _ _ _ _ (h .put-held .ensures .0) (rw (← slot) at end) in
     let opened = wrote-both _ _ _ _ _ _ _ _ (d .put-descent .ensures .0) held in
-    rw (first-shown (p .before .before .before .before) .is slot, saved-some) (wrote-both _ _ _ _ _ _ _ _ (p .put-byte .ensures) opened)
+    (rw (first-shown (p .before .before .before .before) .is slot, saved-some) (wrote-both _ _ _ _ _ _ _ _ (p .put-byte .ensures) opened), omega (arith, simp length-replicate at (c .before .before .put-braces .ensures .0)))
 
 slot-at-requires-3 : tie.Need-slot-at-requires-3 Inv-loop μ-loop
 slot-at-requires-3 c κs = let n = next-shown (c .before) in search needs

@@ -1,0 +1,3 @@
+-- Laws of a copy as it is written, and of the fields that it shows.
+pub mod Lines
+pub mod Reading

@@ -1,0 +1,95 @@
+-- The four texts opened: the lengths decide first, then the tables, then the record; a refusal keeps the state.
+use Prim.Native.Nat.{ℕ, suc, _≤_, _<_}
+use mathlib.Core.Path.{_≡_, refl, sym, _∙_}
+use mathlib.Core.Bool.{Bool, true, false, cond}
+use mathlib.Core.List.{List, []}
+use native.Mathlib.Omega.{arith}
+use borrow.Author.Tests.{ltb-false}
+use lib.Dec.{ltb}
+use lib.ListN.{length, replicate}
+use Rattle.model.specs.Base.{Bytes}
+use Rattle.model.specs.Limits.{maxText}
+use Rattle.model.specs.Fields.{Fields}
+use Rattle.model.specs.Tables.{Tables}
+use Rattle.model.specs.Refusals.{refused, done, _>>=_, Opened}
+use Rattle.model.specs.Opening.{State, Texts, fault, checkLength, emptyLogin, emptyLogins, openTables, openRecord, opened, kept, afterOpening}
+use Rattle.model.proofs.Lists.{by-cases}
+use Rattle.rows.specs.Rows.{rows}
+use Rattle.tables.specs.Memory.{tablesIn}
+use Rattle.record.specs.Slots.{fieldsIn}
+use Rattle.server.specs.declared.answer.Opening.{Opening}
+use Rattle.server.specs.declared.answer.Opening.the-variants.{Done, Refused}
+use Rattle.server.specs.Memory.{loginIn, loginsIn, stateIn}
+use Rattle.server.specs.Answers.{textsOf, tooLong, openingResult, openingAnswer, KeptIfRefused}
+
+-- the state that opened tables and fields make
+abbrev pub fresh : Tables → Fields → State
+fresh tables fields = record { tables = tables; loginStates = emptyLogins; fields = fields }
+
+-- 96 zeros are the login states of an opening
+no-logins : loginsIn (replicate 96 0) ≡ emptyLogins
+unfolding loginsIn loginIn rows emptyLogin emptyLogins
+no-logins = refl
+
+-- a choice that gives 0 is no positive number
+if-zero : (b : Bool) (n m : ℕ) → cond b (suc n) m ≡ 0 → (b ≡ false) × (m ≡ 0)
+if-zero true n m h = absurd (omega arith)
+if-zero false n m h = (refl, h)
+
+module _ (u e p r : Bytes) where
+  -- a text is too long: the first that is
+  pub opened-long : {n : ℕ} → n ≡ tooLong (textsOf u e p r) → 0 < n → opened (textsOf u e p r) ≡ refused (fault 10 n 0)
+  unfolding textsOf tooLong opened checkLength Opened
+  opened-long is h =
+      by-cases (ltb maxText (length u)) (λ a. rw (is, a)) (λ a.
+      by-cases (ltb maxText (length e)) (λ b. rw (is, a, b)) (λ b.
+      by-cases (ltb maxText (length p)) (λ c. rw (is, a, b, c)) (λ c.
+      by-cases (ltb maxText (length r)) (λ d. rw (is, a, b, c, d)) (λ d.
+      let none : tooLong (textsOf u e p r) ≡ 0 = rw (a, b, c, d) in absurd (omega arith)))))
+
+  -- no text is
+  module _ {n : ℕ} (is : n ≡ tooLong (textsOf u e p r)) (none : n ≡ 0) where
+    all-short : (ltb maxText (length u) ≡ false) × (ltb maxText (length e) ≡ false) × (ltb maxText (length p) ≡ false) × (ltb maxText (length r) ≡ false)
+    unfolding textsOf tooLong
+    all-short =
+        let (a, h) = if-zero _ 0 _ (sym is ∙ none) in
+        let (b, i) = if-zero _ 1 _ h in
+        let (c, j) = if-zero _ 2 _ i in
+        (a, b, c, if-zero _ 3 _ j .0)
+
+    pub lengths : (length u ≤ maxText) × (length e ≤ maxText) × (length p ≤ maxText) × (length r ≤ maxText)
+    lengths = let (a, b, c, d) = all-short in (ltb-false _ _ a, ltb-false _ _ b, ltb-false _ _ c, ltb-false _ _ d)
+
+    -- then the tables decide, which do not look at the record, and then the record
+    opened-short : opened (textsOf u e p r)
+        ≡ (openTables (textsOf u e p []) >>= λ tables. openRecord tables r >>= λ fields. done (fresh tables fields))
+    unfolding textsOf opened checkLength openTables Opened
+    opened-short = let (a, b, c, d) = all-short in rw (a, b, c, d)
+
+    module _ {answer : Opening} (tables : Tables) (read : openingResult answer tables ≡ openTables (textsOf u e p [])) where
+      pub tables-refused : {k t l : ℕ} → answer ≡ Refused k t l → opened (textsOf u e p r) ≡ refused (fault k t l)
+      unfolding _>>=_
+      tables-refused i = opened-short ∙ rw (← read, i)
+
+      module _ (accepted : answer ≡ Done) {answer₁ : Opening} (fields : Fields) (loaded : openingResult answer₁ fields ≡ openRecord tables r) where
+        pub record-refused : {k t l : ℕ} → answer₁ ≡ Refused k t l → opened (textsOf u e p r) ≡ refused (fault k t l)
+        unfolding _>>=_
+        record-refused i = opened-short ∙ rw (← read, accepted, ← loaded, i)
+
+        pub opened-done : answer₁ ≡ Done → opened (textsOf u e p r) ≡ done (fresh tables fields)
+        unfolding _>>=_
+        opened-done i = opened-short ∙ rw (← read, accepted, ← loaded, i)
+
+-- what a refusal answers and keeps
+pub refusal : (texts : Texts) (tables : Bytes) (logins : List ℕ) (fields : Bytes) {answer : Opening} {k t l : ℕ}
+    → answer ≡ Refused k t l → opened texts ≡ refused (fault k t l)
+    → (answer ≡ openingAnswer (opened texts)) × ((stateIn tables logins fields ≡ afterOpening (stateIn tables logins fields) texts)
+    × (KeptIfRefused answer tables tables × KeptIfRefused answer logins logins × KeptIfRefused answer fields fields))
+unfolding afterOpening kept fault
+refusal texts tables logins fields i h = (rw (i, h), (rw h, rw i (refl, refl, refl)))
+
+-- what an accepted opening answers and leaves
+pub acceptance : (texts : Texts) (before : State) (tables fields : Bytes) → opened texts ≡ done (fresh (tablesIn tables) (fieldsIn fields))
+    → (Done ≡ openingAnswer (opened texts)) × ((stateIn tables (replicate 96 0) fields ≡ afterOpening before texts) × (Unit {0} × Unit {0} × Unit {0}))
+unfolding afterOpening kept stateIn
+acceptance texts before tables fields h = (rw h, (rw (h, no-logins), (tt, tt, tt)))

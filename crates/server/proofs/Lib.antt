@@ -1,0 +1,6 @@
+-- Laws that the proofs cite: the quotas together, fields in conflict with a policy, a record that is opened, the tables that are, and the four texts.
+pub mod Quotas
+pub mod Conflicting
+pub mod Opened
+pub mod TablesOpened
+pub mod AllOpened

@@ -1,0 +1,4 @@
+// The three operations of the server: open, request, save.
+pub mod answer;
+pub mod fields;
+pub mod open;
