@@ -6,4 +6,3 @@ pub mod Tops
 pub mod Readings
 pub mod Standing
 pub mod Sums
-pub mod Loading

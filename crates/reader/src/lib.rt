@@ -1,5 +1,4 @@
-// Record text in: tokens, the grammar with keys that stand twice, and the fields into a table.
+// Record text in: its tokens, and its grammar with keys that stand twice.
 pub mod grammar;
 pub mod keys;
-pub mod load;
 pub mod tokens;

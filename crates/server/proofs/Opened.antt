@@ -17,8 +17,8 @@ use Rattle.model.specs.Opening.{fault, quotas, openRecord}
 use Rattle.model.proofs.Lists.{by-cases, refused-done}
 use Rattle.record.specs.Slots.{fieldsIn}
 use Rattle.reader.specs.Summaries.{readingOf}
-use Rattle.reader.specs.Loaded.{fieldsOf, HoldsOrKeeps}
-use Rattle.reader.proofs.Loading.{tree}
+use Rattle.loader.specs.Loaded.{fieldsOf, HoldsOrKeeps}
+use Rattle.loader.proofs.Loading.{tree}
 use Rattle.tables.specs.Memory.{usersIn, policyIn, tablesIn}
 use Rattle.server.proofs.Conflicting.{conflicts}
 

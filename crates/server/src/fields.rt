@@ -1,7 +1,7 @@
 // The record's text opened against the tables.
 use crate::answer::Opening;
+use loader::read_record;
 use reader::grammar::RecordRead;
-use reader::load::read_record;
 use record::table::SLOTS;
 use record::table::count;
 use record::table::slot_at;

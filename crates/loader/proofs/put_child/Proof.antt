@@ -1,10 +1,10 @@
 -- The path is copied, and the key is pushed behind its keys.
 use mathlib.Core.Path.{_≡_, _∙_}
 use lib.ListN.{length}
-use Rattle.reader.proofs.Loading.{copied-path}
+use Rattle.loader.proofs.Loading.{copied-path}
 use borrow.Author.Needs.{needs}
-use Rattle.reader.proofs.load.put_child.Statement.{statement}
-use Rattle.reader.proofs.load.put_child.Tie as tie
+use Rattle.loader.proofs.put_child.Statement.{statement}
+use Rattle.loader.proofs.put_child.Tie as tie
 
 copy-requires : tie.Need-copy-requires
 copy-requires c κs = search needs

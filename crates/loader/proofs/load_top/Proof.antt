@@ -3,13 +3,13 @@ use mathlib.Core.Path.{_∙_}
 use mathlib.Core.List.{[]}
 use Rattle.rows.specs.Positions.{Reads}
 use Rattle.paths.specs.Layout.{counted, pathIn}
 use Rattle.reader.specs.Tokens.{readToken}
 use Rattle.reader.proofs.Spaced.{token-leaves, end-bad, end-reads}
 use Rattle.reader.proofs.Tops.{top-unopened, top-empty, top-object}
-use Rattle.reader.proofs.Loading.{none-loaded, emptied}
+use Rattle.loader.proofs.Loading.{none-loaded, emptied}
 use borrow.Author.Needs.{needs}
-use Rattle.reader.proofs.load.load_top.Statement.{statement}
-use Rattle.reader.proofs.load.load_top.Tie as tie
+use Rattle.loader.proofs.load_top.Statement.{statement}
+use Rattle.loader.proofs.load_top.Tie as tie
 
 element-write-table : tie.Need-element-write-table
 element-write-table c = search needs

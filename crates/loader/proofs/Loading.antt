@@ -36,15 +36,15 @@ use Rattle.paths.proofs.Names.{push-whole}
 use Rattle.record.specs.Slots.{isEmpty, fieldsIn}
 use Rattle.record.specs.Search.{storedAt}
 use Rattle.record.proofs.Slots.{path-same, held-valid}
 use Rattle.reader.specs.Tokens.{readToken, readScalar, readMember, endAnswer, mapped, readTop}
-use Rattle.reader.specs.Loaded.{loaded, loadAnswer, fieldsOf}
+use Rattle.loader.specs.Loaded.{loaded, loadAnswer, fieldsOf}
 use Rattle.reader.specs.Summaries.{readingOf, readAnswer}
 use Rattle.reader.specs.declared.grammar.RecordRead.{RecordRead}
 use Rattle.reader.specs.declared.grammar.RecordRead.the-variants as record-read
 use Rattle.reader.proofs.grammar.RecordRead.{the-type}
 use Rattle.reader.proofs.Spaced.{skip-at, token-leaves, end-bad, end-reads, scalar-reads}
 use Rattle.reader.proofs.Mapped.{mapped-is}
 use Rattle.reader.proofs.Objects.{readNode, node-leaf, node-mapped, Left, left-unclosed, left-last}
 
 -- ── What is read is within its limits ──
 member-key : (s k r : Bytes) → readMember s ≡ some (k, r) → length k ≤ 16

@@ -1,16 +1,16 @@
 // The fields of a record's text, put into a table.
-use crate::grammar::RecordRead;
-use crate::grammar::read_summary;
-use crate::tokens::KeyAt;
-use crate::tokens::leaf_at;
-use crate::tokens::member_at;
-use crate::tokens::token_at;
 use lexical::class::Class;
 use lexical::class::End;
 use lexical::class::run;
 use lexical::value::ValueAt;
 use lexical::write::copy;
 use paths::field::push_key;
+use reader::grammar::RecordRead;
+use reader::grammar::read_summary;
+use reader::tokens::KeyAt;
+use reader::tokens::leaf_at;
+use reader::tokens::member_at;
+use reader::tokens::token_at;
 use record::slot::store_value;
 use record::table::SLOTS;
 ghost use mathlib.Core.Path.{_≡_};
@@ -21,9 +21,9 @@ ghost use Rattle.rows.specs.Positions.{placed};
 ghost use Rattle.model.specs.RecordText.{readObject};
 ghost use Rattle.paths.specs.Layout.{pathIn};
 ghost use Rattle.record.specs.Slots.{fieldsIn};
 ghost use Rattle.reader.specs.Tokens.{mapped, readTop};
 ghost use Rattle.reader.specs.Summaries.{readingOf, readAnswer};
-ghost use Rattle.reader.specs.Loaded.{loaded, loadAnswer, fieldsOf, HoldsOrKeeps};
+ghost use Rattle.loader.specs.Loaded.{loaded, loadAnswer, fieldsOf, HoldsOrKeeps};
 
 // The path of a key in the object at a path.
 fn put_child(child: &mut [u8; 103], path: &[u8; 103], key: &[u8])

@@ -12,25 +12,25 @@ use Rattle.model.specs.RecordText.{Node, Members, noMembers, member}
 use Rattle.lexical.proofs.Values.{told, value-inside}
 use Rattle.paths.specs.Layout.{pathIn}
 use Rattle.record.specs.Slots.{fieldsIn}
 use Rattle.reader.specs.Tokens.{readToken, mapped}
-use Rattle.reader.specs.Loaded.{loaded, loadAnswer}
+use Rattle.loader.specs.Loaded.{loaded, loadAnswer}
 use Rattle.reader.proofs.Spaced.{token-leaves, token-moves, end-bad, end-reads, key-bad, MemberStands, member-stands}
 use Rattle.reader.proofs.Mapped.{mapped-bad, mapped-reads}
 use Rattle.reader.proofs.Objects.{readNode, leaves-node, leaves-object, Left, object-none, object-unopened, left-start, left-no-member, left-no-value, left-again}
-use Rattle.reader.proofs.Loading.{nodeLoaded, Child, child-path, child-length, leaf-loaded, object-loaded, none-loaded, member-loaded, last-loaded}
+use Rattle.loader.proofs.Loading.{nodeLoaded, Child, child-path, child-length, leaf-loaded, object-loaded, none-loaded, member-loaded, last-loaded}
 use borrow.Author.Needs.{needs}
 use borrow.Fn.Kinds.{In}
 use borrow.Fn.PlainCycle.{Measures, is, falls, and}
-use Rattle.reader.proofs.load.load_object.Reads as load-object
-use Rattle.reader.proofs.load.load_object.Kinds as kinds
-use Rattle.reader.proofs.load.+load_object.Lts-load_object as lts
-use Rattle.reader.proofs.load.put_child.Reads as put-child-reads
+use Rattle.loader.proofs.load_object.Reads as load-object
+use Rattle.loader.proofs.load_object.Kinds as kinds
+use Rattle.loader.proofs.+load_object.Lts-load_object as lts
+use Rattle.loader.proofs.put_child.Reads as put-child-reads
 use Rattle.reader.proofs.tokens.leaf_at.Reads as leaf-at-reads
 use Rattle.reader.proofs.tokens.member_at.Reads as member-at-reads
 use Rattle.reader.proofs.tokens.token_at.Reads as token-at-reads
 use Rattle.record.proofs.slot.store_value.Reads as store-value-reads
-use Rattle.reader.proofs.load.+load_object.{statement}
-use Rattle.reader.proofs.load.+load_object.Tie.{close}
+use Rattle.loader.proofs.+load_object.{statement}
+use Rattle.loader.proofs.+load_object.Tie.{close}
 
 abbrev μ-load-object : Measures 3 kinds.ps ℕ
 μ-load-object κs a = a .1 .1 .1 .0

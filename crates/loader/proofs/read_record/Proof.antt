@@ -2,11 +2,11 @@
 use mathlib.Core.Path.{refl, sym}
 use Rattle.rows.proofs.Positions.{run-within}
 use Rattle.lexical.proofs.Values.{told}
 use Rattle.reader.specs.Summaries.{readAnswer}
-use Rattle.reader.proofs.Loading.{refused-fields, many-fields, few-fields}
+use Rattle.loader.proofs.Loading.{refused-fields, many-fields, few-fields}
 use borrow.Author.Needs.{needs}
-use Rattle.reader.proofs.load.read_record.Statement.{statement}
-use Rattle.reader.proofs.load.read_record.Tie as tie
+use Rattle.loader.proofs.read_record.Statement.{statement}
+use Rattle.loader.proofs.read_record.Tie as tie
 
 read-summary-requires : tie.Need-read-summary-requires
 read-summary-requires c κs = search needs
