@@ -19,7 +19,8 @@ use Rattle.tables.specs.Memory.{tablesIn}
 use Rattle.record.specs.Slots.{fieldsIn}
 use Rattle.server.specs.declared.answer.Opening.{Opening}
 use Rattle.server.specs.declared.answer.Opening.the-variants.{Done, Refused}
-use Rattle.server.specs.Memory.{loginIn, loginsIn, stateIn}
+use Rattle.sessions.specs.Logins.{loginIn, loginsIn}
+use Rattle.server.specs.Memory.{stateIn}
 use Rattle.server.specs.Answers.{textsOf, tooLong, openingResult, openingAnswer, KeptIfRefused}
 
 -- the state that opened tables and fields make

@@ -1,0 +1,2 @@
+-- Laws that the proofs cite, and callers too: the login states in memory.
+pub mod States

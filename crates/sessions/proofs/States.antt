@@ -1,0 +1,168 @@
+-- The login states in memory: the one at an index, one written, what a login is decided to be, and whether a number is an open session's.
+use Prim.Native.Nat.{ℕ, suc, _+_, _*_, _/_, _≤_, _<_, min}
+use mathlib.Core.Path.{_≡_, refl, sym, ap, _∙_}
+use mathlib.Core.Bool.{Bool, true, false, not, _&&_}
+use mathlib.Core.Option.{Option, none, some}
+use mathlib.Core.List.{List, [], _∷_, append-assoc}
+use native.Mathlib.Nat.{add-zero}
+use native.Mathlib.Numerals.{add-one, add-two}
+use native.Mathlib.Omega.{arith}
+use borrow.Author.Tests.{eq-eqb, ne-eqb}
+use mir.Val.{boolByte}
+use lib.Dec.{eqb}
+use lib.ListN.{length, getD, getElem?, take, drop, set}
+use lib.Seq.{sets, sets-eq, drop-drop}
+use Rattle.rows.specs.Rows.{rows, upTo, replaced}
+use Rattle.rows.proofs.Rows.{length-rows, row-at, rows-set, map-set, getD-map}
+use Rattle.rows.proofs.Parts.{part-at, part-part}
+use Rattle.model.specs.Base.{Bytes, firstFrom, _==_}
+use Rattle.model.specs.Limits.{maxUsers, maxLogins}
+use Rattle.model.specs.Refusals.{refused, done, _>>=_, _>>_, refuse_if_, _or_}
+use Rattle.model.specs.Tables.{User, userAt, userNamed}
+use Rattle.model.specs.Opening.{LoginState, emptyLogin}
+use Rattle.model.specs.Serving.{enters, decideLogin, isSession, indexIn, sessionNumber}
+use Rattle.model.proofs.Lists.{by-cases, elem-below}
+use Rattle.paths.specs.Layout.{nameIn}
+use Rattle.steps.specs.Environments.{isEmptyRow}
+use Rattle.tables.specs.Memory.{userIn, usersIn, userAnswer}
+use Rattle.tables.specs.declared.layout.UserAt.{UserAt}
+use Rattle.tables.specs.declared.layout.UserAt.the-variants.{At, Unknown}
+use Rattle.tables.proofs.Tabled.{length-decoded, counted-within}
+use Rattle.tables.proofs.Users.{user-none, user-some}
+use Rattle.sessions.specs.Logins.{loginIn, loginsIn, loginDecided, sessionIs, hasSession}
+
+-- ── A login state in its three numbers ──
+-- a flag is stored as 1 or 0
+flag : (b : Bool) → not (eqb (boolByte b) 0) ≡ b
+flag true = refl
+flag false = refl
+
+module _ (s : List ℕ) (i : ℕ) (below : i < 32) where
+  -- three numbers read
+  pub state-read : getD (loginsIn s) i emptyLogin
+      ≡ record { logins = getD s (i * 3) 0; isOpen = not (eqb (getD s (i * 3 + 1) 0) 0); created = getD s (i * 3 + 2) 0 }
+  unfolding loginsIn loginIn
+  state-read =
+      let l : i < length (rows 3 32 s) = rw length-rows below in
+      let at = part-at (i * 3) 3 s 0 in
+      getD-map loginIn i (rows 3 32 s) emptyLogin [] l
+      ∙ rw (row-at 3 i 32 s [] below, at 0 (omega arith), at 1 (omega arith), at 2 (omega arith), add-zero)
+
+  -- three numbers stored
+  pub state-put : length s ≡ 96 → (a : ℕ) (b : Bool) (c : ℕ)
+      → loginsIn (set (set (set s (i * 3) a) (i * 3 + 1) (boolByte b)) (i * 3 + 2) c)
+      ≡ set (loginsIn s) i (record { logins = a; isOpen = b; created = c })
+  unfolding loginsIn loginIn
+  state-put long a b c =
+      let row = a ∷ boolByte b ∷ c ∷ [] in
+      let e : sets s (i * 3) row ≡ replaced (i * 3) 3 row s = sets-eq row s (i * 3) (omega arith) ∙ rw (append-assoc, drop-drop) in
+      rw (add-one (i * 3), add-two (i * 3), e, rows-set 3 i 32 row s refl below (omega arith), map-set, flag b)
+
+-- ── The user that a search finds ──
+-- what is found stands at its index
+found-at : {A : Type 0} (p : A → Bool) (xs : List A) (k : ℕ) (t : ℕ × A) → firstFrom k p xs ≡ some t
+    → (j : ℕ) × (t .0 ≡ k + j) × (getElem? xs j ≡ some (t .1))
+unfolding firstFrom
+found-at p [] k t e = let z : _≡_ {A = ℕ} 0 1 = cc in absurd (omega arith)
+found-at {A} p (x ∷ xs) k t e =
+    by-cases (p x)
+    (λ h. let q : _≡_ {A = ℕ × A} (k, x) t = let r = rw h at e in cc in
+    (0, rw (← q, add-zero), rw (← q)))
+    (λ h. let (j, is, at) = found-at p xs (suc k) t (rw h at e) in (suc j, omega arith, at))
+
+-- one login more, with a session
+abbrev pub once-more : LoginState → LoginState
+once-more a = record { logins = min (suc (a .logins)) maxLogins; isOpen = true; created = a .created }
+
+-- a user of the name n was found at i
+module _ (s n : Bytes) {o : UserAt} {i : ℕ} (at : o ≡ At i) (found : o ≡ userAnswer (userNamed n (usersIn s))) where
+  -- it is the index of a user in the table
+  found-elem : (u : User) × (userNamed n (usersIn s) ≡ some (i, u)) × (getElem? (usersIn s) i ≡ some u)
+  unfolding userNamed
+  found-elem = go (userNamed n (usersIn s)) refl (sym at ∙ found)
+    where
+      go : (o : Option (ℕ × User)) → userNamed n (usersIn s) ≡ o → At i ≡ userAnswer o
+          → (u : User) × (userNamed n (usersIn s) ≡ some (i, u)) × (getElem? (usersIn s) i ≡ some u)
+      go none e f = let z : _≡_ {A = ℕ} 0 1 = cc in absurd (omega arith)
+      go (some t) e f =
+          let q : t .0 ≡ i = cc in
+          let (j, is, el) = found-at _ (usersIn s) 0 t e in
+          let p : j ≡ i = omega arith in
+          (t .1, e ∙ rw (← q), ap (λ (m : ℕ). getElem? (usersIn s) m) (sym p) ∙ el)
+
+  -- the index is that of a user's row
+  found-counted : i < length (upTo isEmptyRow (rows 597 maxUsers s))
+  unfolding usersIn
+  found-counted =
+      let (u, e, el) = found-elem in
+      omega (arith, elem-below (usersIn s) i u el, length-decoded isEmptyRow userIn 597 maxUsers s)
+
+  pub found-below : i < 32
+  found-below = omega (arith, found-counted, counted-within isEmptyRow userIn 597 maxUsers s refl)
+
+  -- the row at the index is that user's
+  found-row : userNamed n (usersIn s) ≡ some (i, userIn (take 597 (drop (i * 597) s)))
+  unfolding userAt
+  found-row =
+      let (u, e, el) = found-elem in
+      let row = userIn (take 597 (drop (i * 597) s)) in
+      let at : getElem? (usersIn s) i ≡ some row = user-some s refl i found-counted refl in
+      let q : u ≡ row = cc in
+      e ∙ rw q
+
+  -- ── A login of that user, whose key was compared with k ──
+  module _ (ls : List LoginState) (k : Bytes) {key : Bytes} {r : Bool} (is : key ≡ nameIn (take 17 (drop (i * 597 + 34) s))) (same : r ≡ (key == k)) where
+    -- the comparison stands for the key's
+    login-is : loginDecided (usersIn s) ls n k
+        ≡ ((refuse 12 if not r) >> ((refuse 13 if getD ls i emptyLogin .isOpen) >> done (enters i (once-more (getD ls i emptyLogin)))))
+    unfolding loginDecided decideLogin userIn _>>=_ _or_ _>>_ refuse_if_
+    login-is = rw (found-row, part-part (i * 597) 597 s 34 17 (omega arith), ← is, ← same)
+
+    -- the key is another; the user's login state is a, with a session or without
+    pub wrong-key : r ≡ false → loginDecided (usersIn s) ls n k ≡ refused 12
+    unfolding _>>_ refuse_if_
+    wrong-key h = login-is ∙ rw h
+
+    module _ (right : r ≡ true) {a : LoginState} (state : a ≡ getD ls i emptyLogin) where
+      pub has-session : a .isOpen ≡ true → loginDecided (usersIn s) ls n k ≡ refused 13
+      unfolding _>>_ refuse_if_
+      has-session h = login-is ∙ rw (right, ← state, h)
+
+      pub login-enters : a .isOpen ≡ false → {b : LoginState} → b ≡ once-more a → loginDecided (usersIn s) ls n k ≡ done (enters i b)
+      unfolding _>>_ refuse_if_
+      login-enters h e = login-is ∙ rw (right, ← state, h, e)
+
+-- nobody has the name
+pub login-unknown : (s n : Bytes) {o : UserAt} → o ≡ Unknown → o ≡ userAnswer (userNamed n (usersIn s)) → (ls : List LoginState) (k : Bytes)
+    → loginDecided (usersIn s) ls n k ≡ refused 12
+unfolding loginDecided _>>=_ _or_
+login-unknown s n at found ls k = go (userNamed n (usersIn s)) refl (sym at ∙ found)
+  where
+    go : (o : Option (ℕ × User)) → userNamed n (usersIn s) ≡ o → Unknown ≡ userAnswer o → loginDecided (usersIn s) ls n k ≡ refused 12
+    go none e f = rw e
+    go (some t) e f = let z : _≡_ {A = ℕ} 0 1 = cc in absurd (omega arith)
+
+-- ── A session's number: m users were counted ──
+module _ (s : Bytes) (ls : List LoginState) (n : ℕ) {m : ℕ} (counted : m ≡ length (upTo isEmptyRow (rows 597 maxUsers s))) where
+  -- the number's index is a user's, or nobody's
+  pub session-user : n / 65536 < m → n / 65536 < 32
+  session-user h = omega (arith, counted-within isEmptyRow userIn 597 maxUsers s counted)
+
+  pub session-none : m ≤ n / 65536 → hasSession (usersIn s) ls n ≡ false
+  unfolding hasSession sessionIs indexIn
+  session-none h = rw (user-none s counted (n / 65536) h)
+
+  -- it is a user's, whose login state is a: no session is open, one of another number r, or the one of the number n
+  module _ (below : n / 65536 < m) {a : LoginState} (state : a ≡ getD ls (n / 65536) emptyLogin) where
+    session-is : hasSession (usersIn s) ls n ≡ (a .isOpen && eqb (sessionNumber (n / 65536) a) n)
+    unfolding hasSession sessionIs indexIn isSession
+    session-is = rw (user-some s counted (n / 65536) below refl, ← state)
+
+    pub session-closed : a .isOpen ≡ false → hasSession (usersIn s) ls n ≡ false
+    session-closed h = session-is ∙ rw h
+
+    pub session-other : a .isOpen ≡ true → {r : ℕ} → r ≡ sessionNumber (n / 65536) a → (r ≡ n → ⊥) → hasSession (usersIn s) ls n ≡ false
+    session-other h e f = session-is ∙ rw (← e, h, ne-eqb _ n f)
+
+    pub session-open : a .isOpen ≡ true → {r : ℕ} → r ≡ sessionNumber (n / 65536) a → r ≡ n → hasSession (usersIn s) ls n ≡ true
+    session-open h e f = session-is ∙ rw (← e, h, eq-eqb _ n f)

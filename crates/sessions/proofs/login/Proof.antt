@@ -1,0 +1,96 @@
+-- Nobody of that name, or another key: 12. A session is open: 13. Else the state of one login more is stored, and its number answered.
+use mathlib.Core.Path.{refl, ap}
+use native.Mathlib.Omega.{arith}
+use borrow.Author.Needs.{needs}
+use borrow.Author.Tests.{not-true, not-false}
+use Rattle.sessions.specs.Logins.{loginsIn, stateOf}
+use Rattle.sessions.specs.declared.LoginReply.the-variants.{Session}
+use Rattle.sessions.proofs.States.{found-below, login-unknown, wrong-key, has-session, login-enters}
+use Rattle.sessions.proofs.login.Statement.{statement}
+use Rattle.sessions.proofs.login.Tie as tie
+
+find-user-requires : tie.Need-find-user-requires
+find-user-requires c κs = search needs
+
+enum-known-i : tie.Need-enum-known-i
+enum-known-i c = search needs
+
+enum-told : tie.Need-enum-told
+enum-told c = search needs
+
+returns : tie.Need-returns
+returns c = rw (login-unknown _ _ (c .enum-told .given .1) (c .before .before .find-user .ensures) _ _) (refl, refl)
+
+mul-name-from : tie.Need-mul-name-from
+mul-name-from c = omega (arith, found-below _ _ (c .before .i .given .1) (c .before .before .before .find-user .ensures))
+
+add-name-from : tie.Need-add-name-from
+add-name-from c = omega (arith, found-below _ _ (c .before .i .given .1) (c .before .before .before .find-user .ensures))
+
+name-from-requires : tie.Need-name-from-requires
+name-from-requires c κs = omega (arith, found-below _ _ (c .before .i .given .1) (c .before .before .before .find-user .ensures))
+
+same-requires : tie.Need-same-requires
+same-requires c κs = search needs
+
+returns-2 : tie.Need-returns-2
+returns-2 c =
+    let k = c .before .before .before .before .before .before in
+    let at = c .before .before .before .before .i .given .1 in
+    rw (wrong-key _ _ at (k .find-user .ensures) (loginsIn (k .before .before .before .before .before .args .logins .now)) _ (c .before .before .name-from .ensures) (c .before .same .ensures) (not-true _ (c .if1 .taken))) (refl, refl)
+
+state-at-requires : tie.Need-state-at-requires
+state-at-requires c κs = (search needs, found-below _ _ (c .before .before .before .before .before .i .given .1) (c .before .before .before .before .before .before .before .find-user .ensures))
+
+same-length : tie.Need-same-length
+same-length c = search needs
+
+returns-3 : tie.Need-returns-3
+unfolding stateOf
+returns-3 c =
+    let k = c .before .before .before .before .before .before .before .before .before in
+    let at = c .before .before .before .before .before .before .before .i .given .1 in
+    let right = not-false _ (c .before .before .before .if1 .left) in
+    rw (has-session _ _ at (k .find-user .ensures) (loginsIn (k .before .before .before .before .before .args .logins .now)) _ (c .before .before .before .before .before .name-from .ensures) (c .before .before .before .before .same .ensures) right (c .before .state-at .ensures) (c .if2 .taken)) (refl, refl)
+
+entered-requires : tie.Need-entered-requires
+entered-requires c κs = search needs
+
+put-state-requires : tie.Need-put-state-requires
+put-state-requires c κs = (search needs, found-below _ _ (c .before .before .before .before .before .before .before .before .before .i .given .1) (c .before .before .before .before .before .before .before .before .before .before .before .find-user .ensures))
+
+number-requires : tie.Need-number-requires
+number-requires c κs = found-below _ _ (c .before .before .before .before .before .before .before .before .before .before .before .before .i .given .1) (c .before .before .before .before .before .before .before .before .before .before .before .before .before .before .find-user .ensures)
+
+same-length-2 : tie.Need-same-length-2
+same-length-2 c = search needs
+
+returns-4 : tie.Need-returns-4
+unfolding stateOf
+returns-4 c =
+    let k = c .before .before .before .before .before .before .before .before .before .before .before .before .before .before .before in
+    let at = c .before .before .before .before .before .before .before .before .before .before .before .before .before .i .given .1 in
+    let right = not-false _ (c .before .before .before .before .before .before .before .before .before .if1 .left) in
+    rw (login-enters _ _ at (k .find-user .ensures) (loginsIn (k .before .before .before .before .before .args .logins .now)) _ (c .before .before .before .before .before .before .before .before .before .before .before .name-from .ensures) (c .before .before .before .before .before .before .before .before .before .before .same .ensures) right (c .before .before .before .before .before .before .before .state-at .ensures) (c .before .before .before .before .before .before .if2 .left) (c .before .before .before .before .before .entered .ensures)) (ap Session (c .number .ensures), c .before .before .before .put-state .ensures)
+
+pub login-spec : {M : Type 1} → statement M
+login-spec =
+    tie.close
+    (tie.spec
+    find-user-requires
+    enum-known-i
+    enum-told
+    returns
+    mul-name-from
+    add-name-from
+    name-from-requires
+    same-requires
+    returns-2
+    state-at-requires
+    same-length
+    returns-3
+    entered-requires
+    put-state-requires
+    number-requires
+    same-length-2
+    returns-4)
