@@ -1,7 +1,8 @@
-// Runs a table of inputs through each public function of `lexical` and `paths`, and prints what came out.
+// Runs a table of inputs through the public functions of `lexical`, `paths` and `steps`, and prints what came out.
 mod scalars;
 mod show;
 mod slots;
+mod table;
 
 fn main() {
     scalars::table();

@@ -1,5 +1,7 @@
 // The functions of `lexical`.
 use crate::show;
+use crate::table::Shown;
+use crate::table::each;
 use lexical::class::Class;
 use lexical::class::between;
 use lexical::class::is_blank;
@@ -18,7 +20,6 @@ use lexical::number::number;
 use lexical::slice::compare;
 use lexical::slice::same;
 use lexical::slice::starts;
-use lexical::value::Scalar;
 use lexical::value::ValueAt;
 use lexical::value::put_value;
 use lexical::value::value_at;
@@ -30,17 +31,17 @@ use lexical::write::put_whole;
 fn class_of(b: u8) {
     let one = [b];
     show::asked(b"byte", &one);
-    show::mark(b"n", is_name_byte(b));
-    show::mark(b"p", is_plain_byte(b));
-    show::mark(b"t", is_text_byte(b));
-    show::mark(b"d", is_digit(b));
-    show::mark(b"i", is_identifier_byte(b));
-    show::mark(b"b", is_blank(b));
-    show::mark(b"N", passes(Class::Name, b));
+    show::mark(b'n', is_name_byte(b));
+    show::mark(b'p', is_plain_byte(b));
+    show::mark(b't', is_text_byte(b));
+    show::mark(b'd', is_digit(b));
+    show::mark(b'i', is_identifier_byte(b));
+    show::mark(b'b', is_blank(b));
+    show::mark(b'N', passes(Class::Name, b));
     show::text(b"\n");
 }
 
-fn names(s: &[u8]) {
+pub fn names(s: &[u8]) {
     show::asked(b"is_name", s);
     show::flag(is_name(s));
     show::asked(b"is_key", s);
@@ -53,25 +54,23 @@ fn names(s: &[u8]) {
     show::end(between(s, 0, b'\'', Class::Name, 1, 16));
 }
 
-fn numbers(s: &[u8]) {
+pub fn numbers(s: &[u8]) {
     show::asked(b"number to 256", s);
     match number(s, 256) {
         Natural::Is(n) => show::count(n),
-        Natural::Bad => show::text(b"bad\n"),
+        Natural::Bad => show::bad(),
     }
     show::asked(b"number to 4294967295", s);
     match number(s, 4294967295) {
         Natural::Is(n) => show::count(n),
-        Natural::Bad => show::text(b"bad\n"),
+        Natural::Bad => show::bad(),
     }
 }
 
 fn pair(a: &[u8], b: &[u8]) {
-    show::asked(b"same", a);
-    show::asked(b"and", b);
+    show::asked_both(b"same", a, b);
     show::flag(same(a, b));
-    show::asked(b"compare", a);
-    show::asked(b"and", b);
+    show::asked_both(b"compare", a, b);
     show::order(compare(a, b));
     show::asked(b"starts", a);
     show::asked(b"with", b);
@@ -79,13 +78,13 @@ fn pair(a: &[u8], b: &[u8]) {
 }
 
 // A value that is read, and written into a buffer of 12 bytes.
-fn value(s: &[u8]) {
+pub fn value(s: &[u8]) {
     if 64 < s.len() {
         return;
     }
     show::asked(b"value_at", s);
     let ValueAt::At(v, to) = value_at(s, 0) else {
-        show::text(b"bad\n");
+        show::bad();
         return;
     };
     show::count(to as u64);
@@ -107,7 +106,7 @@ fn writers(n: u32, z: i32) {
     show::buffer(&out, d);
 }
 
-pub fn table() {
+fn classes() {
     class_of(0x1F);
     class_of(b' ');
     class_of(b'"');
@@ -125,43 +124,66 @@ pub fn table() {
     class_of(b'~');
     class_of(0x7F);
     class_of(b'\t');
-    names(b"");
-    names(b"ann");
-    names(b"29");
-    names(b"br 50");
-    names(b"'key'");
-    names(b"''");
-    names(b"'sixteen bytes ok'");
-    names(b"'seventeen bytes..'");
-    names(b"sixteen bytes ok");
-    names(b"seventeen bytes..");
-    numbers(b"");
-    numbers(b"0");
-    numbers(b"00");
-    numbers(b"256");
-    numbers(b"257");
-    numbers(b"4294967295");
-    numbers(b"4294967296");
-    numbers(b"1x");
-    pair(b"", b"");
-    pair(b"ab", b"abc");
-    pair(b"abc", b"ab");
-    pair(b"b", b"abc");
-    pair(b"abc", b"abc");
-    value(b"true");
-    value(b"false,");
-    value(b"\"\"");
-    value(b"\"a;'b\"");
-    value(b"\"12345678901234567890123456789012\"");
-    value(b"\"123456789012345678901234567890123\"");
-    value(b"0");
-    value(b"-0");
-    value(b"01");
-    value(b"2147483647");
-    value(b"2147483648");
-    value(b"-2147483648");
-    value(b"-2147483649");
-    value(b"null");
+}
+
+fn pairs() {
+    let empty = b"";
+    let ab = b"ab";
+    let abc = b"abc";
+    pair(empty, empty);
+    pair(ab, abc);
+    pair(abc, ab);
+    pair(b"b", abc);
+    pair(abc, abc);
+}
+
+pub fn table() {
+    classes();
+    each(
+        Shown::Names,
+        b"
+ann
+29
+br 50
+'key'
+''
+'sixteen bytes ok'
+'seventeen bytes..'
+sixteen bytes ok
+seventeen bytes..
+",
+    );
+    each(
+        Shown::Numbers,
+        b"
+0
+00
+256
+257
+4294967295
+4294967296
+1x
+",
+    );
+    pairs();
+    each(
+        Shown::Value,
+        b"true
+false,
+\"\"
+\"a;'b\"
+\"12345678901234567890123456789012\"
+\"123456789012345678901234567890123\"
+0
+-0
+01
+2147483647
+2147483648
+-2147483648
+-2147483649
+null
+",
+    );
     writers(0, -2147483648);
     writers(4294967295, 2147483647);
 }

@@ -7,12 +7,26 @@ pub fn text(s: &[u8]) {
     io::write_all(STDOUT_FILENO, s);
 }
 
+pub fn line(s: &[u8]) {
+    text(s);
+    text(b"\n");
+}
+
+pub fn bad() {
+    text(b"bad\n");
+}
+
 // The function and what it was asked of.
 pub fn asked(function: &[u8], s: &[u8]) {
     text(function);
     text(b" ");
     text(s);
     text(b": ");
+}
+
+pub fn asked_both(function: &[u8], a: &[u8], b: &[u8]) {
+    asked(function, a);
+    asked(b"and", b);
 }
 
 pub fn flag(is: bool) {
@@ -23,12 +37,17 @@ pub fn flag(is: bool) {
     }
 }
 
+fn byte(b: u8) {
+    let one = [b];
+    text(&one);
+}
+
 // The letter, or a dot in its place.
-pub fn mark(letter: &[u8], is: bool) {
+pub fn mark(letter: u8, is: bool) {
     if is {
-        text(letter);
+        byte(letter);
     } else {
-        text(b".");
+        byte(b'.');
     }
 }
 
@@ -40,7 +59,7 @@ pub fn count(n: u64) {
 pub fn end(e: End) {
     match e {
         End::At(at) => count(at as u64),
-        End::Bad => text(b"bad\n"),
+        End::Bad => bad(),
     }
 }
 

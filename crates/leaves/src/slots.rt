@@ -1,5 +1,7 @@
-// The functions of `paths`.
+// The functions of `paths` and `steps`.
 use crate::show;
+use crate::table::Shown;
+use crate::table::each;
 use paths::field::compare_paths;
 use paths::field::push_key;
 use paths::field::put_path;
@@ -37,23 +39,42 @@ fn kind(k: Kind) {
     }
 }
 
-// Names in a row and in a slot.
-fn names() {
-    let mut one = [0u8; 17];
-    put_name(&mut one, b"seventeen bytes..");
-    show::text(name(&one));
-    show::text(b"\n");
+// A name in a row, which has room for 16 bytes of it.
+fn name_in_row() {
+    let mut row = [0u8; 17];
+    put_name(&mut row, b"seventeen bytes..");
+    show::line(name(&row));
+}
+
+fn two_names() -> [u8; 69] {
     let mut slot = [0u8; 69];
     push_name(&mut slot, b"ann", 4);
     push_name(&mut slot, b"bob", 4);
-    show::count(count(&slot, 4) as u64);
-    show::text(name_at(&slot, 1));
-    show::text(b"\n");
-    show::text(name_from(&slot, 1));
-    show::text(b"\n");
-    show::flag(has_name(&slot, b"bob"));
-    show::flag(has_name(&slot, b"bo"));
-    show::flag(has_name(&one_name(b"eve"), b"eve"));
+    slot
+}
+
+fn names_in_slot(slot: &[u8; 69]) {
+    show::count(count(slot, 4) as u64);
+    show::line(name_at(slot, 1));
+    show::line(name_from(slot, 1));
+    show::flag(has_name(slot, b"bob"));
+    show::flag(has_name(slot, b"bo"));
+}
+
+fn names() {
+    name_in_row();
+    let slot = two_names();
+    names_in_slot(&slot);
+    let one = one_name(b"eve");
+    show::flag(has_name(&one, b"eve"));
+}
+
+fn kinds() {
+    kind(kind_of(0));
+    kind(kind_of(1));
+    kind(kind_of(2));
+    kind(kind_of(3));
+    kind(kind_of(4));
 }
 
 // A path with one key more.
@@ -67,11 +88,11 @@ fn path_text(slot: &[u8; 103]) {
     show::buffer(&out, to);
 }
 
-fn path(s: &[u8]) {
+pub fn path(s: &[u8]) {
     show::asked(b"read_path", s);
     let read = read_path(s);
     if !read.ok {
-        show::text(b"bad\n");
+        show::bad();
         return;
     }
     let mut slot = read.slot;
@@ -87,11 +108,11 @@ fn steps_text(slot: &[u8; 421]) {
     show::count(count(slot, 6) as u64);
 }
 
-fn policy(s: &[u8]) {
+pub fn policy(s: &[u8]) {
     show::asked(b"read_steps", s);
     let read = read_steps(s);
     if !read.ok {
-        show::text(b"bad\n");
+        show::bad();
         return;
     }
     let slot = read.slot;
@@ -104,11 +125,11 @@ fn step_alone(found: Step) {
     steps_text(&slot);
 }
 
-fn step(s: &[u8]) {
+pub fn step(s: &[u8]) {
     show::asked(b"step_at", s);
     let read = step_at(s, 0);
     if !read.ok {
-        show::text(b"bad\n");
+        show::bad();
         return;
     }
     show::count(read.to as u64);
@@ -121,8 +142,7 @@ fn order(a: &[u8; 103], b: &[u8; 103]) {
 }
 
 fn order_of(a: &[u8], b: &[u8]) {
-    show::asked(b"compare_paths", a);
-    show::asked(b"and", b);
+    show::asked_both(b"compare_paths", a, b);
     let x = read_path(a).slot;
     let y = read_path(b).slot;
     order(&x, &y);
@@ -150,8 +170,7 @@ fn matched(lines: &[u8; 544], steps: &[u8; 421], slot: &[u8; 103]) {
 }
 
 fn match_of(p: &[u8], k: &[u8]) {
-    show::asked(b"matches", p);
-    show::asked(b"and", k);
+    show::asked_both(b"matches", p, k);
     let lines = two_lines();
     let steps = read_steps(p).slot;
     let slot = read_path(k).slot;
@@ -168,8 +187,7 @@ fn conflicts_with_field(a: &[u8; 421], slot: &[u8; 103]) {
 }
 
 fn conflict_of(p: &[u8], q: &[u8], k: &[u8]) {
-    show::asked(b"conflict", p);
-    show::asked(b"and", q);
+    show::asked_both(b"conflict", p, q);
     let a = read_steps(p).slot;
     let b = read_steps(q).slot;
     conflicts(&a, &b);
@@ -178,64 +196,100 @@ fn conflict_of(p: &[u8], q: &[u8], k: &[u8]) {
     conflicts_with_field(&a, &slot);
 }
 
-pub fn table() {
-    names();
-    kind(kind_of(0));
-    kind(kind_of(1));
-    kind(kind_of(2));
-    kind(kind_of(3));
-    kind(kind_of(4));
-    path(b"$['a']");
-    path(b"$['sixteen bytes ok']['b']");
-    path(b"$['seventeen bytes..']");
-    path(b"$['a']['b']['c']['d']['e']['f']");
-    path(b"$['a']['b']['c']['d']['e']['f']['g']");
-    path(b"$");
-    path(b"");
-    path(b"$.a");
-    path(b"$[\"a\"]");
-    path(b"$['a'] ");
-    policy(b"$.a");
-    policy(b"$.29");
-    policy(b"$._29");
-    policy(b"$.*");
-    policy(b"$[*]['a',\"b\"]");
-    policy(b"$['a','b','c','d']");
-    policy(b"$['a','b','c','d','e']");
-    policy(b"$['a',]");
-    policy(b"$[]");
-    policy(b"$[=~loco].speed");
-    policy(b"$[in~loco]");
-    policy(b"$[=~lo co]");
-    policy(b"$.a.b.c.d.e.f");
-    policy(b"$.a.b.c.d.e.f.g");
-    policy(
-        b"$['sixteen bytes ok','sixteen bytes ok','sixteen bytes ok','sixteen bytes ok']['sixteen bytes ok','sixteen bytes ok']",
-    );
-    policy(
-        b"$['sixteen bytes ok','sixteen bytes ok','sixteen bytes ok','sixteen bytes ok'].sixteen_bytes_ok.fourteen_bytes.x",
-    );
-    policy(
-        b"$['sixteen bytes ok','sixteen bytes ok','sixteen bytes ok','sixteen bytes ok'].sixteen_bytes_ok.fourteen_bytes.xy",
-    );
-    step(b".name['x']");
-    step(b".seventeen_bytes__");
-    step(b"[*]");
-    step(b"['a','b']");
-    step(b"[in~loco]");
-    step(b"['a' ]");
-    order_of(b"$['a']", b"$['a']");
-    order_of(b"$['a']", b"$['a']['b']");
-    order_of(b"$['a']['b']", b"$['a']");
+fn orders() {
+    let a = b"$['a']";
+    let ab = b"$['a']['b']";
+    order_of(a, a);
+    order_of(a, ab);
+    order_of(ab, a);
     order_of(b"$['a']['c']", b"$['ab']['b']");
-    match_of(b"$.*.speed", b"$['29']['speed']");
-    match_of(b"$[=~n].speed", b"$['29']['speed']");
-    match_of(b"$[=~n].speed", b"$['30']['speed']");
-    match_of(b"$[in~n].speed", b"$['30']['speed']");
+}
+
+fn matches_by_environment() {
+    let first = b"$['29']['speed']";
+    let second = b"$['30']['speed']";
+    let equals = b"$[=~n].speed";
+    match_of(b"$.*.speed", first);
+    match_of(equals, first);
+    match_of(equals, second);
+    match_of(b"$[in~n].speed", second);
+}
+
+fn matches_by_names() {
     match_of(b"$['29','31'].speed", b"$['31']['speed']");
     match_of(b"$.*", b"$['29']['speed']");
+}
+
+fn conflicts_by_length() {
     conflict_of(b"$.a.b", b"$.a", b"$['a']");
     conflict_of(b"$.a.b", b"$.c", b"$['a']['b']");
+}
+
+fn conflicts_by_steps() {
     conflict_of(b"$['x','a'].b", b"$['a','y']", b"$['a']['b']['c']");
     conflict_of(b"$[=~loco].b", b"$.a", b"$['z']");
+}
+
+// At most six steps, and at most 121 bytes in the standard spelling.
+fn long_policies() {
+    each(
+        Shown::Policy,
+        b"$.a.b.c.d.e.f
+$.a.b.c.d.e.f.g
+$['sixteen bytes ok','sixteen bytes ok','sixteen bytes ok','sixteen bytes ok']['sixteen bytes ok','sixteen bytes ok']
+$['sixteen bytes ok','sixteen bytes ok','sixteen bytes ok','sixteen bytes ok'].sixteen_bytes_ok.fourteen_bytes.x
+$['sixteen bytes ok','sixteen bytes ok','sixteen bytes ok','sixteen bytes ok'].sixteen_bytes_ok.fourteen_bytes.xy
+",
+    );
+}
+
+pub fn table() {
+    names();
+    kinds();
+    each(
+        Shown::Path,
+        b"$['a']
+$['sixteen bytes ok']['b']
+$['seventeen bytes..']
+$['a']['b']['c']['d']['e']['f']
+$['a']['b']['c']['d']['e']['f']['g']
+$
+
+$.a
+$[\"a\"]
+$['a']\x20
+",
+    );
+    each(
+        Shown::Policy,
+        b"$.a
+$.29
+$._29
+$.*
+$[*]['a',\"b\"]
+$['a','b','c','d']
+$['a','b','c','d','e']
+$['a',]
+$[]
+$[=~loco].speed
+$[in~loco]
+$[=~lo co]
+",
+    );
+    long_policies();
+    each(
+        Shown::Step,
+        b".name['x']
+.seventeen_bytes__
+[*]
+['a','b']
+[in~loco]
+['a' ]
+",
+    );
+    orders();
+    matches_by_environment();
+    matches_by_names();
+    conflicts_by_length();
+    conflicts_by_steps();
 }

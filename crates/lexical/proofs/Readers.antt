@@ -1,38 +1,24 @@
 -- Readers that are put together of others: what they read by positions, and that they leave the end of the text.
-use Prim.Native.Nat.{ℕ, _+_, _-_, _≤_, _<_}
+use Prim.Native.Nat.{ℕ, _+_, _-_, _≤_}
 use mathlib.Core.Path.{_≡_, refl, sym, ap, _∙_}
 use mathlib.Core.Bool.{Bool, true, false}
 use mathlib.Core.Option.{Option, none, some}
-use mathlib.Core.List.{[], _∷_, _++_}
+use mathlib.Core.List.{_++_}
 use native.Mathlib.Omega.{arith}
-use lib.ListN.{length, getD, take, drop, length-append, length-drop}
+use lib.ListN.{length, take, drop, length-append, length-drop}
 use lib.Seq.{drop-drop}
 use Rattle.rows.specs.Positions.{Reader, behind, placed, runEnd, LeavesEnd}
 use Rattle.rows.proofs.Positions.{run-within, placed-reads, placed-none}
 use Rattle.model.specs.Base.{Bytes, isSome, _>>=_, _>>_, _<|>_, check, after, ifAfter, span}
-use Rattle.model.proofs.Lists.{by-cases, none-some}
 use Rattle.model.proofs.Reading.{bind-some, check-some, after-cases, either-some, some-same, after-some, span-joins}
-use Rattle.lexical.proofs.Runs.{span-at, after-not, rest-of}
+use Rattle.lexical.proofs.Runs.{span-at, rest-of}
 use Rattle.lexical.proofs.Slices.{after-at, after-no}
-use borrow.Author.Tests.{eqb-true, eqb-false}
-use lib.Dec.{eqb}
 
 -- the rest of a rest
 pub rest-on : (s r t : Bytes) → (n : ℕ) × (n ≤ length s) × (r ≡ drop n s) → (n : ℕ) × (n ≤ length r) × (t ≡ drop n r)
     → (n : ℕ) × (n ≤ length s) × (t ≡ drop n s)
 rest-on s r t p q =
     (p .0 + q .0, omega (arith, ap length (p .2), length-drop (p .0) s), q .2 ∙ ap (drop (q .0)) (p .2) ∙ drop-drop (q .0) (p .0) s)
-
--- a word of one byte stands where the byte does
-pub byte-at : (q : ℕ) (s : Bytes) (at : ℕ) → at ≤ length s → isSome (after (q ∷ []) (drop at s)) ≡ true → (at < length s) × (getD s at 0 ≡ q)
-byte-at q s at l h =
-    let a = after-at (q ∷ []) s at l h in
-    let m : at < length s = omega (arith, a .1) in (
-      m,
-      by-cases (eqb (getD s at 0) q)
-          (λ e. eqb-true (getD s at 0) q e)
-          (λ e. none-some (sym (after-not q s at m (eqb-false (getD s at 0) q e)) ∙ a .0)),
-    )
 
 -- ── The first of two that reads something ──
 module _ {A : Type 0} (f g : Reader ℕ A) where

@@ -5,15 +5,15 @@ use mathlib.Core.Bool.{Bool, true, false}
 use mathlib.Core.Option.{Option, none, some}
 use mathlib.Core.List.{[], _∷_, _++_}
 use native.Mathlib.Omega.{arith}
-use lib.Dec.{leb, eqb, eqb·zero-suc, eqb·suc-suc}
+use lib.Dec.{leb, ltb, eqb, eqb·zero-suc, eqb·suc-suc}
 use lib.ListN.{length, getD, take, drop, length-append}
 use lib.Seq.{drop-at}
-use borrow.Author.Tests.{eq-eqb, ne-eqb, lt-leb}
+use borrow.Author.Tests.{eq-eqb, ne-eqb, eqb-true, eqb-false, ltb-true, ltb-false, lt-leb}
 use Rattle.rows.specs.Rows.{upTo}
 use Rattle.rows.specs.Positions.{run, runEnd}
 use Rattle.rows.proofs.Positions.{here, over, run-part, run-rest}
-use Rattle.model.specs.Base.{Bytes, all, _>>=_, _>>_, check, after, span, inFront, within}
-use Rattle.model.proofs.Lists.{by-cases}
+use Rattle.model.specs.Base.{Bytes, all, isSome, _>>=_, _>>_, check, after, span, inFront, within}
+use Rattle.model.proofs.Lists.{by-cases, never}
 
 -- ── Numbers outside of two bounds ──
 pub within-below : (a b x : ℕ) → x < a → within a b x ≡ false
@@ -59,6 +59,23 @@ module _ (q : ℕ) (s : Bytes) (at : ℕ) where
   pub after-over : length s ≤ at → after (q ∷ []) (drop at s) ≡ none
   unfolding after
   after-over h = rw (over s at h)
+
+  -- whether it stands there: not at the end, elsewhere by the byte itself
+  pub byte-over : length s ≤ at → isSome (after (q ∷ []) (drop at s)) ≡ false
+  unfolding isSome
+  byte-over h = rw (after-over h)
+
+  pub byte-test : at < length s → isSome (after (q ∷ []) (drop at s)) ≡ eqb (getD s at 0) q
+  unfolding isSome
+  byte-test h = by-cases (eqb (getD s at 0) q)
+      (λ e. rw (after-here h (eqb-true (getD s at 0) q e), e))
+      (λ e. rw (after-not h (eqb-false (getD s at 0) q e), e))
+
+  -- what is left behind it
+  pub byte-stands : isSome (after (q ∷ []) (drop at s)) ≡ true → (at + 1 ≤ length s) × (after (q ∷ []) (drop at s) ≡ some (drop (at + 1) s))
+  byte-stands o = by-cases (ltb at (length s))
+      (λ e. let h = ltb-true at (length s) e in (omega arith, after-here h (eqb-true (getD s at 0) q (sym (byte-test h) ∙ o))))
+      (λ e. never (sym o ∙ byte-over (ltb-false at (length s) e)))
 
 -- ── Readers ──
 -- what a reader read, and the rest behind it

@@ -8,7 +8,7 @@ use native.Mathlib.Omega.{arith}
 use borrow.Author.Tests.{le-leb}
 use lib.Dec.{leb}
 use lib.IntN.{ℤ, pos, negsuc, _-ℤ_, +ℤ-idl}
-use lib.ListN.{length, getD, take, drop}
+use lib.ListN.{length, take, drop}
 use mir.Syntax.{w32}
 use mir.Val.{SFits, toZ, ofZ}
 use mir.Facts.{toZ-pos, toZ-ofZ}
@@ -27,7 +27,7 @@ use Rattle.lexical.specs.declared.value.ValueAt.{ValueAt}
 use Rattle.lexical.specs.declared.value.ValueAt.the-variants.{At, Bad}
 use Rattle.lexical.specs.Classes.{readBetween, textAnswer}
 use Rattle.lexical.specs.Scalars.{valueIn, valueAnswer, InText, AnswerInText}
-use Rattle.lexical.proofs.Runs.{span-at, after-here, rest-of}
+use Rattle.lexical.proofs.Runs.{span-at, byte-stands, rest-of}
 use Rattle.lexical.proofs.Between.{string-between, between-at}
 use Rattle.lexical.proofs.Slices.{after-at, after-no}
 use Rattle.lexical.proofs.Decimals.{number-some, number-none}
@@ -79,15 +79,15 @@ module _ (s : Bytes) (at : ℕ) where
         })))
 
   -- one below 0: its digits stand behind the sign
-  pub negative-unsigned : after (0x2D ∷ []) (drop at s) ≡ none → none ≡ placed readNeg s at
+  pub negative-unsigned : isSome (after (0x2D ∷ []) (drop at s)) ≡ false → none ≡ placed readNeg s at
   unfolding readNeg text _>>=_
-  negative-unsigned m = sym (placed-none readNeg s at (rw m))
+  negative-unsigned m = sym (placed-none readNeg s at (rw (after-no (0x2D ∷ []) (drop at s) m)))
 
-  module _ (h : at < length s) (e : getD s at 0 ≡ 0x2D) (to : ℕ) (is : to ≡ runEnd isDigit s (at + 1)) where
+  module _ (o : isSome (after (0x2D ∷ []) (drop at s)) ≡ true) (to : ℕ) (is : to ≡ runEnd isDigit s (at + 1)) where
     signed : let d = digitsTo s (at + 1) to in
         readNeg (drop at s) ≡ (check (isDecimal d && within 1 2147483648 (worth 0 d)) >> some (whole (negsuc (worth 0 d - 1)), drop to s))
     unfolding readNeg text _>>=_
-    signed = rw (after-here 0x2D s at h e, span-at isDigit s (at + 1) to is)
+    signed = rw (byte-stands 0x2D s at o .1, span-at isDigit s (at + 1) to is)
 
     pub negative-bad : number 2147483648 (digitsTo s (at + 1) to) ≡ none → none ≡ placed readNeg s at
     unfolding check within _>>_
@@ -105,7 +105,7 @@ module _ (s : Bytes) (at : ℕ) where
         → some (whole z, to) ≡ placed readNeg s at
     unfolding check _>>_
     negative-is n z f i m =
-        let w = run-within isDigit s (at + 1) to is (omega arith) in
+        let w = run-within isDigit s (at + 1) to is (omega (arith, byte-stands 0x2D s at o .0)) in
         let (d, v, l) = number-some 2147483648 _ n m in
         rw i (sym (placed-reads readNeg s at _ to (record {
           from = omega arith;

@@ -1,10 +1,11 @@
 -- The byte classes by their names, and what stands between quotes.
 use Prim.Native.Nat.{ℕ, _+_, _-_}
 use mathlib.Core.Option.{Option, none, some}
-use mathlib.Core.List.{List, [], _∷_}
+use mathlib.Core.List.{[], _∷_}
 use mathlib.Core.Bool.{Bool}
 use lib.ListN.{length, take, drop}
-use Rattle.model.specs.Base.{Bytes, _>>=_, _>>_, check, after, span, within, isDigit}
+use Rattle.rows.specs.Positions.{runEnd}
+use Rattle.model.specs.Base.{Bytes, if_then_else_, _>>=_, _>>_, check, after, span, within, isDigit}
 use Rattle.model.specs.Names.{nameByte, plainByte}
 use Rattle.model.specs.Values.{stringByte}
 use Rattle.model.specs.Paths.{identifierByte}
@@ -21,6 +22,12 @@ inClass Text = stringByte
 inClass Digit = isDigit
 inClass Identifier = identifierByte
 inClass Blank = isBlank
+
+-- from `least` to `most` bytes of a class, from `at` on: where they end
+unfoldable pub scanEnd : Class → ℕ → ℕ → Bytes → ℕ → End
+scanEnd class least most s at =
+    let to = runEnd (inClass class) s at in
+    if within least most (to - at) then At to else Bad
 
 -- from `least` to `most` bytes of a class between two quotes
 unfoldable pub readBetween : Class → ℕ → ℕ → ℕ → Bytes → Option (Bytes × Bytes)

@@ -1,4 +1,5 @@
 // Byte classes, how far bytes of a class run, and names.
+use crate::slice::is_at;
 ghost use mathlib.Core.Path.{_≡_};
 ghost use Prim.Native.Nat.{_≤_};
 ghost use lib.ListN.{length};
@@ -8,7 +9,7 @@ ghost use Rattle.model.specs.Names.{nameByte, plainByte, isNameOf, isName, isKe
 ghost use Rattle.model.specs.Values.{stringByte};
 ghost use Rattle.model.specs.Paths.{identifierByte};
 ghost use Rattle.model.specs.RecordText.{isBlank};
-ghost use Rattle.lexical.specs.Classes.{inClass, readBetween, textAnswer};
+ghost use Rattle.lexical.specs.Classes.{inClass, scanEnd, readBetween, textAnswer};
 
 // The longest name of a user, a role, a login key or an environment line; the longest key of a record or a policy path.
 pub const MAX_NAME: usize = 16;
@@ -117,6 +118,21 @@ pub fn run(s: &[u8], at: usize, class: Class) -> usize
     i
 }
 
+// From `least` to `most` bytes of a class, from `at` on: where they end.
+pub fn scan(s: &[u8], at: usize, class: Class, least: usize, most: usize) -> End
+    requires { ⌜ at ≤ length (now s) ⌝ }
+    ensures { λ r. ⌜ r ≡ scanEnd class least most (now (s .entry)) at ⌝ }
+{
+    let to = run(s, at, class);
+    if to - at < least {
+        return End::Bad;
+    }
+    if most < to - at {
+        return End::Bad;
+    }
+    End::At(to)
+}
+
 // Whether a text is a name of at most `most` bytes.
 fn is_name_of(s: &[u8], most: usize) -> bool
     ensures { λ r. ⌜ r ≡ isNameOf most (now (s .entry)) ⌝ }
@@ -156,24 +172,13 @@ pub fn between(s: &[u8], at: usize, quote: u8, class: Class, least: usize, most:
     requires { ⌜ at ≤ length (now s) ⌝ }
     ensures { λ r. ⌜ textAnswer (now (s .entry)) at r ≡ placed (readBetween class quote least most) (now (s .entry)) at ⌝ }
 {
-    if s.len() <= at {
+    if !is_at(s, at, quote) {
         return End::Bad;
     }
-    if s[at] != quote {
+    let End::At(to) = scan(s, at + 1, class, least, most) else {
         return End::Bad;
-    }
-    let from = at + 1;
-    let to = run(s, from, class);
-    if to - from < least {
-        return End::Bad;
-    }
-    if most < to - from {
-        return End::Bad;
-    }
-    if s.len() <= to {
-        return End::Bad;
-    }
-    if s[to] != quote {
+    };
+    if !is_at(s, to, quote) {
         return End::Bad;
     }
     End::At(to + 1)

@@ -1,5 +1,6 @@
 // Comparing slices.
 ghost use mathlib.Core.Path.{_≡_};
+ghost use mathlib.Core.List.{[], _∷_};
 ghost use Prim.Native.Nat.{_≤_};
 ghost use lib.ListN.{length, drop};
 ghost use Rattle.model.specs.Base.{_==_, after, isSome};
@@ -69,4 +70,14 @@ pub fn starts(s: &[u8], at: usize, w: &[u8]) -> bool
         i += 1;
     }
     true
+}
+
+// Whether the byte b stands at the position.
+pub fn is_at(s: &[u8], at: usize, b: u8) -> bool
+    ensures { λ r. ⌜ r ≡ isSome (after (b ∷ []) (drop at (now (s .entry)))) ⌝ }
+{
+    if s.len() <= at {
+        return false;
+    }
+    s[at] == b
 }

@@ -5,9 +5,10 @@ use crate::class::between;
 use crate::class::run;
 use crate::number::Natural;
 use crate::number::number;
+use crate::slice::is_at;
 use crate::slice::starts;
 use crate::write::put;
-use crate::write::put_byte;
+use crate::write::put_quoted;
 use crate::write::put_whole;
 ghost use mathlib.Core.Path.{_≡_};
 ghost use Prim.Native.Nat.{_+_, _≤_, _<_, _^_};
@@ -52,10 +53,7 @@ fn negative_at(s: &[u8], at: usize) -> WholeAt
     requires { ⌜ at ≤ length (now s) ⌝ }
     ensures { λ r. ⌜ wholeAnswer r ≡ placed readNeg (now (s .entry)) at ⌝ }
 {
-    if s.len() <= at {
-        return WholeAt::Bad;
-    }
-    if s[at] != b'-' {
+    if !is_at(s, at, b'-') {
         return WholeAt::Bad;
     }
     let from = at + 1;
@@ -105,10 +103,6 @@ pub fn put_value(out: &mut [u8], at: usize, v: Scalar, s: &[u8]) -> usize
         Scalar::True => put(out, at, b"true"),
         Scalar::False => put(out, at, b"false"),
         Scalar::Whole(z) => put_whole(out, at, z),
-        Scalar::Text(from, to) => {
-            let open = put_byte(out, at, b'"');
-            let close = put(out, open, &s[from..to]);
-            put_byte(out, close, b'"')
-        }
+        Scalar::Text(from, to) => put_quoted(out, at, b'"', &s[from..to]),
     }
 }

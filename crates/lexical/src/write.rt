@@ -30,6 +30,16 @@ pub fn put(out: &mut [u8], at: usize, bytes: &[u8]) -> usize
     at + bytes.len()
 }
 
+// A text between two of the same quote.
+pub fn put_quoted(out: &mut [u8], at: usize, quote: u8, bytes: &[u8]) -> usize
+    requires { ⌜ at + length (now bytes) + 2 < 2 ^ 64 ⌝ }
+    ensures { λ r. ⌜ Wrote at (quote ∷ (now (bytes .entry) ++ (quote ∷ []))) (now (out .entry)) r (now (out .exit)) ⌝ }
+{
+    let open = put_byte(out, at, quote);
+    let close = put(out, open, bytes);
+    put_byte(out, close, quote)
+}
+
 // A number in decimal: the digits before the last, and the last.
 pub fn put_decimal(out: &mut [u8], at: usize, n: u32) -> usize
     requires { ⌜ at + 10 < 2 ^ 64 ⌝ }

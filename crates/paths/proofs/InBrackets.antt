@@ -1,41 +1,41 @@
 -- What stands in brackets, whatever it is: by positions, and as the text that it is.
 use Prim.Native.Nat.{ℕ, _+_, _<_}
 use mathlib.Core.Path.{_≡_, ap, _∙_}
+use mathlib.Core.Bool.{true, false}
 use mathlib.Core.Option.{none, some}
 use mathlib.Core.List.{[], _∷_}
 use native.Mathlib.Omega.{arith}
-use lib.ListN.{length, getD, drop}
+use lib.ListN.{length, drop}
 use Rattle.rows.specs.Positions.{Reader, Reads, LeavesEnd}
-use Rattle.model.specs.Base.{Bytes, text, _>>=_, after}
+use Rattle.model.specs.Base.{Bytes, text, isSome, _>>=_, after}
 use Rattle.model.specs.Paths.{inBrackets}
 use Rattle.model.proofs.Reading.{bind-some, some-same, after-some}
-use Rattle.lexical.proofs.Runs.{after-here}
+use Rattle.lexical.proofs.Runs.{byte-stands}
+use Rattle.lexical.proofs.Slices.{after-no}
 use Rattle.lexical.proofs.Readers.{leaves-word, word-taken, leaves-some, leaves-bind}
 
 module _ {A : Type 0} (inner : Reader ℕ A) where
   -- ── By positions ──
   module _ (s : Bytes) (at : ℕ) where
-    pub brackets-unopened : after (0x5B ∷ []) (drop at s) ≡ none → inBrackets inner (drop at s) ≡ none
+    pub brackets-unopened : isSome (after (0x5B ∷ []) (drop at s)) ≡ false → inBrackets inner (drop at s) ≡ none
     unfolding inBrackets text _>>=_
-    brackets-unopened h = rw h
+    brackets-unopened h = rw (after-no (0x5B ∷ []) (drop at s) h)
 
-    module _ (h : at < length s) (o : getD s at 0 ≡ 0x5B) where
+    module _ (o : isSome (after (0x5B ∷ []) (drop at s)) ≡ true) where
       pub brackets-empty : inner (drop (at + 1) s) ≡ none → inBrackets inner (drop at s) ≡ none
       unfolding inBrackets text _>>=_
-      brackets-empty i = rw (after-here 0x5B s at h o, i)
+      brackets-empty i = rw (byte-stands 0x5B s at o .1, i)
 
       module _ (a : A) (e : ℕ) (r : Reads inner s (at + 1) a e) where
-        pub brackets-unclosed : after (0x5D ∷ []) (drop e s) ≡ none → inBrackets inner (drop at s) ≡ none
+        pub brackets-unclosed : isSome (after (0x5D ∷ []) (drop e s)) ≡ false → inBrackets inner (drop at s) ≡ none
         unfolding inBrackets text _>>=_
-        brackets-unclosed i = rw (after-here 0x5B s at h o, r .is, i)
+        brackets-unclosed i = rw (byte-stands 0x5B s at o .1, r .is, after-no (0x5D ∷ []) (drop e s) i)
 
-        pub brackets-closed : e < length s → getD s e 0 ≡ 0x5D → Reads (inBrackets inner) s at a (e + 1)
+        pub brackets-closed : isSome (after (0x5D ∷ []) (drop e s)) ≡ true → Reads (inBrackets inner) s at a (e + 1)
         unfolding inBrackets text _>>=_
-        brackets-closed l i = record {
-          from = omega (arith, r .from);
-          to = omega arith;
-          is = rw (after-here 0x5B s at h o, r .is, after-here 0x5D s e l i);
-        }
+        brackets-closed i =
+            let (l, f) = byte-stands 0x5D s e i in
+            record { from = omega (arith, r .from); to = l; is = rw (byte-stands 0x5B s at o .1, r .is, f) }
 
   -- ── As a text ──
   -- a was read behind the opening bracket, and r is the rest behind the closing one

@@ -1,14 +1,14 @@
 -- A key in brackets and single quotes: what `key_step` answers, what its answer says, and one turn of a loop that reads keys.
 use Prim.Native.Nat.{ℕ, _+_, _-_, _≤_, _<_}
 use mathlib.Core.Path.{_≡_, sym, ap, _∙_}
-use mathlib.Core.Bool.{true}
+use mathlib.Core.Bool.{true, false}
 use mathlib.Core.Option.{none, some}
 use mathlib.Core.List.{[], _∷_, _++_}
 use native.Mathlib.Omega.{arith}
-use lib.ListN.{length, getD, take, drop, length-append, length-take, length-drop}
+use lib.ListN.{length, take, drop, length-append, length-take, length-drop}
 use Rattle.rows.specs.Positions.{Reader, Reads, placed, LeavesEnd}
 use Rattle.rows.proofs.Positions.{placed-reads, placed-none, none-placed, reads-placed}
-use Rattle.model.specs.Base.{Bytes, text, after, within}
+use Rattle.model.specs.Base.{Bytes, text, isSome, after, within}
 use Rattle.model.specs.Limits.{maxKey, maxDepth}
 use Rattle.model.specs.Fields.{Keys}
 use Rattle.model.specs.Paths.{inBrackets, readKeyStep}
@@ -17,7 +17,7 @@ use Rattle.lexical.specs.declared.class.Class.the-variants.{Name}
 use Rattle.lexical.specs.declared.class.End.{End}
 use Rattle.lexical.specs.declared.class.End.the-variants.{At, Bad}
 use Rattle.lexical.specs.Classes.{readBetween, textAnswer}
-use Rattle.lexical.proofs.Runs.{bind-same}
+use Rattle.lexical.proofs.Runs.{byte-stands, bind-same}
 use Rattle.lexical.proofs.Between.{Stands, between-gives, between-leaves, between-bad, between-at, quoted-between}
 use Rattle.paths.specs.Fields.{keyAnswer}
 use Rattle.paths.proofs.Names.{push-whole}
@@ -55,25 +55,25 @@ module _ (s : Bytes) (at : ℕ) where
   unfolding keyAnswer
   key-not h = sym (placed-none _ s at (key-brackets (drop at s) ∙ h))
 
-  pub key-unopened : after (0x5B ∷ []) (drop at s) ≡ none → keyAnswer s at Bad ≡ placed readKeyStep s at
+  pub key-unopened : isSome (after (0x5B ∷ []) (drop at s)) ≡ false → keyAnswer s at Bad ≡ placed readKeyStep s at
   key-unopened h = key-not (brackets-unopened inQuotes s at h)
 
   -- behind the opening bracket `between` answers x
-  module _ (h : at < length s) (o : getD s at 0 ≡ 0x5B) (x : End) (inside : textAnswer s (at + 1) x ≡ placed inQuotes s (at + 1)) where
+  module _ (o : isSome (after (0x5B ∷ []) (drop at s)) ≡ true) (x : End) (inside : textAnswer s (at + 1) x ≡ placed inQuotes s (at + 1)) where
     pub key-empty : x ≡ Bad → keyAnswer s at Bad ≡ placed readKeyStep s at
-    key-empty i = key-not (brackets-empty inQuotes s at h o (between-bad Name 0x27 1 maxKey s (at + 1) x inside i))
+    key-empty i = key-not (brackets-empty inQuotes s at o (between-bad Name 0x27 1 maxKey s (at + 1) x inside i))
 
     module _ (e : ℕ) (i : x ≡ At e) where
       stands : Stands Name 0x27 1 maxKey s (at + 1) e
-      stands = between-at Name 0x27 1 maxKey s (at + 1) x inside (omega arith) e i
+      stands = between-at Name 0x27 1 maxKey s (at + 1) x inside (byte-stands 0x5B s at o .0) e i
 
-      pub key-unclosed : after (0x5D ∷ []) (drop e s) ≡ none → keyAnswer s at Bad ≡ placed readKeyStep s at
-      key-unclosed n = key-not (brackets-unclosed inQuotes s at h o _ e (stands .reads) n)
+      pub key-unclosed : isSome (after (0x5D ∷ []) (drop e s)) ≡ false → keyAnswer s at Bad ≡ placed readKeyStep s at
+      key-unclosed n = key-not (brackets-unclosed inQuotes s at o _ e (stands .reads) n)
 
-      pub key-closed : e < length s → getD s e 0 ≡ 0x5D → keyAnswer s at (At (e + 1)) ≡ placed readKeyStep s at
+      pub key-closed : isSome (after (0x5D ∷ []) (drop e s)) ≡ true → keyAnswer s at (At (e + 1)) ≡ placed readKeyStep s at
       unfolding keyAnswer
-      key-closed l c =
-          let r = brackets-closed inQuotes s at h o _ e (stands .reads) l c in
+      key-closed c =
+          let r = brackets-closed inQuotes s at o _ e (stands .reads) c in
           let n : e + 1 - 4 - at ≡ e - 2 - (at + 1) = omega arith in
           let m : at + 2 ≡ at + 1 + 1 = omega arith in
           rw (n, m) (sym (placed-reads _ s at _ (e + 1) (record { from = r .from; to = r .to; is = key-brackets (drop at s) ∙ r .is })))

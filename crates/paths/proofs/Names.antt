@@ -1,29 +1,23 @@
--- A name in a row: what a loop that writes it keeps, and how it is read back.
-use Prim.Native.Nat.{ℕ, _+_, _-_, _≤_, _<_, min}
-use mathlib.Core.Path.{_≡_}
+-- A name in a row: how it is written, and how it is read back.
+use Prim.Native.Nat.{ℕ, _-_, _≤_, _<_, min}
+use mathlib.Core.Path.{_≡_, sym, _∙_}
 use mathlib.Core.List.{List, [], _∷_, _++_}
 use native.Mathlib.Omega.{arith}
-use lib.ListN.{length, getD, take, drop, set, length-take, length-append}
-use lib.Seq.{take-all, take-at, getD-take}
-use Rattle.model.specs.Base.{Bytes}
+use lib.Dec.{leb}
+use lib.ListN.{length, take, length-take, length-append}
+use lib.Seq.{take-all, take-at}
+use borrow.Author.Tests.{leb-true, leb-false}
 use Rattle.rows.specs.Rows.{written}
-use Rattle.rows.proofs.Positions.{here, over}
-use Rattle.rows.proofs.Writing.{written-none, written-cons, written-clipped}
+use Rattle.rows.proofs.Writing.{written-clipped}
+use Rattle.model.specs.Base.{Bytes}
+use Rattle.model.proofs.Lists.{by-cases}
 use Rattle.paths.specs.Layout.{nameIn}
 
 -- at most k bytes of a name
-module _ (k i : ℕ) (name row : Bytes) where
-  -- a loop that writes them behind a first byte: a turn at the byte i
-  pub name-step : i < min (length name) k
-      → written (i + 1 + 1) (drop (i + 1) (take k name)) (set row (i + 1) (getD name i 0))
-      ≡ written (i + 1) (drop i (take k name)) row
-  name-step h =
-      let l : i < length (take k name) = rw length-take (omega arith) in
-      rw (here 0 (take k name) i l, getD-take k name i 0 (omega arith)) (written-cons (i + 1) _ _ row)
-
-  -- from their end on nothing is left to write
-  pub name-end : min (length name) k ≤ i → written (i + 1) (drop i (take k name)) row ≡ row
-  name-end h = rw (over (take k name) i (rw length-take (omega arith))) (written-none (i + 1) row)
+pub name-clipped : (k n : ℕ) (name : Bytes) → n ≡ min (length name) k → take n name ≡ take k name
+name-clipped k n name h = by-cases (leb (length name) k)
+    (λ e. let l = leb-true (length name) k e in take-all n name (omega arith) ∙ sym (take-all k name l))
+    (λ e. let m : n ≡ k = omega (arith, leb-false (length name) k e) in rw m)
 
 -- a name that was written into a row of 17 bytes is read back
 pub name-written : (name row : Bytes) → length row ≡ 17

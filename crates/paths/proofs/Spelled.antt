@@ -1,7 +1,7 @@
 -- Rows behind a byte that says how many there are, spelled one behind the other, as a path's keys are: how a loop writes them, and how long all of it is.
 use Prim.Native.Nat.{ℕ, _+_, _*_, _≤_, _<_, min}
 use mathlib.Core.Path.{_≡_, refl, sym}
-use mathlib.Core.List.{List, [], _∷_, _++_, map, map-append, append-nil, append-assoc}
+use mathlib.Core.List.{List, [], _∷_, _++_, map, map-append, append-nil}
 use native.Mathlib.Nat.{add-zero, mul-le-mul-right}
 use native.Mathlib.Omega.{arith}
 use lib.ListN.{length, getD, take, drop, length-take, length-append}
@@ -54,15 +54,10 @@ pub name-length : (name row : Bytes) → name ≡ nameIn row → length name ≤
 unfolding nameIn
 name-length name row h = rw (h, length-take) (omega arith)
 
--- a key is spelled in brackets and single quotes
-pub key-text : (key : Bytes) → keyText key ≡ text "['" ++ (key ++ text "']")
-unfolding keyText stepText nameText between text
-key-text key = rw (append-assoc key)
-
 -- a path in a slot is spelled with at most 121 bytes
 pub path-length : (s : Bytes) → length (keysText (pathIn s)) ≤ 121
-unfolding pathIn text
+unfolding pathIn text keyText stepText nameText between
 path-length s = rw keys-text (omega (arith, spelled-length nameIn 17 6 keyText 20 short s))
   where
     short : (r : Bytes) → length (keyText (nameIn r)) ≤ 20
-    short r = rw key-text (simp length-append (omega (arith, name-length _ r refl)))
+    short r = simp length-append (omega (arith, name-length _ r refl))

@@ -1,31 +1,33 @@
 -- A path that is the whole text, whatever its steps are: what a loop that reads it has left at a position.
 use Prim.Native.Nat.{ℕ, zero, suc, _-_, _≤_, _<_}
 use mathlib.Core.Path.{_≡_, refl, _∙_}
+use mathlib.Core.Bool.{true, false}
 use mathlib.Core.Option.{Option, none, some}
 use mathlib.Core.List.{List, [], _∷_, _++_}
 use native.Mathlib.Omega.{arith}
 use lib.Dec.{leb, ltb}
-use lib.ListN.{length, getD, drop, length-append}
+use lib.ListN.{length, drop, length-append}
 use Rattle.rows.specs.Positions.{Reader, Reads}
 use Rattle.rows.proofs.Positions.{here, over}
-use Rattle.model.specs.Base.{Bytes, text, if_then_else_, _>>=_, _>>_, check, after}
+use Rattle.model.specs.Base.{Bytes, text, isSome, if_then_else_, _>>=_, _>>_, check, after}
 use Rattle.model.specs.Limits.{maxDepth}
 use Rattle.model.specs.Paths.{readAll, readPath}
 use Rattle.model.proofs.Lists.{by-cases}
-use Rattle.lexical.proofs.Runs.{after-here, bind-same, bind-bind}
+use Rattle.lexical.proofs.Runs.{bind-same, bind-bind}
+use Rattle.lexical.proofs.Slices.{after-yes, after-no}
 
 module _ {A : Type 0} (one : Reader ℕ A) where
   -- what is read of the rest of a text, behind the steps p
   unfoldable pub left : List A → Bytes → Option (List A)
   left p s = readAll one (maxDepth - length p) p s >>= λ q. check (leb 1 (length q)) >> some q
 
-  pub path-unopened : (s : Bytes) → after (0x24 ∷ []) s ≡ none → readPath one s ≡ none
+  pub path-unopened : (s : Bytes) → isSome (after (0x24 ∷ []) s) ≡ false → readPath one s ≡ none
   unfolding readPath text _>>=_
-  path-unopened s h = rw h
+  path-unopened s h = rw (after-no (0x24 ∷ []) s h)
 
-  pub path-opened : (s : Bytes) → 0 < length s → getD s 0 0 ≡ 0x24 → readPath one s ≡ left [] (drop 1 s)
+  pub path-opened : (s : Bytes) → isSome (after (0x24 ∷ []) s) ≡ true → readPath one s ≡ left [] (drop 1 s)
   unfolding readPath left text _>>=_
-  path-opened s h e = rw (after-here 0x24 s 0 h e)
+  path-opened s h = rw (after-yes (0x24 ∷ []) s h .0)
 
   -- where nothing is left, those that were read are all
   all-end : (k : ℕ) (p : List A) → readAll one k p [] ≡ some p

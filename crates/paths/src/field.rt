@@ -7,9 +7,11 @@ use lexical::class::End;
 use lexical::class::between;
 use lexical::slice::Order;
 use lexical::slice::compare;
-use lexical::write::put;
+use lexical::slice::is_at;
 use lexical::write::put_byte;
+use lexical::write::put_quoted;
 ghost use mathlib.Core.Path.{_≡_};
+ghost use mathlib.Core.Option.{none};
 ghost use mathlib.Core.List.{_++_, _∷_, []};
 ghost use Prim.Native.Nat.{_+_, _≤_, _<_, _^_};
 ghost use lib.ListN.{length, take};
@@ -65,47 +67,43 @@ fn key_step(s: &[u8], at: usize) -> End
     requires { ⌜ at ≤ length (now s) ⌝ }
     ensures { λ r. ⌜ keyAnswer (now (s .entry)) at r ≡ placed readKeyStep (now (s .entry)) at ⌝ }
 {
-    if s.len() <= at {
-        return End::Bad;
-    }
-    if s[at] != b'[' {
+    if !is_at(s, at, b'[') {
         return End::Bad;
     }
     let End::At(e) = between(s, at + 1, b'\'', Class::Name, 1, 16) else {
         return End::Bad;
     };
-    if s.len() <= e {
-        return End::Bad;
-    }
-    if s[e] != b']' {
+    if !is_at(s, e, b']') {
         return End::Bad;
     }
     End::At(e + 1)
+}
+
+fn no_path() -> PathRead
+    ensures { λ r. ⌜ pathAnswer r ≡ none ⌝ }
+{
+    PathRead {
+        ok: false,
+        slot: [0; 103],
+    }
 }
 
 // A normalized path that is the whole text.
 pub fn read_path(s: &[u8]) -> PathRead
     ensures { λ r. ⌜ pathAnswer r ≡ keysOf (now (s .entry)) ⌝ }
 {
-    let bad = PathRead {
-        ok: false,
-        slot: [0; 103],
-    };
-    if s.len() < 1 {
-        return bad;
-    }
-    if s[0] != b'$' {
-        return bad;
+    if !is_at(s, 0, b'$') {
+        return no_path();
     }
     let mut slot = [0u8; 103];
     let mut n: usize = 0;
     let mut at = 1;
     while at < s.len() {
         if 6 <= n {
-            return bad;
+            return no_path();
         }
         let End::At(e) = key_step(s, at) else {
-            return bad;
+            return no_path();
         };
         let from = at + 2;
         let to = e - 2;
@@ -128,9 +126,9 @@ pub fn put_path(out: &mut [u8], at: usize, slot: &[u8]) -> usize
     let mut to = put_byte(out, at, b'$');
     let mut i = 0;
     while i < n {
-        to = put(out, to, b"['");
-        to = put(out, to, name_at(slot, i));
-        to = put(out, to, b"']");
+        to = put_byte(out, to, b'[');
+        to = put_quoted(out, to, b'\'', name_at(slot, i));
+        to = put_byte(out, to, b']');
         i += 1;
     }
     to

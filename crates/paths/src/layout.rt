@@ -1,4 +1,5 @@
 // Names in rows of 17 bytes, how many and the bytes; rows behind a byte that says how many there are.
+use lexical::write::put;
 ghost use mathlib.Core.Path.{_≡_};
 ghost use mathlib.Core.List.{[], _∷_, _++_};
 ghost use Prim.Native.Nat.{_+_, _*_, _≤_, _<_, min};
@@ -39,11 +40,7 @@ pub fn put_name(row: &mut [u8], name: &[u8])
 {
     let n = least(name.len(), 16);
     row[0] = n as u8;
-    let mut i = 0;
-    while i < n {
-        row[i + 1] = name[i];
-        i += 1;
-    }
+    put(row, 1, &name[..n]);
 }
 
 // The name in the row that stands at a position.

@@ -11,16 +11,19 @@ use borrow.Author.Tests.{eq-eqb, ne-eqb}
 use Rattle.rows.specs.Rows.{table}
 use Rattle.rows.proofs.Rows.{drop-take}
 use Rattle.rows.proofs.Table.{table-start, table-end, table-stop, table-step}
-use Rattle.model.specs.Base.{Bytes, any, keep, _==_}
+use Rattle.model.specs.Base.{Bytes, any, among, keep, _==_}
 use Rattle.model.specs.Fields.{Keys}
 use Rattle.model.specs.Limits.{maxBindings}
 use Rattle.model.specs.Paths.{Steps}
+use Rattle.model.specs.Paths as paths
 use Rattle.model.specs.Tables.{Binding}
-use Rattle.model.specs.Rights.{listed, admits, matches}
+use Rattle.model.specs.Rights.{listed, firstIs, admits, matches}
 use Rattle.model.proofs.Lists.{by-cases, keep-yes, keep-no}
 use Rattle.paths.specs.Layout.{nameIn, counted, pathIn}
-use Rattle.steps.specs.Steps.{namesIn, byKind, kindOf, stepIn, stepsIn}
+use Rattle.steps.specs.Steps.{operatorOf, namesIn, byKind, kindOf, stepIn, stepsIn}
 use Rattle.steps.specs.Environments.{bindingIn, isEmptyRow, bindingsIn}
+use Rattle.steps.specs.declared.step.Operator.{Operator}
+use Rattle.steps.specs.declared.step.Operator.the-variants.{Equals, In}
 use Rattle.steps.specs.declared.step.Kind.{Kind}
 use Rattle.steps.proofs.StepRows.{step-told}
 use Rattle.paths.proofs.Counted.{length-counted, counted-step, counted-over}
@@ -82,6 +85,37 @@ module _ (s n : Bytes) (i : ℕ) where
       pub listed-no : r ≡ false → listed (linesFrom s i) n ≡ listed (linesFrom s (i + 1)) n
       unfolding listed
       listed-no y = rw (line-next, keep-no (λ (b : Binding). b .name == n) (bindingIn (lineAt s i)) (linesFrom s (i + 1)) (line-name ∙ y))
+
+-- ── What an environment step asks of the values that are listed under its name ──
+unfoldable pub asked : paths.Operator → Bytes → List Bytes → Bool
+asked paths.equals k vs = firstIs k vs
+asked paths.isIn k vs = among k vs
+
+pub admits-listed : (bs : List Binding) (o : paths.Operator) (n k : Bytes) → admits bs (paths.environment o n) k ≡ asked o k (listed bs n)
+unfolding admits asked
+admits-listed bs paths.equals n k = refl
+admits-listed bs paths.isIn n k = refl
+
+pub asked-none : (o : paths.Operator) (k : Bytes) {vs : List Bytes} → vs ≡ [] → asked o k vs ≡ false
+unfolding asked firstIs among any
+asked-none paths.equals k e = rw e
+asked-none paths.isIn k e = rw e
+
+-- the key k was compared with the first of them
+module _ (k v : Bytes) {vs ws : List Bytes} (e : vs ≡ v ∷ ws) {r : Bool} (t : r ≡ (k == v)) where
+  pub asked-yes : (o : paths.Operator) → r ≡ true → asked o k vs ≡ true
+  unfolding asked firstIs among any
+  asked-yes paths.equals y = rw (e, ← t, y)
+  asked-yes paths.isIn y = rw (e, ← t, y)
+
+  module _ (o : Operator) (f : r ≡ false) where
+    pub asked-first : o ≡ Equals → asked (operatorOf o) k vs ≡ false
+    unfolding asked firstIs
+    asked-first i = rw (i, e, ← t, f)
+
+    pub asked-more : o ≡ In → asked (operatorOf o) k vs ≡ asked (operatorOf o) k ws
+    unfolding asked among any
+    asked-more i = rw (i, e, ← t, f)
 
 -- ── What a step admits: its kind k was matched with v, and the names are the part of its row behind the first byte ──
 pub admits-told : (bs : List Binding) (row key : Bytes) {k v : Kind} → k ≡ kindOf (getD row 0 0) → k ≡ v

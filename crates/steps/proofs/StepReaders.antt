@@ -17,19 +17,19 @@ use Rattle.model.specs.Limits.{maxListed, maxKey}
 use Rattle.model.specs.Paths.{Step, Operator, names, wildcard, environment, equals, isIn, operatorText, identifierByte, startsWell}
 use Rattle.model.specs.Paths.{readQuoted, readEither, inBrackets, readWildcard, readIdentifier, readDotted, readEnvironment, readNames, readList, readSelector, readStep}
 use Rattle.model.proofs.Lists.{by-cases, never, none-some, all-imp, all-true, true-all, any-range}
-use Rattle.model.proofs.Reading.{within-yes, within-bounds, either-some, span-passes}
-use Rattle.lexical.specs.declared.class.Class.the-variants.{Name}
+use Rattle.model.proofs.Reading.{within-bounds, either-some, span-passes}
+use Rattle.lexical.specs.declared.class.Class.the-variants.{Name, Identifier, Plain}
 use Rattle.lexical.specs.declared.class.End.{End}
 use Rattle.lexical.specs.declared.class.End.the-variants.{At, Bad}
-use Rattle.lexical.specs.Classes.{readBetween, textAnswer}
-use Rattle.lexical.proofs.Runs.{within-above, span-at}
+use Rattle.lexical.specs.Classes.{scanEnd, readBetween, textAnswer}
+use Rattle.lexical.proofs.Runs.{within-above, span-at, byte-stands}
 use Rattle.lexical.proofs.Slices.{after-at, after-no}
-use Rattle.lexical.proofs.Between.{between-gives, between-leaves, quoted-between}
-use Rattle.steps.specs.Steps.{stepOf, readBehind, stepAnswer}
+use Rattle.lexical.proofs.Between.{scan-bad, scan-at, scan-within, between-gives, between-leaves, quoted-between}
+use Rattle.steps.specs.Steps.{stepOf, stepAnswer}
 use Rattle.steps.specs.declared.step.StepRead.{StepRead}
 use Rattle.paths.proofs.Names.{push-whole}
 use Rattle.paths.proofs.InBrackets.{brackets-unopened, brackets-empty, brackets-unclosed, brackets-closed, brackets-leave, brackets-shorten}
-use Rattle.lexical.proofs.Readers.{byte-at, placed-or, leaves-or, word-not, word-then, leaves-word, word-taken, leaves-if-word, leaves-some, leaves-bind, scanned, scanned-not, scanned-is, leaves-scanned}
+use Rattle.lexical.proofs.Readers.{placed-or, leaves-or, word-not, word-then, leaves-word, word-taken, leaves-if-word, leaves-some, leaves-bind, scanned, scanned-not, scanned-is, leaves-scanned}
 
 -- ── Answers ──
 -- an answer that says whether f reads something
@@ -96,66 +96,70 @@ wellNamed n = isKey n && startsWell n
 abbrev oneName : Bytes → Step
 oneName n = names (n ∷ [])
 
-module _ (s : Bytes) (at to : ℕ) (is : to ≡ runEnd identifierByte s at) (l : at ≤ length s) where
-  pub identifier-misfit : within 1 16 (to - at) ≡ false → none ≡ placed readIdentifier s at
+-- `scan` answers x
+module _ (s : Bytes) (at : ℕ) (l : at ≤ length s) (x : End) (answer : x ≡ scanEnd Identifier 1 16 s at) where
+  pub identifier-misfit : x ≡ Bad → none ≡ placed readIdentifier s at
   unfolding readIdentifier scanned isKey
-  identifier-misfit m = scanned-not identifierByte wellNamed oneName s at to is (rw (part-named identifierByte identifier-name s at to is l, m))
+  identifier-misfit i =
+      scanned-not identifierByte wellNamed oneName s at _ refl
+      (rw (part-named identifierByte identifier-name s at _ refl l, scan-bad Identifier 1 16 s at x answer i))
 
-  module _ (lo : 1 ≤ to - at) (hi : to - at ≤ 16) where
+  module _ (to : ℕ) (i : x ≡ At to) where
+    ends : to ≡ runEnd identifierByte s at
+    ends = scan-at Identifier 1 16 s at x answer to i .0
+
     -- it is right by its first byte
     by-first : wellNamed (take (to - at) (drop at s)) ≡ not (isDigit (getD s at 0))
     unfolding isKey startsWell
     by-first =
-        let w = run-within identifierByte s at to is l in
+        let w = scan-within Identifier 1 16 s at x answer l to i in
         let n : to - at ≡ suc (to - at - 1) = omega arith in
         let f : startsWell (take (to - at) (drop at s)) ≡ not (isDigit (getD s at 0)) = rw (here 0 s at (omega arith), n) in
-        rw (part-named identifierByte identifier-name s at to is l, within-yes 1 16 (to - at) lo hi, f)
+        rw (part-named identifierByte identifier-name s at to ends l, scan-at Identifier 1 16 s at x answer to i .1, f)
 
     pub identifier-digit : isDigit (getD s at 0) ≡ true → none ≡ placed readIdentifier s at
     unfolding readIdentifier scanned
-    identifier-digit d = scanned-not identifierByte wellNamed oneName s at to is (by-first ∙ rw d)
+    identifier-digit d = scanned-not identifierByte wellNamed oneName s at to ends (by-first ∙ rw d)
 
-    pub identifier-is : isDigit (getD s at 0) ≡ false → (ns : List Bytes) → ns ≡ take 16 (take (to - at) (drop at s)) ∷ []
-        → some (names ns, to) ≡ placed readIdentifier s at
+    pub identifier-is : isDigit (getD s at 0) ≡ false → some (names (take 16 (take (to - at) (drop at s)) ∷ []), to) ≡ placed readIdentifier s at
     unfolding readIdentifier scanned
-    identifier-is d ns e =
-        rw (e, part-whole identifierByte identifier-name s at to is l hi)
-        (scanned-is identifierByte wellNamed oneName s at to is l (by-first ∙ rw d))
+    identifier-is d =
+        let w = scan-within Identifier 1 16 s at x answer l to i in
+        rw (part-whole identifierByte identifier-name s at to ends l (omega arith))
+        (scanned-is identifierByte wellNamed oneName s at to ends l (by-first ∙ rw d))
 
--- ── A plain name behind an operator ──
-module _ (o : Operator) (word : Bytes) (s : Bytes) (at : ℕ) where
-  after-operator : placed (λ x. after word x >>= scanned plainByte isPlain (environment o)) s at ≡ placed (readBehind word o) s at
-  unfolding readBehind scanned
-  after-operator = refl
+-- ── A plain name behind the word of an operator ──
+module _ (o : Operator) (word : Bytes) (own : word ≡ operatorText o) (s : Bytes) (at : ℕ) where
+  behind-word : placed (λ x. after word x >>= scanned plainByte isPlain (environment o)) s at ≡ placed (readEnvironment o) s at
+  unfolding readEnvironment scanned
+  behind-word = rw own
 
-  pub environment-not : isSome (after word (drop at s)) ≡ false → none ≡ placed (readBehind word o) s at
-  environment-not h = word-not word _ s at h ∙ after-operator
+  pub environment-not : isSome (after word (drop at s)) ≡ false → none ≡ placed (readEnvironment o) s at
+  environment-not h = word-not word _ s at h ∙ behind-word
 
-  module _ (l : at ≤ length s) (h : isSome (after word (drop at s)) ≡ true) (to : ℕ) (is : to ≡ runEnd plainByte s (at + length word)) where
-    plain-fits : isPlain (take (to - (at + length word)) (drop (at + length word) s)) ≡ within 1 16 (to - (at + length word))
+  -- behind the word `scan` answers x
+  module _ (l : at ≤ length s) (h : isSome (after word (drop at s)) ≡ true) (x : End) (answer : x ≡ scanEnd Plain 1 16 s (at + length word)) where
+    plain-fits : (to : ℕ) → to ≡ runEnd plainByte s (at + length word)
+        → isPlain (take (to - (at + length word)) (drop (at + length word) s)) ≡ within 1 16 (to - (at + length word))
     unfolding isPlain isName
-    plain-fits =
+    plain-fits to is =
         let m = after-at word s at l h .1 in
         rw (part-named plainByte plain-name s (at + length word) to is m, part-passes plainByte plain-name s (at + length word) to is m) (and-true _)
 
-    pub environment-misfit : within 1 16 (to - (at + length word)) ≡ false → none ≡ placed (readBehind word o) s at
-    environment-misfit m =
-        scanned-not plainByte isPlain (environment o) s (at + length word) to is (plain-fits ∙ m)
-        ∙ word-then word _ s at l h ∙ after-operator
+    pub environment-misfit : x ≡ Bad → none ≡ placed (readEnvironment o) s at
+    environment-misfit i =
+        scanned-not plainByte isPlain (environment o) s (at + length word) _ refl (plain-fits _ refl ∙ scan-bad Plain 1 16 s (at + length word) x answer i)
+        ∙ word-then word _ s at l h ∙ behind-word
 
-    pub environment-is : 1 ≤ to - (at + length word) → to - (at + length word) ≤ 16
-        → (ns : List Bytes) → ns ≡ take 16 (take (to - (at + length word)) (drop (at + length word) s)) ∷ []
-        → some (environment o (getD ns 0 []), to) ≡ placed (readBehind word o) s at
-    environment-is lo hi ns e =
+    pub environment-is : (to : ℕ) → x ≡ At to
+        → some (environment o (take 16 (take (to - (at + length word)) (drop (at + length word) s))), to) ≡ placed (readEnvironment o) s at
+    environment-is to i =
         let m = after-at word s at l h .1 in
-        rw (e, part-whole plainByte plain-name s (at + length word) to is m hi)
-        (scanned-is plainByte isPlain (environment o) s (at + length word) to is m (plain-fits ∙ within-yes 1 16 _ lo hi)
-        ∙ word-then word _ s at l h ∙ after-operator)
-
--- behind the word of an operator it is what the model reads
-pub behind-operator : (o : Operator) (s : Bytes) (at : ℕ) → placed (readBehind (operatorText o) o) s at ≡ placed (readEnvironment o) s at
-unfolding readBehind readEnvironment
-behind-operator o s at = refl
+        let (is, fits) = scan-at Plain 1 16 s (at + length word) x answer to i in
+        let w = scan-within Plain 1 16 s (at + length word) x answer m to i in
+        rw (part-whole plainByte plain-name s (at + length word) to is m (omega arith))
+        (scanned-is plainByte isPlain (environment o) s (at + length word) to is m (plain-fits to is ∙ fits)
+        ∙ word-then word _ s at l h ∙ behind-word)
 
 -- ── A wildcard, and what stands behind a dot ──
 module _ (s : Bytes) (at : ℕ) where
@@ -301,30 +305,22 @@ selector-leaves =
 
 module _ (s : Bytes) (at : ℕ) where
   pub bracketed-not : isSome (after (0x5B ∷ []) (drop at s)) ≡ false → none ≡ placed (inBrackets readSelector) s at
-  bracketed-not h = sym (placed-none _ s at (brackets-unopened readSelector s at (after-no (0x5B ∷ []) (drop at s) h)))
+  bracketed-not h = sym (placed-none _ s at (brackets-unopened readSelector s at h))
 
   -- behind the opening bracket `selector_at` answers r
-  module _ (l : at ≤ length s) (h : isSome (after (0x5B ∷ []) (drop at s)) ≡ true)
-      (r : StepRead) (answer : stepAnswer r ≡ placed readSelector s (at + 1)) where
-    opens : (at < length s) × (getD s at 0 ≡ 0x5B)
-    opens = byte-at 0x5B s at l h
-
+  module _ (o : isSome (after (0x5B ∷ []) (drop at s)) ≡ true) (r : StepRead) (answer : stepAnswer r ≡ placed readSelector s (at + 1)) where
     pub bracketed-empty : r .ok ≡ false → none ≡ placed (inBrackets readSelector) s at
-    bracketed-empty i =
-        sym (placed-none _ s at (brackets-empty readSelector s at (opens .0) (opens .1) (answer-none readSelector s (at + 1) r answer i)))
+    bracketed-empty i = sym (placed-none _ s at (brackets-empty readSelector s at o (answer-none readSelector s (at + 1) r answer i)))
 
     module _ (i : r .ok ≡ true) where
-      pub selected : Reads readSelector s (at + 1) (stepOf (r .step)) (r .to)
-      selected = answer-reads readSelector s (at + 1) r answer selector-leaves (omega (arith, opens .0)) i
+      selected : Reads readSelector s (at + 1) (stepOf (r .step)) (r .to)
+      selected = answer-reads readSelector s (at + 1) r answer selector-leaves (byte-stands 0x5B s at o .0) i
 
       pub bracketed-unclosed : isSome (after (0x5D ∷ []) (drop (r .to) s)) ≡ false → none ≡ placed (inBrackets readSelector) s at
-      bracketed-unclosed j =
-          sym (placed-none _ s at (brackets-unclosed readSelector s at (opens .0) (opens .1) _ (r .to) selected (after-no (0x5D ∷ []) (drop (r .to) s) j)))
+      bracketed-unclosed j = sym (placed-none _ s at (brackets-unclosed readSelector s at o _ (r .to) selected j))
 
       pub bracketed-is : isSome (after (0x5D ∷ []) (drop (r .to) s)) ≡ true → some (stepOf (r .step), r .to + 1) ≡ placed (inBrackets readSelector) s at
-      bracketed-is j =
-          let c = byte-at 0x5D s (r .to) (selected .to) j in
-          sym (placed-reads _ s at _ (r .to + 1) (brackets-closed readSelector s at (opens .0) (opens .1) _ (r .to) selected (c .0) (c .1)))
+      bracketed-is j = sym (placed-reads _ s at _ (r .to + 1) (brackets-closed readSelector s at o _ (r .to) selected j))
 
 -- ── A step ──
 -- behind the dot

@@ -1,5 +1,5 @@
 -- A step in its row, the byte of its kind and the names: how it is written, and how it is read back.
-use Prim.Native.Nat.{ℕ, suc, _+_, _*_, _-_, _≤_}
+use Prim.Native.Nat.{ℕ, _+_, _*_, _-_, _≤_}
 use mathlib.Core.Path.{_≡_, refl, ap, _∙_}
 use mathlib.Core.List.{_∷_, append-nil}
 use native.Mathlib.Omega.{arith}
@@ -20,12 +20,12 @@ use Rattle.steps.specs.Steps.{namesIn, byKind, byteOf, kindOf, stepIn, s
 pub row-length : (s : Bytes) (i : ℕ) {row : Bytes} → i * 70 + 71 ≤ length s → row ≡ take 70 (drop (i * 70 + 1) s) → length row ≡ 70
 row-length s i h e = ap length e ∙ length-part (i * 70 + 1) 70 s (omega arith)
 
--- a row that is written whole: a byte and the k bytes behind it
-pub row-filled : (k b : ℕ) (xs row : Bytes) → length xs ≡ k → length row ≡ suc k → written 0 (b ∷ take k xs) row ≡ b ∷ xs
-row-filled k b xs row h l =
-    let all = take-all (length row - 0) (b ∷ xs) (omega arith) in
-    let none = over row (0 + length (b ∷ xs)) (omega arith) in
-    rw (take-all k xs (omega arith), written-clipped, all, none) (append-nil (b ∷ xs))
+-- a row that is written whole
+pub row-filled : (xs row : Bytes) → length xs ≡ length row → written 0 xs row ≡ xs
+row-filled xs row h =
+    let all = take-all (length row - 0) xs (omega arith) in
+    let none = over row (0 + length xs) (omega arith) in
+    rw (written-clipped, all, none) (append-nil xs)
 
 -- the byte of a kind says the kind
 kind-said : (k : Kind) → kindOf (byteOf k) ≡ k

@@ -10,13 +10,13 @@ use borrow.Author.Tests.{ltb-true, ltb-false}
 use Rattle.rows.specs.Rows.{rows}
 use Rattle.rows.proofs.Rows.{length-rows}
 use Rattle.model.specs.Base.{Bytes, text, between}
-use Rattle.model.specs.Paths.{Operator, environment, operatorText, nameText, stepText}
+use Rattle.model.specs.Paths.{Operator, equals, isIn, operatorText, nameText, stepText}
 use Rattle.model.proofs.Lists.{by-cases}
 use Rattle.paths.specs.Layout.{nameIn, counted}
 use Rattle.steps.specs.declared.step.Operator.the-variants.{Equals, In}
 use Rattle.steps.specs.declared.step.Kind.{Kind}
 use Rattle.steps.specs.declared.step.Kind.the-variants.{Names, Wildcard, Environment}
-use Rattle.steps.specs.Steps.{namesIn, byKind, kindOf, stepIn, spelledNames}
+use Rattle.steps.specs.Steps.{namesIn, byKind, kindOf, stepIn}
 use Rattle.paths.proofs.Counted.{length-counted, counted-at, counted-more, counted-all}
 use Rattle.paths.proofs.Spelled.{name-length}
 use Rattle.steps.proofs.StepRows.{step-told}
@@ -55,6 +55,10 @@ module _ (c : Bytes) (b : ℕ) (spell : Bytes → Bytes) (short : (r : Bytes) �
   between-length (r ∷ (s ∷ rs)) = simp length-append (omega (arith, short r, between-length (s ∷ rs)))
 
 -- ── Names ──
+-- in single quotes with commas between
+unfoldable pub spelledNames : List Bytes → Bytes
+spelledNames ns = between (text ",") (map nameText ns)
+
 -- the first i of the names in a slot, and one more
 pub names-step : (s : Bytes) (i : ℕ) → i < min (getD s 0 0) 4
     → spelledNames (take (i + 1) (namesIn s))
@@ -93,19 +97,17 @@ module _ (s : Bytes) where
   unfolding namesIn
   first-none h = List·getD-eq-default (counted nameIn 17 4 s) [] (rw length-counted h)
 
-  first-length : length (getD (namesIn s) 0 []) ≤ 16
+  pub first-length : length (getD (namesIn s) 0 []) ≤ 16
   first-length = by-cases (ltb 0 (min (getD s 0 0) 4))
       (λ e. name-length _ _ (first-name (ltb-true _ _ e)))
       (λ e. rw (first-none (ltb-false _ _ e)) (omega arith))
 
 -- ── Steps ──
--- what stands before the name of an environment step
-unfoldable pub opened : Operator → Bytes
-opened o = text "[" ++ operatorText o
-
-pub environment-text : (o : Operator) (n : Bytes) → stepText (environment o n) ≡ opened o ++ (n ++ text "]")
-unfolding stepText opened
-environment-text o n = sym (append-assoc (text "[") (operatorText o) (n ++ text "]"))
+-- the word of an operator has at most 3 bytes
+pub operator-length : (o : Operator) → length (operatorText o) ≤ 3
+unfolding operatorText text
+operator-length equals = omega arith
+operator-length isIn = omega arith
 
 -- a step has at most 78 bytes, the longest one four names
 kind-length : (k : Kind) (s : Bytes) → length (stepText (byKind k (namesIn s))) ≤ 78

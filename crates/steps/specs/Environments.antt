@@ -1,5 +1,4 @@
 -- What a user's environment lines in memory mean.
-use Prim.Native.Nat.{ℕ}
 use mathlib.Core.List.{List}
 use mathlib.Core.Bool.{Bool}
 use lib.Dec.{eqb}

@@ -1,13 +1,12 @@
 -- What a step of the code means, and the answers of its readers.
 use Prim.Native.Nat.{ℕ}
 use mathlib.Core.Option.{Option, none, some}
-use mathlib.Core.List.{List, [], map}
+use mathlib.Core.List.{List, []}
 use lib.Dec.{eqb}
 use lib.ListN.{getD, drop}
-use Rattle.model.specs.Base.{Bytes, text, if_then_else_, _>>=_, _>>_, check, after, span, between}
+use Rattle.model.specs.Base.{Bytes, if_then_else_}
 use Rattle.model.specs.Limits.{maxListed, maxDepth}
-use Rattle.model.specs.Names.{plainByte, isPlain}
-use Rattle.model.specs.Paths.{Step, names, wildcard, environment, nameText}
+use Rattle.model.specs.Paths.{Step, names, wildcard, environment}
 use Rattle.model.specs.Paths as paths
 use Rattle.paths.specs.Layout.{nameIn, counted}
 use Rattle.steps.specs.declared.step.Operator.{Operator}
@@ -50,20 +49,8 @@ stepIn row = byKind (kindOf (getD row 0 0)) (namesIn (drop 1 row))
 unfoldable pub stepsIn : Bytes → paths.Steps
 stepsIn s = counted stepIn 70 maxDepth s
 
--- names in single quotes with commas between
-unfoldable pub spelledNames : List Bytes → Bytes
-spelledNames ns = between (text ",") (map nameText ns)
-
 unfoldable pub stepOf : code.Step → Step
 stepOf t = byKind (t .kind) (namesIn (t .names))
-
--- a word and a plain name behind it: an environment step, if the word is that of its operator
-unfoldable pub readBehind : Bytes → paths.Operator → Bytes → Option (Step × Bytes)
-readBehind w o s = do
-  s₁ ← after w s
-  let (n, r) = span plainByte s₁
-  check (isPlain n)
-  some (environment o n, r)
 
 abbrev pub stepAnswer : StepRead → Option (Step × ℕ)
 stepAnswer r = if r .ok then some (stepOf (r .step), r .to) else none

@@ -1,4 +1,5 @@
 // What a step admits, given a user's environment lines: rows of 34 bytes, a name and a value, up to the first that is empty.
+use crate::policy::first_name;
 use crate::policy::kind_of;
 use crate::policy::row;
 use crate::step::Kind;
@@ -9,11 +10,10 @@ use paths::layout::name_at;
 use paths::layout::name_from;
 ghost use mathlib.Core.Path.{_≡_};
 ghost use Prim.Native.Nat.{_≤_};
-ghost use lib.ListN.{length, getD};
-ghost use mathlib.Core.List.{[]};
+ghost use lib.ListN.{length};
 ghost use Rattle.model.specs.Paths.{environment};
 ghost use Rattle.model.specs.Base.{among};
-ghost use Rattle.model.specs.Rights.{listed, firstIs, admits, matches};
+ghost use Rattle.model.specs.Rights.{admits, matches};
 ghost use Rattle.paths.specs.Layout.{pathIn};
 ghost use Rattle.steps.specs.Steps.{operatorOf, namesIn, stepIn, stepsIn};
 ghost use Rattle.steps.specs.Environments.{bindingsIn};
@@ -34,29 +34,10 @@ pub fn has_name(names: &[u8], key: &[u8]) -> bool
     false
 }
 
-// Whether the key is the first value listed under the name n.
-fn first_is(lines: &[u8], n: &[u8], key: &[u8]) -> bool
+// Whether the key is the first value listed under the name n, or any of them, as the operator says.
+fn is_listed(lines: &[u8], operator: Operator, n: &[u8], key: &[u8]) -> bool
     requires { ⌜ 544 ≤ length (now lines) ⌝ }
-    ensures { λ r. ⌜ r ≡ firstIs (now (key .entry)) (listed (bindingsIn (now (lines .entry))) (now (n .entry))) ⌝ }
-{
-    let mut i = 0;
-    while i < 16 {
-        let at = i * 34;
-        if lines[at] == 0 {
-            return false;
-        }
-        if same(name_from(lines, at), n) {
-            return same(key, name_from(lines, at + 17));
-        }
-        i += 1;
-    }
-    false
-}
-
-// Whether the key is any value listed under the name n.
-fn is_listed(lines: &[u8], n: &[u8], key: &[u8]) -> bool
-    requires { ⌜ 544 ≤ length (now lines) ⌝ }
-    ensures { λ r. ⌜ r ≡ among (now (key .entry)) (listed (bindingsIn (now (lines .entry))) (now (n .entry))) ⌝ }
+    ensures { λ r. ⌜ r ≡ admits (bindingsIn (now (lines .entry))) (environment (operatorOf operator) (now (n .entry))) (now (key .entry)) ⌝ }
 {
     let mut i = 0;
     while i < 16 {
@@ -67,6 +48,10 @@ fn is_listed(lines: &[u8], n: &[u8], key: &[u8]) -> bool
         if same(name_from(lines, at), n) {
             if same(key, name_from(lines, at + 17)) {
                 return true;
+            }
+            match operator {
+                Operator::Equals => return false,
+                Operator::In => {}
             }
         }
         i += 1;
@@ -83,28 +68,7 @@ pub fn admits(lines: &[u8], step: &[u8], key: &[u8]) -> bool
     match kind_of(step[0]) {
         Kind::Wildcard => true,
         Kind::Names => has_name(names, key),
-        Kind::Environment(operator) => environment_admits(lines, operator, first_name(names), key),
-    }
-}
-
-// The first of the names, or nothing.
-fn first_name(names: &[u8]) -> &[u8]
-    requires { ⌜ 69 ≤ length (now names) ⌝ }
-    ensures { λ r. ⌜ now r ≡ getD (namesIn (now (names .entry))) 0 [] ⌝ }
-{
-    if 0 < count(names, 4) {
-        return name_at(names, 0);
-    }
-    &names[..0]
-}
-
-fn environment_admits(lines: &[u8], operator: Operator, n: &[u8], key: &[u8]) -> bool
-    requires { ⌜ 544 ≤ length (now lines) ⌝ }
-    ensures { λ r. ⌜ r ≡ admits (bindingsIn (now (lines .entry))) (environment (operatorOf operator) (now (n .entry))) (now (key .entry)) ⌝ }
-{
-    match operator {
-        Operator::Equals => first_is(lines, n, key),
-        Operator::In => is_listed(lines, n, key),
+        Kind::Environment(operator) => is_listed(lines, operator, first_name(names), key),
     }
 }
 

@@ -3,17 +3,20 @@ use crate::step::Kind;
 use crate::step::Operator;
 use crate::step::Step;
 use crate::step::step_at;
+use lexical::slice::is_at;
 use lexical::write::put;
 use lexical::write::put_byte;
+use lexical::write::put_quoted;
 use paths::layout::count;
 use paths::layout::name_at;
 ghost use mathlib.Core.Path.{_≡_};
+ghost use mathlib.Core.Option.{none};
 ghost use mathlib.Core.List.{[], _∷_, _++_};
 ghost use Prim.Native.Nat.{_+_, _*_, _≤_, _<_, _^_};
 ghost use lib.ListN.{length, getD, take, drop};
 ghost use Rattle.rows.specs.Rows.{Wrote};
-ghost use Rattle.model.specs.Paths.{environment, stepText, stepsText, readStep, readPath, stepsOf};
-ghost use Rattle.steps.specs.Steps.{operatorOf, namesIn, kindOf, byteOf, stepIn, stepsIn, stepOf, spelledNames, stepsAnswer};
+ghost use Rattle.model.specs.Paths.{environment, operatorText, stepText, stepsText, readStep, readPath, stepsOf};
+ghost use Rattle.steps.specs.Steps.{operatorOf, namesIn, byKind, kindOf, byteOf, stepIn, stepsIn, stepOf, stepsAnswer};
 
 pub struct StepsRead {
     pub ok: bool,
@@ -63,11 +66,7 @@ fn put_row(row: &mut [u8], step: Step)
     let kind = step.kind;
     let names = step.names;
     row[0] = kind_byte(kind);
-    let mut i = 0;
-    while i < 69 {
-        row[i + 1] = names[i];
-        i += 1;
-    }
+    put(row, 1, &names);
 }
 
 // One step more, where there is room for it.
@@ -84,24 +83,54 @@ pub fn push_step(slot: &mut [u8], step: Step)
     }
 }
 
-// Names in single quotes with commas between.
-fn put_names(out: &mut [u8], at: usize, names: &[u8]) -> usize
-    requires { ⌜ (69 ≤ length (now names)) × (at + 80 < 2 ^ 64) ⌝ }
-    ensures { λ r. ⌜ Wrote at (spelledNames (namesIn (now (names .entry)))) (now (out .entry)) r (now (out .exit)) ⌝ }
+// The first of the names, or nothing.
+pub fn first_name(names: &[u8]) -> &[u8]
+    requires { ⌜ 69 ≤ length (now names) ⌝ }
+    ensures { λ r. ⌜ now r ≡ getD (namesIn (now (names .entry))) 0 [] ⌝ }
+{
+    if 0 < count(names, 4) {
+        return name_at(names, 0);
+    }
+    &names[..0]
+}
+
+// A list of names in the standard spelling: in single quotes, with commas between.
+fn put_list(out: &mut [u8], at: usize, names: &[u8]) -> usize
+    requires { ⌜ (69 ≤ length (now names)) × (at + 90 < 2 ^ 64) ⌝ }
+    ensures { λ r. ⌜ Wrote at (stepText (byKind Kind.Names (namesIn (now (names .entry))))) (now (out .entry)) r (now (out .exit)) ⌝ }
 {
     let n = count(names, 4);
-    let mut to = at;
+    let mut to = put_byte(out, at, b'[');
     let mut i = 0;
     while i < n {
         if 0 < i {
             to = put_byte(out, to, b',');
         }
-        to = put_byte(out, to, b'\'');
-        to = put(out, to, name_at(names, i));
-        to = put_byte(out, to, b'\'');
+        to = put_quoted(out, to, b'\'', name_at(names, i));
         i += 1;
     }
-    to
+    put_byte(out, to, b']')
+}
+
+// The opening bracket of an environment step, and the word of its operator.
+fn put_operator(out: &mut [u8], at: usize, operator: Operator) -> usize
+    requires { ⌜ at + 4 < 2 ^ 64 ⌝ }
+    ensures { λ r. ⌜ Wrote at (0x5B ∷ operatorText (operatorOf operator)) (now (out .entry)) r (now (out .exit)) ⌝ }
+{
+    match operator {
+        Operator::Equals => put(out, at, b"[=~"),
+        Operator::In => put(out, at, b"[in~"),
+    }
+}
+
+// An environment step in the standard spelling.
+fn put_environment(out: &mut [u8], at: usize, operator: Operator, name: &[u8]) -> usize
+    requires { ⌜ at + length (now name) + 5 < 2 ^ 64 ⌝ }
+    ensures { λ r. ⌜ Wrote at (stepText (environment (operatorOf operator) (now (name .entry)))) (now (out .entry)) r (now (out .exit)) ⌝ }
+{
+    let from = put_operator(out, at, operator);
+    let to = put(out, from, name);
+    put_byte(out, to, b']')
 }
 
 // A step in the standard spelling.
@@ -109,31 +138,12 @@ fn put_step(out: &mut [u8], at: usize, row: &[u8]) -> usize
     requires { ⌜ (length (now row) ≡ 70) × (at + 90 < 2 ^ 64) ⌝ }
     ensures { λ r. ⌜ Wrote at (stepText (stepIn (now (row .entry)))) (now (out .entry)) r (now (out .exit)) ⌝ }
 {
+    let names = &row[1..];
     match kind_of(row[0]) {
         Kind::Wildcard => put(out, at, b"[*]"),
-        Kind::Names => {
-            let from = put_byte(out, at, b'[');
-            let to = put_names(out, from, &row[1..]);
-            put_byte(out, to, b']')
-        }
-        Kind::Environment(operator) => put_environment(out, at, operator, &row[1..]),
+        Kind::Names => put_list(out, at, names),
+        Kind::Environment(operator) => put_environment(out, at, operator, first_name(names)),
     }
-}
-
-// An environment step in the standard spelling: its name is the first of the names, if there is one.
-fn put_environment(out: &mut [u8], at: usize, operator: Operator, names: &[u8]) -> usize
-    requires { ⌜ (length (now names) ≡ 69) × (at + 90 < 2 ^ 64) ⌝ }
-    ensures { λ r. ⌜ Wrote at (stepText (environment (operatorOf operator) (getD (namesIn (now (names .entry))) 0 []))) (now (out .entry)) r (now (out .exit)) ⌝ }
-{
-    let from = match operator {
-        Operator::Equals => put(out, at, b"[=~"),
-        Operator::In => put(out, at, b"[in~"),
-    };
-    if 0 < count(names, 4) {
-        let to = put(out, from, name_at(names, 0));
-        return put_byte(out, to, b']');
-    }
-    put_byte(out, from, b']')
 }
 
 // A policy path in the standard spelling.
@@ -152,35 +162,36 @@ pub fn put_steps(out: &mut [u8], at: usize, slot: &[u8]) -> usize
     to
 }
 
+fn no_steps() -> StepsRead
+    ensures { λ r. ⌜ stepsAnswer r ≡ none ⌝ }
+{
+    StepsRead {
+        ok: false,
+        slot: [0; 421],
+    }
+}
+
 // One to six steps behind a `$`, in any spelling, that are the whole text.
 fn read_all(s: &[u8]) -> StepsRead
     ensures { λ r. ⌜ stepsAnswer r ≡ readPath readStep (now (s .entry)) ⌝ }
 {
-    let bad = StepsRead {
-        ok: false,
-        slot: [0; 421],
-    };
-    if s.len() < 1 {
-        return bad;
-    }
-    if s[0] != b'$' {
-        return bad;
+    if !is_at(s, 0, b'$') {
+        return no_steps();
     }
     let mut slot = [0u8; 421];
     let mut n: usize = 0;
     let mut at = 1;
     while at < s.len() {
         if 6 <= n {
-            return bad;
+            return no_steps();
         }
         let read = step_at(s, at);
-        if read.ok {
-            let step = read.step;
-            push_step(&mut slot, step);
-            at = read.to;
-        } else {
-            return bad;
+        if !read.ok {
+            return no_steps();
         }
+        let step = read.step;
+        push_step(&mut slot, step);
+        at = read.to;
         n += 1;
     }
     StepsRead {
@@ -201,8 +212,5 @@ pub fn read_steps(s: &[u8]) -> StepsRead
             return path;
         }
     }
-    StepsRead {
-        ok: false,
-        slot: [0; 421],
-    }
+    no_steps()
 }

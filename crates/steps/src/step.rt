@@ -3,7 +3,8 @@ use lexical::class::Class;
 use lexical::class::End;
 use lexical::class::between;
 use lexical::class::is_digit;
-use lexical::class::run;
+use lexical::class::scan;
+use lexical::slice::is_at;
 use lexical::slice::starts;
 use paths::layout::push_name;
 ghost use mathlib.Core.Path.{_≡_};
@@ -12,9 +13,9 @@ ghost use mathlib.Core.List.{[], _∷_};
 ghost use Prim.Native.Nat.{_≤_};
 ghost use lib.ListN.{length, take};
 ghost use Rattle.rows.specs.Positions.{placed};
-ghost use Rattle.model.specs.Paths.{readEither, inBrackets, readWildcard, readIdentifier, readDotted, readList, readSelector, readStep};
+ghost use Rattle.model.specs.Paths.{operatorText, readEither, inBrackets, readWildcard, readIdentifier, readEnvironment, readDotted, readList, readSelector, readStep};
 ghost use Rattle.lexical.specs.Classes.{textAnswer};
-ghost use Rattle.steps.specs.Steps.{operatorOf, namesIn, byKind, readBehind, stepAnswer};
+ghost use Rattle.steps.specs.Steps.{operatorOf, namesIn, byKind, stepAnswer};
 
 pub enum Operator {
     Equals,
@@ -63,6 +64,14 @@ fn found(to: usize, kind: Kind, names: [u8; 69]) -> StepRead
     }
 }
 
+// A step of one name that was read up to `to`.
+fn found_one(to: usize, kind: Kind, name: &[u8]) -> StepRead
+    ensures { λ r. ⌜ stepAnswer r ≡ some (byKind kind (take 16 (now (name .entry)) ∷ []), to) ⌝ }
+{
+    let names = one_name(name);
+    found(to, kind, names)
+}
+
 fn no_step() -> StepRead
     ensures { λ r. ⌜ stepAnswer r ≡ none ⌝ }
 {
@@ -82,7 +91,7 @@ fn wildcard_at(s: &[u8], at: usize) -> StepRead
     requires { ⌜ at ≤ length (now s) ⌝ }
     ensures { λ r. ⌜ stepAnswer r ≡ placed readWildcard (now (s .entry)) at ⌝ }
 {
-    if starts(s, at, b"*") {
+    if is_at(s, at, b'*') {
         return found(at + 1, Kind::Wildcard, [0; 69]);
     }
     no_step()
@@ -93,38 +102,28 @@ fn identifier_at(s: &[u8], at: usize) -> StepRead
     requires { ⌜ at ≤ length (now s) ⌝ }
     ensures { λ r. ⌜ stepAnswer r ≡ placed readIdentifier (now (s .entry)) at ⌝ }
 {
-    let to = run(s, at, Class::Identifier);
-    if to - at < 1 {
+    let End::At(to) = scan(s, at, Class::Identifier, 1, 16) else {
         return no_step();
-    }
-    if 16 < to - at {
-        return no_step();
-    }
+    };
     if is_digit(s[at]) {
         return no_step();
     }
-    let names = one_name(&s[at..to]);
-    found(to, Kind::Names, names)
+    found_one(to, Kind::Names, &s[at..to])
 }
 
-// A word, and the plain name of an environment step behind it.
+// The word of an operator, and the plain name of an environment step behind it.
 fn environment_at(s: &[u8], at: usize, word: &[u8], operator: Operator) -> StepRead
-    requires { ⌜ at ≤ length (now s) ⌝ }
-    ensures { λ r. ⌜ stepAnswer r ≡ placed (readBehind (now (word .entry)) (operatorOf operator)) (now (s .entry)) at ⌝ }
+    requires { ⌜ (at ≤ length (now s)) × (now word ≡ operatorText (operatorOf operator)) ⌝ }
+    ensures { λ r. ⌜ stepAnswer r ≡ placed (readEnvironment (operatorOf operator)) (now (s .entry)) at ⌝ }
 {
     if !starts(s, at, word) {
         return no_step();
     }
     let from = at + word.len();
-    let to = run(s, from, Class::Plain);
-    if to - from < 1 {
+    let End::At(to) = scan(s, from, Class::Plain, 1, 16) else {
         return no_step();
-    }
-    if 16 < to - from {
-        return no_step();
-    }
-    let names = one_name(&s[from..to]);
-    found(to, Kind::Environment(operator), names)
+    };
+    found_one(to, Kind::Environment(operator), &s[from..to])
 }
 
 // A name in either quote: where the closing one ends.
@@ -153,7 +152,7 @@ fn list_at(s: &[u8], at: usize) -> StepRead
         let a = from + 1;
         let b = e - 1;
         push_name(&mut names, &s[a..b], 4);
-        if !starts(s, e, b",") {
+        if !is_at(s, e, b',') {
             return found(e, Kind::Names, names);
         }
         from = e + 1;
@@ -187,7 +186,7 @@ fn dotted_at(s: &[u8], at: usize) -> StepRead
     requires { ⌜ at ≤ length (now s) ⌝ }
     ensures { λ r. ⌜ stepAnswer r ≡ placed readDotted (now (s .entry)) at ⌝ }
 {
-    if !starts(s, at, b".") {
+    if !is_at(s, at, b'.') {
         return no_step();
     }
     let from = at + 1;
@@ -203,23 +202,17 @@ fn bracketed_at(s: &[u8], at: usize) -> StepRead
     requires { ⌜ at ≤ length (now s) ⌝ }
     ensures { λ r. ⌜ stepAnswer r ≡ placed (inBrackets readSelector) (now (s .entry)) at ⌝ }
 {
-    if !starts(s, at, b"[") {
+    if !is_at(s, at, b'[') {
         return no_step();
     }
-    let inner = selector_at(s, at + 1);
-    if !inner.ok {
-        return no_step();
+    let mut inner = selector_at(s, at + 1);
+    if inner.ok {
+        if is_at(s, inner.to, b']') {
+            inner.to += 1;
+            return inner;
+        }
     }
-    let to = inner.to;
-    if !starts(s, to, b"]") {
-        return no_step();
-    }
-    let step = inner.step;
-    StepRead {
-        ok: true,
-        to: to + 1,
-        step: step,
-    }
+    no_step()
 }
 
 // A step in any spelling.

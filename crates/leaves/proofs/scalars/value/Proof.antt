@@ -23,11 +23,8 @@ enum-known-v c = search needs
 enum-told : tie.Need-enum-told
 enum-told c = search needs
 
-slice-aggregate-text : tie.Need-slice-aggregate-text
-slice-aggregate-text c = search needs
-
-text-requires : tie.Need-text-requires
-text-requires c κs = search needs
+bad-requires : tie.Need-bad-requires
+bad-requires c κs = search needs
 
 returns-2 : tie.Need-returns-2
 returns-2 c = search needs
@@ -69,8 +66,7 @@ value-spec =
     value-at-requires
     enum-known-v
     enum-told
-    slice-aggregate-text
-    text-requires
+    bad-requires
     returns-2
     count-requires
     slice-aggregate-put-value

@@ -1,11 +1,11 @@
--- Each variant writes its value's text; a string is a quote, its bytes and a quote.
+-- Each variant writes its value's text; a string stands between quotes.
 use Prim.Native.Nat.{_≤_}
 use native.Mathlib.Omega.{arith}
 use borrow.Author.Needs.{needs}
 use lib.ListN.{length, length-take, length-drop}
 use Rattle.model.specs.Base.{text}
 use Rattle.model.specs.Values.{quoted, valueText}
-use Rattle.lexical.proofs.Writers.{wrote-both, i32-kept}
+use Rattle.lexical.proofs.Writers.{i32-kept}
 use Rattle.lexical.proofs.value.put_value.Statement.{statement}
 use Rattle.lexical.proofs.value.put_value.Tie as tie
 
@@ -42,27 +42,19 @@ put-whole-requires c κs = search needs
 enum-known-v-2 : tie.Need-enum-known-v-2
 enum-known-v-2 c = search needs
 
-put-byte-requires : tie.Need-put-byte-requires
-put-byte-requires c κs = search needs
+sub-put-quoted : tie.Need-sub-put-quoted
+sub-put-quoted c = inside (c .before .before) .0
 
-sub-put : tie.Need-sub-put
-sub-put c = inside (c .before .before .before .before .before .before) .0
+part-put-quoted-start : tie.Need-part-put-quoted-start
+part-put-quoted-start c = let p = inside (c .before .before) in search needs
 
-part-put-start : tie.Need-part-put-start
-part-put-start c = let p = inside (c .before .before .before .before .before .before) in search needs
+part-put-quoted-end : tie.Need-part-put-quoted-end
+part-put-quoted-end c = let p = inside (c .before .before) in search needs
 
-part-put-end : tie.Need-part-put-end
-part-put-end c = let p = inside (c .before .before .before .before .before .before) in search needs
-
-put-requires-3 : tie.Need-put-requires-3
-put-requires-3 c κs =
-    let p = inside (c .before .before .before .before .before .before .before) in
+put-quoted-requires : tie.Need-put-quoted-requires
+put-quoted-requires c κs =
+    let p = inside (c .before .before .before) in
     simp (length-take, length-drop) (omega arith)
-
-put-byte-requires-2 : tie.Need-put-byte-requires-2
-put-byte-requires-2 c κs =
-    let p = inside (c .before .before .before .before .before .before .before .before .before .before .before) in
-    omega (arith, simp (length-take, length-drop) at (c .before .before .before .put3 .ensures .0))
 
 same-length : tie.Need-same-length
 same-length c = search needs
@@ -92,11 +84,7 @@ same-length-4 c = search needs
 
 returns-4 : tie.Need-returns-4
 unfolding valueText quoted text
-returns-4 c =
-    let s = c .before .before .before .before .before .before .before .before .before .before .before in
-    rw (s .before .before .before .v2 .given .1)
-    (wrote-both _ _ _ _ _ _ _ _ (s .put-byte .ensures)
-    (wrote-both _ _ _ _ _ _ _ _ (c .before .before .before .before .before .before .put3 .ensures) (c .before .before .put-byte2 .ensures)))
+returns-4 c = rw (c .before .before .before .before .before .before .v2 .given .1) (c .before .before .put-quoted .ensures)
 
 pub put-value-spec : {M : Type 1} → statement M
 put-value-spec =
@@ -111,12 +99,10 @@ put-value-spec =
     enum-known-v
     put-whole-requires
     enum-known-v-2
-    put-byte-requires
-    sub-put
-    part-put-start
-    part-put-end
-    put-requires-3
-    put-byte-requires-2
+    sub-put-quoted
+    part-put-quoted-start
+    part-put-quoted-end
+    put-quoted-requires
     same-length
     returns
     same-length-2

@@ -3,22 +3,23 @@ use Prim.Native.Nat.{_+_, _*_, _-_, _≤_}
 use mathlib.Core.Path.{_≡_, refl}
 use native.Mathlib.Omega.{arith}
 use borrow.Author.Needs.{needs}
-use lib.ListN.{length}
+use lib.ListN.{length, length-append}
 use Rattle.rows.specs.Rows.{Wrote}
-use Rattle.model.specs.Base.{text, joined}
+use Rattle.model.specs.Base.{text, joined, between}
+use Rattle.model.specs.Paths.{nameText, stepText}
 use Rattle.model.proofs.Spelling.{keyText, keys-text}
 use Rattle.lexical.proofs.Writers.{wrote-both}
 use Rattle.paths.specs.Layout.{nameIn, pathIn}
-use Rattle.paths.proofs.Spelled.{spelled, wrote-none, spelled-step, spelled-all, name-length, key-text}
+use Rattle.paths.proofs.Spelled.{spelled, wrote-none, spelled-step, spelled-all, name-length}
 use Rattle.paths.proofs.field.put_path.Statement.{statement}
 use Rattle.paths.proofs.field.put_path.Tie as tie
 
 abbrev Inv-loop : tie.InvT-loop
-Inv-loop out₀ at slot n to₀ i₀ t7 t8 out to i =
+Inv-loop out₀ at slot n to₀ i₀ out to i =
     (i ≤ n) × (to ≤ to₀ + 20 * i) × (length out ≡ length out₀) × Wrote to₀ (spelled nameIn 17 6 keyText slot i) out₀ to out
 
 abbrev μ-loop : tie.MeasureT-loop
-μ-loop out₀ at slot n to₀ i₀ t7 t8 out to i = n - i
+μ-loop out₀ at slot n to₀ i₀ out to i = n - i
 
 count-requires : tie.Need-count-requires Inv-loop μ-loop
 count-requires c κs = search needs
@@ -30,23 +31,19 @@ loop-holds : tie.Need-loop-holds Inv-loop μ-loop
 unfolding joined
 loop-holds c = (search needs, search needs, refl, wrote-none _ _)
 
-slice-aggregate-put : tie.Need-slice-aggregate-put Inv-loop μ-loop
-slice-aggregate-put c = search needs
-
-put-requires : tie.Need-put-requires Inv-loop μ-loop
-put-requires c κs = search needs
+put-byte-requires-2 : tie.Need-put-byte-requires-2 Inv-loop μ-loop
+put-byte-requires-2 c κs = search needs
 
 name-at-requires : tie.Need-name-at-requires Inv-loop μ-loop
 name-at-requires c κs = search needs
 
-put-requires-2 : tie.Need-put-requires-2 Inv-loop μ-loop
-put-requires-2 c κs = let k = name-length _ _ (c .name-at .ensures) in omega arith
+put-quoted-requires : tie.Need-put-quoted-requires Inv-loop μ-loop
+put-quoted-requires c κs = let k = name-length _ _ (c .name-at .ensures) in omega arith
 
-slice-aggregate-put-2 : tie.Need-slice-aggregate-put-2 Inv-loop μ-loop
-slice-aggregate-put-2 c = search needs
-
-put-requires-3 : tie.Need-put-requires-3 Inv-loop μ-loop
-put-requires-3 c κs = let k = name-length _ _ (c .before .before .before .before .before .name-at .ensures) in omega arith
+put-byte-requires-3 : tie.Need-put-byte-requires-3 Inv-loop μ-loop
+put-byte-requires-3 c κs =
+    let k = name-length _ _ (c .before .before .before .before .name-at .ensures) in
+    omega (arith, simp length-append at (c .before .before .before .put-quoted .ensures .0))
 
 add-i : tie.Need-add-i Inv-loop μ-loop
 add-i c = search needs
@@ -55,16 +52,17 @@ loop-less : tie.Need-loop-less Inv-loop μ-loop
 loop-less c = search needs
 
 loop-again : tie.Need-loop-again Inv-loop μ-loop
-unfolding text
+unfolding keyText stepText nameText between text
 loop-again c =
-    let l = c .before .before .before .before .before .before .before .before .before .before .before .before .before .before .before .before .loop in
-    let s = c .before .before .before .before .before .before .before .before .before .before .before .before .before .before .before .before .before .before .before .before .before .before .before .before .args .slot .now in
-    let name = c .before .before .before .before .before .before .before .before .name-at .ensures in
+    let l = c .before .before .before .before .before .before .before .before .before .before .before .before .before .before .loop in
+    let s = c .before .before .before .before .before .before .before .before .before .before .before .before .before .before .before .before .before .before .before .before .before .before .args .slot .now in
+    let name = c .before .before .before .before .before .before .before .name-at .ensures in
     let k = name-length _ _ name in
-    let end = wrote-both _ _ _ _ _ _ _ _ (c .before .before .before .before .before .before .before .put2 .ensures) (c .before .before .put3 .ensures) in
-    let key = wrote-both _ _ _ _ _ _ _ _ (c .before .before .before .before .before .before .before .before .before .before .before .before .put .ensures) end in
+    let quoted = c .before .before .before .before .before .before .put-quoted .ensures in
+    let end = wrote-both _ _ _ _ _ _ _ _ quoted (c .before .before .put-byte3 .ensures) in
+    let key = wrote-both _ _ _ _ _ _ _ _ (c .before .before .before .before .before .before .before .before .before .before .before .put-byte2 .ensures) end in
     let all = wrote-both _ _ _ _ _ _ _ _ (l .inv .3) key in
-    (search needs, omega arith, search needs, rw (spelled-step nameIn 17 6 keyText s (l .i) (search needs), key-text, ← name) all)
+    (search needs, omega (arith, simp length-append at (quoted .0)), search needs, rw (spelled-step nameIn 17 6 keyText s (l .i) (search needs), ← name) all)
 
 same-length : tie.Need-same-length Inv-loop μ-loop
 same-length c = search needs
@@ -86,12 +84,10 @@ put-path-spec =
     count-requires
     put-byte-requires
     loop-holds
-    slice-aggregate-put
-    put-requires
+    put-byte-requires-2
     name-at-requires
-    put-requires-2
-    slice-aggregate-put-2
-    put-requires-3
+    put-quoted-requires
+    put-byte-requires-3
     add-i
     loop-less
     loop-again

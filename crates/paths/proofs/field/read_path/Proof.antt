@@ -3,41 +3,47 @@ use Prim.Native.Nat.{_-_, _≤_}
 use mathlib.Core.Path.{_≡_, refl, sym, _∙_}
 use lib.ListN.{length, drop}
 use Rattle.model.specs.Paths.{readKeyStep, keysOf}
-use Rattle.lexical.proofs.Runs.{after-not, after-over}
+use Rattle.lexical.proofs.Runs.{byte-stands}
 use Rattle.paths.specs.Layout.{counted, pathIn}
 use Rattle.paths.proofs.WholePaths.{left, path-unopened, path-opened, left-full, left-bad, left-end}
 use Rattle.paths.proofs.KeySteps.{KeyStands, key-bad, key-at, key-turn}
+use borrow.Author.Tests.{not-true, not-false}
 use borrow.Author.Needs.{needs}
 use native.Mathlib.Omega.{arith}
 use Rattle.paths.proofs.field.read_path.Statement.{statement}
 use Rattle.paths.proofs.field.read_path.Tie as tie
 
 abbrev Inv-loop : tie.InvT-loop
-Inv-loop s bad slot₀ n₀ at₀ slot n at =
+Inv-loop s slot₀ n₀ at₀ slot n at =
     (at ≤ length s) × (length slot ≡ 103) × (n ≡ length (pathIn slot)) × (keysOf s ≡ left readKeyStep (pathIn slot) (drop at s))
 
 abbrev μ-loop : tie.MeasureT-loop
-μ-loop s bad slot₀ n₀ at₀ slot n at = length s - at
+μ-loop s slot₀ n₀ at₀ slot n at = length s - at
+
+is-at-requires : tie.Need-is-at-requires Inv-loop μ-loop
+is-at-requires c κs = search needs
+
+no-path-requires : tie.Need-no-path-requires Inv-loop μ-loop
+no-path-requires c κs = search needs
 
 returns : tie.Need-returns Inv-loop μ-loop
 unfolding keysOf
-returns c = sym (path-unopened _ _ (after-over _ _ 0 (omega arith)))
-
-shared-slice-read-if2 : tie.Need-shared-slice-read-if2 Inv-loop μ-loop
-shared-slice-read-if2 c = search needs
-
-returns-2 : tie.Need-returns-2 Inv-loop μ-loop
-unfolding keysOf
-returns-2 c = sym (path-unopened _ _ (after-not _ _ 0 (omega arith) (c .if2 .taken)))
+returns c = c .no-path .ensures ∙ sym (path-unopened _ _ (sym (c .before .before .is-at .ensures) ∙ not-true _ (c .before .if1 .taken)))
 
 loop-holds : tie.Need-loop-holds Inv-loop μ-loop
 unfolding keysOf pathIn counted
-loop-holds c = (search needs, refl, refl, path-opened _ _ (omega arith) (c .if2 .left))
+loop-holds c =
+    let s = c .before .before .before .args .s .now in
+    let dollar = sym (c .before .is-at .ensures) ∙ not-false _ (c .if1 .left) in
+    (byte-stands 0x24 s 0 dollar .0, refl, refl, path-opened _ s dollar)
 
-returns-3 : tie.Need-returns-3 Inv-loop μ-loop
-returns-3 c =
-    let l = c .before .before .loop in
-    sym (l .inv .3 ∙ left-full _ _ (l .at) _ (c .before .loop-test .taken) (omega arith))
+no-path-requires-2 : tie.Need-no-path-requires-2 Inv-loop μ-loop
+no-path-requires-2 c κs = search needs
+
+returns-2 : tie.Need-returns-2 Inv-loop μ-loop
+returns-2 c =
+    let l = c .before .before .before .loop in
+    c .no-path2 .ensures ∙ sym (l .inv .3 ∙ left-full _ _ (l .at) _ (c .before .before .loop-test .taken) (omega arith))
 
 key-step-requires : tie.Need-key-step-requires Inv-loop μ-loop
 key-step-requires c κs = search needs
@@ -48,16 +54,19 @@ enum-known-e c = search needs
 enum-told : tie.Need-enum-told Inv-loop μ-loop
 enum-told c = search needs
 
-returns-4 : tie.Need-returns-4 Inv-loop μ-loop
-returns-4 c =
-    let k = c .before .before in
+no-path-requires-3 : tie.Need-no-path-requires-3 Inv-loop μ-loop
+no-path-requires-3 c κs = search needs
+
+returns-3 : tie.Need-returns-3 Inv-loop μ-loop
+returns-3 c =
+    let k = c .before .before .before in
     let l = k .before .before .before .loop in
-    let no = key-bad _ _ _ (k .key-step .ensures) (c .enum-told .given .1) in
-    sym (l .inv .3 ∙ left-bad _ _ (l .at) _ (k .before .before .loop-test .taken) (omega arith) no)
+    let no = key-bad _ _ _ (k .key-step .ensures) (c .before .enum-told .given .1) in
+    c .no-path3 .ensures ∙ sym (l .inv .3 ∙ left-bad _ _ (l .at) _ (k .before .before .loop-test .taken) (omega arith) no)
 
 -- a key stands where `key_step` says
 stands : (c : tie.After-known-told Inv-loop μ-loop)
-    → KeyStands (c .before .before .before .before .before .before .before .before .before .before .before .args .s .now) (c .before .before .before .before .before .before .loop .at) (c .before .e .given .0 .0)
+    → KeyStands (c .before .before .before .before .before .before .before .before .before .before .args .s .now) (c .before .before .before .before .before .before .loop .at) (c .before .e .given .0 .0)
 stands c = key-at _ _ _ (c .before .before .before .key-step .ensures) (omega arith) _ (c .before .e .given .1)
 
 add-from : tie.Need-add-from Inv-loop μ-loop
@@ -93,11 +102,11 @@ loop-again c =
     let k = c .before .before .before .before in
     let t = k .before .before .before .before in
     let l = t .before .before .loop in
-    let turn = key-turn _ _ _ (stands k) (pathIn (l .slot)) (pathIn (push .last .0)) (push .ensures) (l .n) (l .inv .2) (t .if3 .left) (t .before .loop-test .taken) in
+    let turn = key-turn _ _ _ (stands k) (pathIn (l .slot)) (pathIn (push .last .0)) (push .ensures) (l .n) (l .inv .2) (t .if2 .left) (t .before .loop-test .taken) in
     (stands k .reads .to, push .kept .0 ∙ l .inv .1, turn .0, l .inv .3 ∙ turn .1)
 
-returns-5 : tie.Need-returns-5 Inv-loop μ-loop
-returns-5 c = let l = c .before .loop in left-end _ _ (l .at) _ (l .n) (omega arith) (l .inv .2) ∙ sym (l .inv .3)
+returns-4 : tie.Need-returns-4 Inv-loop μ-loop
+returns-4 c = let l = c .before .loop in left-end _ _ (l .at) _ (l .n) (omega arith) (l .inv .2) ∙ sym (l .inv .3)
 
 pub read-path-spec : {M : Type 1} → statement M
 read-path-spec =
@@ -105,15 +114,17 @@ read-path-spec =
     (tie.spec
     Inv-loop
     μ-loop
+    is-at-requires
+    no-path-requires
     returns
-    shared-slice-read-if2
-    returns-2
     loop-holds
-    returns-3
+    no-path-requires-2
+    returns-2
     key-step-requires
     enum-known-e
     enum-told
-    returns-4
+    no-path-requires-3
+    returns-3
     add-from
     sub-to
     slice-aggregate-push-key
@@ -124,4 +135,4 @@ read-path-spec =
     add-n
     loop-less
     loop-again
-    returns-5)
+    returns-4)

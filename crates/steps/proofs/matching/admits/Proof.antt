@@ -36,8 +36,8 @@ enum-known-operator c = search needs
 first-name-requires : tie.Need-first-name-requires
 first-name-requires c κs = search needs
 
-environment-admits-requires : tie.Need-environment-admits-requires
-environment-admits-requires c κs = search needs
+is-listed-requires : tie.Need-is-listed-requires
+is-listed-requires c κs = search needs
 
 returns : tie.Need-returns
 unfolding admits
@@ -50,7 +50,7 @@ returns-2 c = c .has-name .ensures ∙ sym (admits-told _ _ _ (c .before .before
 returns-3 : tie.Need-returns-3
 returns-3 c =
     let k = c .before .before .before in
-    rw (c .before .first-name .ensures) at (c .environment-admits .ensures)
+    rw (c .before .first-name .ensures) at (c .is-listed .ensures)
     ∙ sym (admits-told _ _ _ (k .before .before .kind-of .ensures) (k .operator .given .1))
 
 pub admits-spec : {M : Type 1} → statement M
@@ -67,7 +67,7 @@ admits-spec =
     has-name-requires
     enum-known-operator
     first-name-requires
-    environment-admits-requires
+    is-listed-requires
     returns
     returns-2
     returns-3)

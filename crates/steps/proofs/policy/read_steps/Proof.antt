@@ -1,7 +1,9 @@
 -- A path that was read is a policy path if its text, written into no bytes at all, ends at 121 or before.
+use mathlib.Core.Path.{_∙_}
+use mathlib.Core.Logic.{⊎-elim}
+use native.Mathlib.Omega.{arith}
 use Rattle.steps.proofs.StepPushes.{steps-none, steps-fit, steps-long}
 use borrow.Author.Needs.{needs}
-use native.Mathlib.Omega.{arith}
 use Rattle.steps.proofs.policy.read_steps.Statement.{statement}
 use Rattle.steps.proofs.policy.read_steps.Tie as tie
 
@@ -25,13 +27,16 @@ returns c =
     let k = c .before .before .before .before .before .before in
     steps-fit _ _ (k .before .read-all .ensures) (k .if1 .taken) _ (c .before .before .put-steps .ensures .0 .0) (omega arith)
 
+no-steps-requires : tie.Need-no-steps-requires
+no-steps-requires c κs = search needs
+
 returns-2 : tie.Need-returns-2
 returns-2 c =
-    let k = c .before .before .before .before .before .before in
-    steps-long _ _ (k .before .read-all .ensures) (k .if1 .taken) _ (c .before .before .put-steps .ensures .0 .0) (omega arith)
-
-returns-3 : tie.Need-returns-3
-returns-3 c = steps-none _ _ (c .before .read-all .ensures) (c .if1 .left)
+    let k = c .before .before .read-all in
+    c .no-steps .ensures ∙ ⊎-elim
+    (λ w. steps-long _ _ (k .ensures) (w .0 .taken) _ (w .4 .ensures .0 .0) (omega (arith, w .6 .left)))
+    (λ w. steps-none _ _ (k .ensures) (w .left))
+    (c .before .if1 .came)
 
 pub read-steps-spec : {M : Type 1} → statement M
 read-steps-spec =
@@ -43,5 +48,5 @@ read-steps-spec =
     slice-aggregate-put-steps-2
     put-steps-requires
     returns
-    returns-2
-    returns-3)
+    no-steps-requires
+    returns-2)

@@ -1,9 +1,12 @@
--- Behind the word the run of plain bytes is a plain name by its length.
-use mathlib.Core.Path.{_∙_, sym}
+-- Behind the word the plain bytes are a plain name by how many they are.
+use Prim.Native.Nat.{_+_, _≤_}
+use mathlib.Core.Path.{_≡_, _∙_, sym}
+use mathlib.Core.Bool.{true}
 use native.Mathlib.Omega.{arith}
-use Rattle.rows.proofs.Positions.{run-within}
-use Rattle.lexical.proofs.Runs.{within-below, within-above}
+use lib.ListN.{length, drop}
+use Rattle.model.specs.Base.{after, isSome}
 use Rattle.lexical.proofs.Slices.{after-at}
+use Rattle.lexical.proofs.Between.{scan-within}
 use Rattle.steps.proofs.StepReaders.{environment-not, environment-misfit, environment-is}
 use borrow.Author.Tests.{not-true, not-false}
 use borrow.Author.Needs.{needs}
@@ -17,62 +20,65 @@ no-step-requires : tie.Need-no-step-requires
 no-step-requires c κs = search needs
 
 returns : tie.Need-returns
-returns c = c .no-step .ensures ∙ environment-not _ _ _ _ (sym (c .before .before .starts .ensures) ∙ not-true _ (c .before .if1 .taken))
+returns c =
+    let p = c .before .before .before .before .before .pre in
+    c .no-step .ensures ∙ environment-not _ _ (p .1) _ _ (sym (c .before .before .starts .ensures) ∙ not-true _ (c .before .if1 .taken))
+
+-- the word stands there
+opens : (c : tie.Else1) → let a = c .before .before .before .before .args in isSome (after (a .word .now) (drop (a .at) (a .s .now))) ≡ true
+opens c = sym (c .before .starts .ensures) ∙ not-false _ (c .if1 .left)
 
 add-from : tie.Need-add-from
 add-from c = search needs
 
-run-requires : tie.Need-run-requires
-run-requires c κs = after-at _ _ _ (c .before .before .before .before .pre) (sym (c .before .starts .ensures) ∙ not-false _ (c .if1 .left)) .1
+scan-requires : tie.Need-scan-requires
+scan-requires c κs = after-at _ _ _ (c .before .before .before .before .pre .0) (opens c) .1
 
-sub-if2 : tie.Need-sub-if2
-sub-if2 c = run-within _ _ _ _ (c .run .ensures) (run-requires (c .before) (c .run .lifetimes)) .0
+enum-known-to : tie.Need-enum-known-to
+enum-known-to c = search needs
+
+enum-told : tie.Need-enum-told
+enum-told c = search needs
 
 no-step-requires-2 : tie.Need-no-step-requires-2
 no-step-requires-2 c κs = search needs
 
 returns-2 : tie.Need-returns-2
 returns-2 c =
-    let r = c .before .before in
-    let b = r .before in
+    let x = c .before .before .before in
+    let p = x .before .before .before .before .before .pre in
     c .no-step2 .ensures
-    ∙ environment-misfit _ _ _ _ (search needs) (sym (b .before .starts .ensures) ∙ not-false _ (b .if1 .left)) _ (r .run .ensures) (within-below 1 16 _ (c .before .if2 .taken))
+    ∙ environment-misfit _ _ (p .1) _ _ (p .0) (opens (x .before)) _ (x .scan .ensures) (c .before .enum-told .given .1)
 
-sub-if3 : tie.Need-sub-if3
-sub-if3 c = search needs
+-- one byte at least stands behind the word
+within : (c : tie.After-known-told)
+    → let a = c .before .before .before .before .before .before .before .before .args in
+    let from = a .at + length (a .word .now) in
+    let to = c .before .to .given .0 .0 in
+    (from + 1 ≤ to) × (to ≤ from + 16) × (to ≤ length (a .s .now))
+within c =
+    let x = c .before .before .before in
+    scan-within _ _ _ _ _ _ (x .scan .ensures) (scan-requires (x .before) (x .scan .lifetimes)) _ (c .before .to .given .1)
 
-no-step-requires-3 : tie.Need-no-step-requires-3
-no-step-requires-3 c κs = search needs
+sub-found-one : tie.Need-sub-found-one
+sub-found-one c = omega (arith, within c)
+
+part-found-one-start : tie.Need-part-found-one-start
+part-found-one-start c = omega (arith, within c)
+
+part-found-one-end : tie.Need-part-found-one-end
+part-found-one-end c = omega (arith, within c)
+
+found-one-requires : tie.Need-found-one-requires
+found-one-requires c κs = search needs
 
 returns-3 : tie.Need-returns-3
 returns-3 c =
-    let r = c .before .before .before in
-    let b = r .before in
-    c .no-step3 .ensures
-    ∙ environment-misfit _ _ _ _ (search needs) (sym (b .before .starts .ensures) ∙ not-false _ (b .if1 .left)) _ (r .run .ensures) (within-above 1 16 _ (c .before .if3 .taken))
-
-sub-one-name : tie.Need-sub-one-name
-sub-one-name c = search needs
-
-part-one-name-start : tie.Need-part-one-name-start
-part-one-name-start c = search needs
-
-part-one-name-end : tie.Need-part-one-name-end
-part-one-name-end c = let r = c .before .before in omega (arith, run-within _ _ _ _ (r .run .ensures) (run-requires (r .before) (r .run .lifetimes)))
-
-one-name-requires : tie.Need-one-name-requires
-one-name-requires c κs = search needs
-
-found-requires : tie.Need-found-requires
-found-requires c κs = search needs
-
-returns-4 : tie.Need-returns-4
-returns-4 c =
-    let l = c .before .before .before in
-    let r = l .before .before in
-    let b = r .before in
-    c .found .ensures
-    ∙ environment-is _ _ _ _ (search needs) (sym (b .before .starts .ensures) ∙ not-false _ (b .if1 .left)) _ (r .run .ensures) (l .before .if2 .left) (l .if3 .left) _ (c .before .one-name .ensures)
+    let k = c .before .before .before in
+    let x = k .before .before in
+    let p = x .before .before .before .before .before .pre in
+    c .found-one .ensures
+    ∙ environment-is _ _ (p .1) _ _ (p .0) (opens (x .before)) _ (x .scan .ensures) _ (k .to .given .1)
 
 pub environment-at-spec : {M : Type 1} → statement M
 environment-at-spec =
@@ -82,16 +88,13 @@ environment-at-spec =
     no-step-requires
     returns
     add-from
-    run-requires
-    sub-if2
+    scan-requires
+    enum-known-to
+    enum-told
     no-step-requires-2
     returns-2
-    sub-if3
-    no-step-requires-3
-    returns-3
-    sub-one-name
-    part-one-name-start
-    part-one-name-end
-    one-name-requires
-    found-requires
-    returns-4)
+    sub-found-one
+    part-found-one-start
+    part-found-one-end
+    found-one-requires
+    returns-3)

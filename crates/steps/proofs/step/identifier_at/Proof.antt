@@ -1,94 +1,88 @@
--- The run of the class is an identifier by its length and its first byte.
+-- The bytes of the class are an identifier by how many they are and by the first of them.
+use Prim.Native.Nat.{_+_, _≤_}
 use mathlib.Core.Path.{_∙_, sym}
 use native.Mathlib.Omega.{arith}
-use Rattle.rows.proofs.Positions.{run-within}
-use Rattle.lexical.proofs.Runs.{within-below, within-above}
+use lib.ListN.{length}
+use Rattle.lexical.proofs.Between.{scan-within}
 use Rattle.steps.proofs.StepReaders.{identifier-misfit, identifier-digit, identifier-is}
 use borrow.Author.Needs.{needs}
 use Rattle.steps.proofs.step.identifier_at.Statement.{statement}
 use Rattle.steps.proofs.step.identifier_at.Tie as tie
 
-run-requires : tie.Need-run-requires
-run-requires c κs = search needs
+scan-requires : tie.Need-scan-requires
+scan-requires c κs = search needs
 
-sub-if1 : tie.Need-sub-if1
-sub-if1 c = run-within _ _ _ _ (c .run .ensures) (search needs) .0
+enum-known-to : tie.Need-enum-known-to
+enum-known-to c = search needs
+
+enum-told : tie.Need-enum-told
+enum-told c = search needs
 
 no-step-requires : tie.Need-no-step-requires
 no-step-requires c κs = search needs
 
 returns : tie.Need-returns
 returns c =
-    let r = c .before .before .run in
-    c .no-step .ensures ∙ identifier-misfit _ _ _ (r .ensures) (search needs) (within-below 1 16 _ (c .before .if1 .taken))
+    let x = c .before .before .before .scan in
+    c .no-step .ensures ∙ identifier-misfit _ _ (search needs) _ (x .ensures) (c .before .enum-told .given .1)
 
-sub-if2 : tie.Need-sub-if2
-sub-if2 c = search needs
+-- one byte at least stands from the position on
+within : (c : tie.After-known-told)
+    → let a = c .before .before .before .before .before .args in
+    let to = c .before .to .given .0 .0 in
+    (a .at + 1 ≤ to) × (to ≤ a .at + 16) × (to ≤ length (a .s .now))
+within c = scan-within _ _ _ _ _ _ (c .before .before .before .scan .ensures) (search needs) _ (c .before .to .given .1)
+
+shared-slice-read-is-digit : tie.Need-shared-slice-read-is-digit
+shared-slice-read-is-digit c = omega (arith, within (c .before))
+
+is-digit-requires : tie.Need-is-digit-requires
+is-digit-requires c κs = search needs
 
 no-step-requires-2 : tie.Need-no-step-requires-2
 no-step-requires-2 c κs = search needs
 
 returns-2 : tie.Need-returns-2
 returns-2 c =
-    let r = c .before .before .before .run in
-    c .no-step2 .ensures ∙ identifier-misfit _ _ _ (r .ensures) (search needs) (within-above 1 16 _ (c .before .if2 .taken))
+    let d = c .before .before in
+    let k = d .before .before .before in
+    c .no-step2 .ensures
+    ∙ identifier-digit _ _ (search needs) _ (k .before .before .scan .ensures) _ (k .to .given .1) (sym (d .is-digit .ensures) ∙ c .before .if1 .taken)
 
-shared-slice-read-is-digit : tie.Need-shared-slice-read-is-digit
-shared-slice-read-is-digit c = omega (arith, run-within _ _ _ _ (c .before .before .before .run .ensures) (search needs))
+sub-found-one : tie.Need-sub-found-one
+sub-found-one c = omega (arith, within (c .before .before .before))
 
-is-digit-requires : tie.Need-is-digit-requires
-is-digit-requires c κs = search needs
+part-found-one-start : tie.Need-part-found-one-start
+part-found-one-start c = omega (arith, within (c .before .before .before))
 
-no-step-requires-3 : tie.Need-no-step-requires-3
-no-step-requires-3 c κs = search needs
+part-found-one-end : tie.Need-part-found-one-end
+part-found-one-end c = omega (arith, within (c .before .before .before))
+
+found-one-requires : tie.Need-found-one-requires
+found-one-requires c κs = search needs
 
 returns-3 : tie.Need-returns-3
 returns-3 c =
-    let d = c .before .before in
-    let b = d .before .before in
-    c .no-step3 .ensures
-    ∙ identifier-digit _ _ _ (b .before .before .run .ensures) (search needs) (b .before .if1 .left) (b .if2 .left) (sym (d .is-digit .ensures) ∙ c .before .if3 .taken)
-
-sub-one-name : tie.Need-sub-one-name
-sub-one-name c = search needs
-
-part-one-name-start : tie.Need-part-one-name-start
-part-one-name-start c = search needs
-
-part-one-name-end : tie.Need-part-one-name-end
-part-one-name-end c = omega (arith, run-within _ _ _ _ (c .before .before .before .before .before .run .ensures) (search needs))
-
-one-name-requires : tie.Need-one-name-requires
-one-name-requires c κs = search needs
-
-found-requires : tie.Need-found-requires
-found-requires c κs = search needs
-
-returns-4 : tie.Need-returns-4
-returns-4 c =
-    let d = c .before .before .before .before in
-    let b = d .before .before in
-    c .found .ensures
-    ∙ identifier-is _ _ _ (b .before .before .run .ensures) (search needs) (b .before .if1 .left) (b .if2 .left) (sym (d .is-digit .ensures) ∙ c .before .before .before .if3 .left) _ (c .before .one-name .ensures)
+    let d = c .before .before .before in
+    let k = d .before .before .before in
+    c .found-one .ensures
+    ∙ identifier-is _ _ (search needs) _ (k .before .before .scan .ensures) _ (k .to .given .1) (sym (d .is-digit .ensures) ∙ c .before .before .if1 .left)
 
 pub identifier-at-spec : {M : Type 1} → statement M
 identifier-at-spec =
     tie.close
     (tie.spec
-    run-requires
-    sub-if1
+    scan-requires
+    enum-known-to
+    enum-told
     no-step-requires
     returns
-    sub-if2
-    no-step-requires-2
-    returns-2
     shared-slice-read-is-digit
     is-digit-requires
-    no-step-requires-3
-    returns-3
-    sub-one-name
-    part-one-name-start
-    part-one-name-end
-    one-name-requires
-    found-requires
-    returns-4)
+    no-step-requires-2
+    returns-2
+    sub-found-one
+    part-found-one-start
+    part-found-one-end
+    found-one-requires
+    returns-3)

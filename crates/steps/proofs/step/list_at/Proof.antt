@@ -15,12 +15,12 @@ use Rattle.steps.proofs.step.list_at.Statement.{statement}
 use Rattle.steps.proofs.step.list_at.Tie as tie
 
 abbrev Inv-loop : tie.InvT-loop
-Inv-loop s at names₀ from₀ n₀ t9 names from n =
+Inv-loop s at names₀ from₀ n₀ names from n =
     (at ≤ from) × (from ≤ length s) × (length names ≡ 69) × (n ≡ length (namesIn names))
     × (readNames maxListed [] (drop at s) ≡ readNames (maxListed - n) (namesIn names) (drop from s))
 
 abbrev μ-loop : tie.MeasureT-loop
-μ-loop s at names₀ from₀ n₀ t9 names from n = maxListed - n
+μ-loop s at names₀ from₀ n₀ names from n = maxListed - n
 
 loop-holds : tie.Need-loop-holds Inv-loop μ-loop
 unfolding namesIn counted
@@ -70,11 +70,8 @@ part-push-name-end c = omega (arith, stands (c .before))
 push-name-requires : tie.Need-push-name-requires Inv-loop μ-loop
 push-name-requires c κs = search needs
 
-slice-aggregate-starts : tie.Need-slice-aggregate-starts Inv-loop μ-loop
-slice-aggregate-starts c = search needs
-
-starts-requires : tie.Need-starts-requires Inv-loop μ-loop
-starts-requires c κs = stands (c .before .before .before .before .before) .reads .to
+is-at-requires : tie.Need-is-at-requires Inv-loop μ-loop
+is-at-requires c κs = search needs
 
 found-requires : tie.Need-found-requires Inv-loop μ-loop
 found-requires c κs = search needs
@@ -83,16 +80,16 @@ returns-2 : tie.Need-returns-2 Inv-loop μ-loop
 unfolding namesIn
 returns-2 c =
     let w = c .before .before in
-    let push = w .before .before .before in
+    let push = w .before .before in
     let k = push .before .before .before in
     let t = k .before .before .before .before in
     let l = t .before .loop in
-    let comma = sym (w .starts .ensures) ∙ not-true _ (c .before .if1 .taken) in
+    let comma = sym (w .is-at .ensures) ∙ not-true _ (c .before .if1 .taken) in
     let last = names-last _ _ _ (stands k) (namesIn (l .names)) _ (push .push-name .ensures) (l .n) (l .inv .3) (t .loop-test .taken) comma in
     c .found .ensures ∙ list-is _ _ _ _ (omega (arith, stands k)) (stands k .reads .to) (l .inv .4 ∙ last)
 
 add-from : tie.Need-add-from Inv-loop μ-loop
-add-from c = omega (arith, stands (c .before .before .before .before .before .before .before) .reads)
+add-from c = omega (arith, stands (c .before .before .before .before .before .before) .reads)
 
 add-n : tie.Need-add-n Inv-loop μ-loop
 add-n c = search needs
@@ -104,11 +101,11 @@ loop-again : tie.Need-loop-again Inv-loop μ-loop
 unfolding namesIn
 loop-again c =
     let w = c .before in
-    let push = w .before .before .before in
+    let push = w .before .before in
     let k = push .before .before .before in
     let t = k .before .before .before .before in
     let l = t .before .loop in
-    let comma = sym (w .starts .ensures) ∙ not-false _ (c .if1 .left) in
+    let comma = sym (w .is-at .ensures) ∙ not-false _ (c .if1 .left) in
     let turn = names-turn _ _ _ (stands k) (namesIn (l .names)) _ (push .push-name .ensures) (l .n) (l .inv .3) (t .loop-test .taken) comma in
     (omega (arith, stands k), turn .0, push .push-name .kept .0 ∙ l .inv .2, turn .1, l .inv .4 ∙ turn .2)
 
@@ -139,8 +136,7 @@ list-at-spec =
     part-push-name-start
     part-push-name-end
     push-name-requires
-    slice-aggregate-starts
-    starts-requires
+    is-at-requires
     found-requires
     returns-2
     add-from

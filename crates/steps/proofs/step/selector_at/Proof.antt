@@ -1,8 +1,8 @@
 -- The first that reads something decides.
 use mathlib.Core.Path.{refl, _∙_}
 use Rattle.model.specs.Base.{text}
-use Rattle.model.specs.Paths.{equals, isIn, operatorText, readSelector}
-use Rattle.steps.proofs.StepReaders.{first-reads, first-none, behind-operator}
+use Rattle.model.specs.Paths.{operatorText, readSelector}
+use Rattle.steps.proofs.StepReaders.{first-reads, first-none}
 use borrow.Author.Needs.{needs}
 use Rattle.steps.proofs.step.selector_at.Statement.{statement}
 use Rattle.steps.proofs.step.selector_at.Tie as tie
@@ -21,44 +21,46 @@ slice-aggregate-environment-at : tie.Need-slice-aggregate-environment-at
 slice-aggregate-environment-at c = search needs
 
 environment-at-requires : tie.Need-environment-at-requires
-environment-at-requires c κs = search needs
+unfolding operatorText text
+environment-at-requires c κs = (search needs, refl)
 
 returns-2 : tie.Need-returns-2
-unfolding readSelector operatorText text
+unfolding readSelector
 returns-2 c =
     let e = c .before in
     let w = e .before .before in
     let ok = c .if2 .taken in
-    let equal = e .environment-at .ensures ∙ behind-operator equals _ _ ∙ first-none _ _ _ _ (w .before .wildcard-at .ensures) _ (w .if1 .left) in
+    let equal = e .environment-at .ensures ∙ first-none _ _ _ _ (w .before .wildcard-at .ensures) _ (w .if1 .left) in
     first-reads _ _ _ _ (first-reads _ _ _ _ equal _ ok) _ ok
 
 slice-aggregate-environment-at-2 : tie.Need-slice-aggregate-environment-at-2
 slice-aggregate-environment-at-2 c = search needs
 
 environment-at-requires-2 : tie.Need-environment-at-requires-2
-environment-at-requires-2 c κs = search needs
+unfolding operatorText text
+environment-at-requires-2 c κs = (search needs, refl)
 
 returns-3 : tie.Need-returns-3
-unfolding readSelector operatorText text
+unfolding readSelector
 returns-3 c =
     let i = c .before in
     let e = i .before .before in
     let w = e .before .before .before in
-    let equal = e .before .environment-at .ensures ∙ behind-operator equals _ _ ∙ first-none _ _ _ _ (w .before .wildcard-at .ensures) _ (w .if1 .left) in
-    let inside = i .environment-at2 .ensures ∙ behind-operator isIn _ _ ∙ first-none _ _ _ _ equal _ (e .if2 .left) in
+    let equal = e .before .environment-at .ensures ∙ first-none _ _ _ _ (w .before .wildcard-at .ensures) _ (w .if1 .left) in
+    let inside = i .environment-at2 .ensures ∙ first-none _ _ _ _ equal _ (e .if2 .left) in
     first-reads _ _ _ _ inside _ (c .if3 .taken)
 
 list-at-requires : tie.Need-list-at-requires
 list-at-requires c κs = search needs
 
 returns-4 : tie.Need-returns-4
-unfolding readSelector operatorText text
+unfolding readSelector
 returns-4 c =
     let i = c .before in
     let e = i .before .before .before in
     let w = e .before .before .before in
-    let equal = e .before .environment-at .ensures ∙ behind-operator equals _ _ ∙ first-none _ _ _ _ (w .before .wildcard-at .ensures) _ (w .if1 .left) in
-    let inside = i .before .environment-at2 .ensures ∙ behind-operator isIn _ _ ∙ first-none _ _ _ _ equal _ (e .if2 .left) in
+    let equal = e .before .environment-at .ensures ∙ first-none _ _ _ _ (w .before .wildcard-at .ensures) _ (w .if1 .left) in
+    let inside = i .before .environment-at2 .ensures ∙ first-none _ _ _ _ equal _ (e .if2 .left) in
     c .list-at .ensures ∙ first-none _ _ _ _ inside _ (i .if3 .left)
 
 pub selector-at-spec : {M : Type 1} → statement M

@@ -5,11 +5,8 @@ use borrow.Author.Needs.{needs}
 use Rattle.steps.proofs.step.wildcard_at.Statement.{statement}
 use Rattle.steps.proofs.step.wildcard_at.Tie as tie
 
-slice-aggregate-starts : tie.Need-slice-aggregate-starts
-slice-aggregate-starts c = search needs
-
-starts-requires : tie.Need-starts-requires
-starts-requires c κs = search needs
+is-at-requires : tie.Need-is-at-requires
+is-at-requires c κs = search needs
 
 add-found : tie.Need-add-found
 add-found c = search needs
@@ -18,22 +15,14 @@ found-requires : tie.Need-found-requires
 found-requires c κs = search needs
 
 returns : tie.Need-returns
-returns c = c .found .ensures ∙ wildcard-is _ _ (search needs) (sym (c .before .before .starts .ensures) ∙ c .before .if1 .taken)
+returns c = c .found .ensures ∙ wildcard-is _ _ (search needs) (sym (c .before .before .is-at .ensures) ∙ c .before .if1 .taken)
 
 no-step-requires : tie.Need-no-step-requires
 no-step-requires c κs = search needs
 
 returns-2 : tie.Need-returns-2
-returns-2 c = c .no-step .ensures ∙ wildcard-not _ _ (sym (c .before .before .starts .ensures) ∙ c .before .if1 .left)
+returns-2 c = c .no-step .ensures ∙ wildcard-not _ _ (sym (c .before .before .is-at .ensures) ∙ c .before .if1 .left)
 
 pub wildcard-at-spec : {M : Type 1} → statement M
 wildcard-at-spec =
-    tie.close
-    (tie.spec
-    slice-aggregate-starts
-    starts-requires
-    add-found
-    found-requires
-    returns
-    no-step-requires
-    returns-2)
+    tie.close (tie.spec is-at-requires add-found found-requires returns no-step-requires returns-2)

@@ -7,8 +7,8 @@ use Rattle.model.specs.Base.{Bytes}
 use Rattle.paths.specs.Layout.{nameIn}
 use Rattle.steps.specs.Steps.{namesIn}
 use Rattle.paths.proofs.Counted.{counted-at, counted-over}
-use Rattle.steps.proofs.matching.first_name.Statement.{statement}
-use Rattle.steps.proofs.matching.first_name.Tie as tie
+use Rattle.steps.proofs.policy.first_name.Statement.{statement}
+use Rattle.steps.proofs.policy.first_name.Tie as tie
 
 count-requires : tie.Need-count-requires
 count-requires c κs = search needs
