@@ -1,10 +1,14 @@
-// Opens each recorded case, and prints what came of it.
+// Recorded openings, each with what came of it; then recorded afternoons, with all that is printed.
+mod afternoon;
 mod outcome;
 mod unpack;
 
+use crate::afternoon::answer_input;
 use crate::outcome::print;
+use crate::outcome::print_refusal;
 use crate::unpack::TEXT;
 use crate::unpack::unpack;
+use opening::answer::Opening;
 use server::open::LOGINS;
 use server::open::RECORD;
 use server::open::TABLES;
@@ -12,11 +16,11 @@ use server::open::open;
 ghost use Prim.Native.Nat.{_≤_};
 ghost use lib.ListN.{length};
 
-// The file of packed cases.
+// A file of packed cases.
 const PACK: usize = 262144;
 
-// The cases, one after the other, each with the arrays that the one before left.
-fn run(pack: &[u8])
+// The openings, one after the other, each with the arrays that the one before left.
+fn run_openings(pack: &[u8])
     requires { ⌜ length (now pack) ≤ 262144 ⌝ }
 {
     let mut users = [0u8; TEXT];
@@ -46,10 +50,55 @@ fn run(pack: &[u8])
     }
 }
 
+// The afternoons: an opening, and the lines of an input.
+fn run_afternoons(pack: &[u8])
+    requires { ⌜ length (now pack) ≤ 262144 ⌝ }
+{
+    let mut users = [0u8; TEXT];
+    let mut environments = [0u8; TEXT];
+    let mut policy = [0u8; TEXT];
+    let mut fields = [0u8; TEXT];
+    let mut input = [0u8; TEXT];
+    let mut tables = [0u8; TABLES];
+    let mut logins = [0u16; LOGINS];
+    let mut record = [0u8; RECORD];
+    let mut at: usize = 0;
+    while at < pack.len() {
+        let u = unpack(pack, at, &mut users);
+        let e = unpack(pack, u.to, &mut environments);
+        let p = unpack(pack, e.to, &mut policy);
+        let f = unpack(pack, p.to, &mut fields);
+        let i = unpack(pack, f.to, &mut input);
+        let done = open(
+            &mut tables,
+            &mut logins,
+            &mut record,
+            &users[..u.length],
+            &environments[..e.length],
+            &policy[..p.length],
+            &fields[..f.length],
+        );
+        if print_refusal(done) {
+            return;
+        }
+        answer_input(&tables, &mut logins, &mut record, &input[..i.length]);
+        at = i.to;
+    }
+}
+
+fn read_pack(name: &[u8], pack: &mut [u8]) -> usize
+    ensures { λ r. ⌜ r ≤ length (now (pack .exit)) ⌝ }
+{
+    let fd = os::open_read(name);
+    let n = io::read_full(fd, pack);
+    libc::close(fd);
+    n
+}
+
 fn main() {
     let mut pack = [0u8; PACK];
-    let fd = os::open_read(b"openings");
-    let n = io::read_full(fd, &mut pack);
-    libc::close(fd);
-    run(&pack[..n]);
+    let n = read_pack(b"openings", &mut pack);
+    run_openings(&pack[..n]);
+    let m = read_pack(b"afternoons", &mut pack);
+    run_afternoons(&pack[..m]);
 }

@@ -1,26 +1,19 @@
 // What an opening came to, on a line.
 use libc::STDOUT_FILENO;
-use server::answer::Opening;
+use opening::answer::Opening;
+use printing::put_opening;
 
-fn number(n: usize) {
-    io::print_decimal(STDOUT_FILENO, n as u64);
+// A refused opening's line, and whether there is one.
+pub fn print_refusal(done: Opening) -> bool {
+    let mut out = [0u8; 66];
+    let n = put_opening(&mut out, done);
+    io::write_all(STDOUT_FILENO, &out[..n]);
+    0 < n
 }
 
-fn text(s: &[u8]) {
-    io::write_all(STDOUT_FILENO, s);
-}
-
+// The same, and `OK` for an accepted one.
 pub fn print(done: Opening) {
-    match done {
-        Opening::Done => text(b"OK\n"),
-        Opening::Refused(e, t, l) => {
-            text(b"NO;");
-            number(e);
-            text(b";");
-            number(t);
-            text(b";");
-            number(l);
-            text(b"\n");
-        }
+    if !print_refusal(done) {
+        io::write_all(STDOUT_FILENO, b"OK\n");
     }
 }

@@ -1,6 +1,4 @@
 // The copy of a user: policy lines, environment lines, and the fields that the user may read.
-use lexical::write::put;
-use lexical::write::put_byte;
 use paths::layout::name_from;
 use record::table::SLOTS;
 use record::table::is_empty;
@@ -14,6 +12,8 @@ use tables::layout::is_write;
 use tables::layout::row_at;
 use tables::layout::row_count;
 use tables::rights::may;
+use values::write::put;
+use values::write::put_byte;
 use writer::saved::put_saved;
 ghost use mathlib.Core.Path.{_≡_};
 ghost use mathlib.Core.List.{map};

@@ -20,13 +20,13 @@ use lexical::number::number;
 use lexical::slice::compare;
 use lexical::slice::same;
 use lexical::slice::starts;
-use lexical::value::ValueAt;
-use lexical::value::put_value;
-use lexical::value::value_at;
-use lexical::write::put;
-use lexical::write::put_byte;
-use lexical::write::put_decimal;
-use lexical::write::put_whole;
+use values::value::ValueAt;
+use values::value::put_value;
+use values::value::value_at;
+use values::write::put;
+use values::write::put_byte;
+use values::write::put_decimal;
+use values::write::put_whole;
 
 fn class_of(b: u8) {
     let one = [b];
@@ -94,10 +94,14 @@ pub fn value(s: &[u8]) {
     show::buffer(&out, n);
 }
 
-fn writers(n: u32, z: i32) {
+fn decimal(n: u32) {
     let mut out = [b'.'; 12];
-    let a = put_decimal(&mut out, 0, n);
+    let a = put_decimal(&mut out, 0, n as usize);
     show::buffer(&out, a);
+}
+
+fn writers(z: i32) {
+    let mut out = [b'.'; 12];
     let b = put_whole(&mut out, 1, z);
     show::buffer(&out, b);
     let c = put_byte(&mut out, 11, b'!');
@@ -184,6 +188,8 @@ false,
 null
 ",
     );
-    writers(0, -2147483648);
-    writers(4294967295, 2147483647);
+    decimal(0);
+    writers(-2147483648);
+    decimal(4294967295);
+    writers(2147483647);
 }

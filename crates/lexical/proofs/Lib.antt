@@ -5,5 +5,3 @@ pub mod Between
 pub mod Slices
 pub mod Readers
 pub mod Decimals
-pub mod Writers
-pub mod Values

@@ -1,4 +1,3 @@
 pub mod Classes
 pub mod Orders
 pub mod Numbers
-pub mod Scalars

@@ -1,6 +1,4 @@
-// Bytes of lines and texts: classes, comparing, numbers, values, and writing into buffers.
+// Bytes of lines and texts: classes, comparing and numbers.
 pub mod class;
 pub mod number;
 pub mod slice;
-pub mod value;
-pub mod write;

@@ -26,10 +26,10 @@ use Rattle.model.proofs.TreeValid.{key-read}
 use Rattle.model.proofs.Valid.{validValue}
 use Rattle.lexical.specs.declared.class.End.{End}
 use Rattle.lexical.specs.declared.class.End.the-variants.{At, Bad}
-use Rattle.lexical.specs.declared.value.Scalar.{Scalar}
-use Rattle.lexical.specs.declared.value.ValueAt.{ValueAt}
-use Rattle.lexical.specs.declared.value.ValueAt.the-variants as value-at
-use Rattle.lexical.specs.Scalars.{valueIn, valueAnswer}
+use Rattle.values.specs.declared.value.Scalar.{Scalar}
+use Rattle.values.specs.declared.value.ValueAt.{ValueAt}
+use Rattle.values.specs.declared.value.ValueAt.the-variants as value-at
+use Rattle.values.specs.Scalars.{valueIn, valueAnswer}
 use Rattle.paths.specs.Layout.{nameIn, pathIn}
 use Rattle.paths.proofs.Counted.{length-counted}
 use Rattle.paths.proofs.Names.{push-whole}

@@ -2,8 +2,6 @@
 use lexical::class::Class;
 use lexical::class::End;
 use lexical::class::run;
-use lexical::value::ValueAt;
-use lexical::write::copy;
 use paths::field::push_key;
 use reader::grammar::RecordRead;
 use reader::grammar::read_summary;
@@ -13,6 +11,8 @@ use reader::tokens::member_at;
 use reader::tokens::token_at;
 use record::slot::store_value;
 use record::table::SLOTS;
+use values::value::ValueAt;
+use values::write::copy;
 ghost use mathlib.Core.Path.{_≡_};
 ghost use mathlib.Core.List.{[], _∷_, _++_};
 ghost use Prim.Native.Nat.{_+_, _≤_};

@@ -19,4 +19,5 @@ pub mod Growth
 pub mod TwoRuns
 pub mod Sound
 pub mod Notified
+pub mod Printing
 pub mod Theorems

@@ -2,7 +2,7 @@
 use Prim.Native.Nat.{ℕ, zero, suc, _+_, _≤_}
 use mathlib.Core.Path.{_≡_, refl, sym, ap, ap₂, _∙_}
 use mathlib.Core.Option.{some}
-use mathlib.Core.List.{List, [], _∷_, map}
+use mathlib.Core.List.{List, [], _∷_, map, map-map}
 use mathlib.Core.Bool.{Bool, true, false, _||_, and-false}
 use lib.Dec.{ltb, eqb}
 use lib.ListN.{length, getD, replicate}
@@ -10,18 +10,21 @@ use native.Mathlib.Omega.{arith}
 use native.Mathlib.Nat.{zero-add}
 use borrow.Author.Tests.{eqb-true, eq-eqb, le-ltb}
 use Rattle.model.specs.Base.{Bytes, keep, sum, range, _==_}
-use Rattle.model.specs.Limits.{maxFields, maxUsers, maxText}
+use Rattle.model.specs.Limits.{maxFields, maxUsers, maxText, maxCopy, listRoom}
 use Rattle.model.specs.Fields.{Keys, Field, Fields, orderPath, byOrder, valueAt, put, store}
 use Rattle.model.specs.RecordText.{Members, treeOf, count, storeMembers}
 use Rattle.model.specs.SavedText.{saved}
+use Rattle.model.specs.Refusals.{Result, refused, done}
+use Rattle.model.specs.Table.{Line, lines}
 use Rattle.model.specs.Tables.{User, Access, Rule, Tables, userAt}
 use Rattle.model.specs.Rights.{mayRead}
-use Rattle.model.specs.Opening.{LoginState, State, emptyLogin, emptyLogins, Texts, openTables}
+use Rattle.model.specs.Opening.{LoginState, State, emptyLogin, emptyLogins, Texts, Fault, opened, openTables}
 use Rattle.model.specs.Requests.{Request, login, get, push}
 use Rattle.model.specs.Serving.{loginAt, readable, readsBy, readsAt, Change, enters, shows, stores, apply, Act}
 use Rattle.model.specs.Runs.{end, only, seen, seenFields}
+use Rattle.model.specs.Program.{lineBytes, printRun, serveWith, serve}
 use Rattle.model.specs.Claims
-use Rattle.model.specs.Claims.{Reached, spelled, SameTables, TwoRuns, isSorted, begins, noneBegins, withRecord}
+use Rattle.model.specs.Claims.{Reached, spelled, SameTables, TwoRuns, isSorted, begins, noneBegins, withRecord, Lent}
 use Rattle.model.proofs.Lists.{by-cases, never, none-some, All, all-every, all-getD, all-replicate, all-keep, all-imp, all-range, any-range, false-any, elem-below, keep-agree, map-agree, length-keep-le}
 use Rattle.model.proofs.Order.{path-orders, by-three, after-before, Before, Sorted, behind-trans, value-less, value-same, value-more, value-behind}
 use Rattle.model.proofs.Valid.{Valid}
@@ -39,6 +42,7 @@ use Rattle.model.proofs.Changes.{push-changes}
 use Rattle.model.proofs.Growth.{fields-grow, counts-grow}
 use Rattle.model.proofs.TwoRuns.{view, same-view, replay, one-run}
 use Rattle.model.proofs.Notified.{told-ascends}
+use Rattle.model.proofs.Printing.{CopiesFit, line-alike, lines-alike}
 use Rattle.model.proofs.Sound.{Ran, ran-act, ran-opened}
 
 -- ── Login states at the opening, and tables at the end ──
@@ -278,13 +282,33 @@ readable-short rs u gs v h = short (keep (λ f. mayRead rs u (f .path)) gs) (all
     short [] v h = omega (arith, saved-length value-length [] v)
     short (g ∷ gs) v h = omega (arith, saved-length-some value-length g gs v)
 
-pub copy-bound : Claims.CopyBound
-copy-bound t s r i u e =
-    let q = ran t s r in
+copies-fit : (loaded : ℕ) (s : State) → Ran loaded s → CopiesFit s
+copies-fit loaded s q i u e =
     copy-length (s .tables) i u (readable (s .tables .policy) u (s .fields)) (q .sound .tables) e (readable-short (s .tables .policy) u (s .fields) (q .sound .valid) (few-fields _ s (q .running)))
+
+pub copy-bound : Claims.CopyBound
+copy-bound t s r i u e = copies-fit _ s (ran t s r) i u e
 
 pub list-ascends : Claims.ListAscends
 list-ascends t s r x b l = told-ascends _ s (ran t s r .running) x b l
+
+-- ── What `serve` prints ──
+pub line-prints-alike : Claims.LinePrintsAlike
+line-prints-alike t s r x b l room places = line-alike s (copies-fit _ s (ran t s r)) x b l room places
+
+pub prints-alike : Claims.PrintsAlike
+prints-alike t s xs h = lines-alike (Ran (length (s .fields))) (ran-act (length (s .fields))) (copies-fit (length (s .fields))) s xs (ran-opened t s h)
+
+pub serves-alike : Claims.ServesAlike
+unfolding serve serveWith printRun
+serves-alike b l room places t input = go (opened t) refl
+  where
+    lend : Line → Lent
+    lend x = record { content = lineBytes x; buffer = b; list = l; roomForCopy = room; roomForList = places }
+
+    go : (o : Result Fault State) → opened t ≡ o → printRun b l input o ≡ printRun (replicate maxCopy 0) (replicate listRoom 0) input o
+    go (refused f) h = refl
+    go (done s) h = rw (map-map, map-map) at (prints-alike t s (map lend (lines input)) h)
 
 -- ── Changes ──
 pub push-changes-one : Claims.PushChangesOne

@@ -5,8 +5,8 @@ use mathlib.Core.Option.{some}
 use mathlib.Core.List.{List, [], _∷_, map}
 use mathlib.Core.Bool.{Bool, true, false, not, _&&_, _||_}
 use lib.Dec.{ltb}
-use lib.ListN.{length, take}
-use Rattle.model.specs.Base.{Bytes, any, keep, sum, range, _==_}
+use lib.ListN.{length, take, replicate}
+use Rattle.model.specs.Base.{Bytes, any, keep, joined, sum, range, _==_}
 use Rattle.model.specs.Limits.{maxFields, maxCopy, maxLogins, listRoom}
 use Rattle.model.specs.Values.{Value, valueOf, valueText}
 use Rattle.model.specs.Fields.{Keys, Field, Fields, orderPath, byOrder, valueAt, holds, put, store}
@@ -18,7 +18,8 @@ use Rattle.model.specs.Tables.{User, Access, Rule, Tables, userAt}
 use Rattle.model.specs.Opening.{LoginState, State, emptyLogins, Texts, Fault, quotas, opened, afterOpening}
 use Rattle.model.specs.Requests.{Request, push, requestOf}
 use Rattle.model.specs.Serving.{indexIn, loginAt, copyOf, readable, creating, stores, decide, refusal, session, length-is, accepted, Act, line, save, outcome}
-use Rattle.model.specs.Runs.{events, end, only, seenFields, sequence, got, creates, createdBy}
+use Rattle.model.specs.Runs.{Event, events, end, only, seenFields, sequence, got, creates, createdBy}
+use Rattle.model.specs.Program.{printed, serveWith, serve}
 
 -- a state that a run from these texts reaches
 pub record Reached (t : Texts) (s : State) : Type 0 where
@@ -173,6 +174,44 @@ abbrev pub ListAscends : Type 0
 ListAscends =
     (t : Texts) (s : State) → Reached t s → (x b : Bytes) (l : List ℕ) →
     (ascends (take (outcome s (line x b l) .told) (outcome s (line x b l) .list)) ≡ true) × (outcome s (line x b l) .told ≤ listRoom)
+
+-- ── What `serve` prints ──
+-- an act as it happens in a state
+abbrev pub eventIn : State → Act → Event
+eventIn s a = record { before = s; act = a; result = outcome s a }
+
+-- a line with the zeros that `serve` lends
+abbrev pub withZeros : Bytes → Act
+withZeros x = line x (replicate maxCopy 0) (replicate listRoom 0)
+
+-- "the buffer and list lent are always long enough": then a line prints the same and leaves the same state, whatever they hold
+abbrev pub LinePrintsAlike : Type 0
+LinePrintsAlike =
+    (t : Texts) (s : State) → Reached t s → (x b : Bytes) (l : List ℕ) → maxCopy ≤ length b → listRoom ≤ length l →
+    (printed (eventIn s (line x b l)) ≡ printed (eventIn s (withZeros x))) × (outcome s (line x b l) .state ≡ outcome s (withZeros x) .state)
+
+-- a line with a buffer and a list of its own, of any content and long enough
+pub record Lent : Type 0 where
+  pub content : Bytes
+  pub buffer : Bytes
+  pub list : List ℕ
+  pub roomForCopy : maxCopy ≤ length buffer
+  pub roomForList : listRoom ≤ length list
+
+abbrev pub lent : Lent → Act
+lent x = line (x .content) (x .buffer) (x .list)
+
+-- the same of all lines of a run: what earlier answers left in a buffer or a list lent again is not printed
+abbrev pub PrintsAlike : Type 0
+PrintsAlike =
+    (t : Texts) (s : State) (xs : List Lent) → opened t ≡ done s →
+    joined (map printed (events s (map lent xs))) ≡ joined (map printed (events s (map (λ x. withZeros (x .content)) xs)))
+
+-- and of the program: that they are "always long enough" is all that matters of them
+abbrev pub ServesAlike : Type 0
+ServesAlike =
+    (b : Bytes) (l : List ℕ) → maxCopy ≤ length b → listRoom ≤ length l → (t : Texts) (input : Bytes) →
+    serveWith b l t input ≡ serve t input
 
 -- ── Condition 1: nothing else changes ──
 -- "A refused opening keeps the former state"

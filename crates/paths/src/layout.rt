@@ -1,5 +1,5 @@
 // Names in rows of 17 bytes, how many and the bytes; rows behind a byte that says how many there are.
-use lexical::write::put;
+use values::write::put;
 ghost use mathlib.Core.Path.{_≡_};
 ghost use mathlib.Core.List.{[], _∷_, _++_};
 ghost use Prim.Native.Nat.{_+_, _*_, _≤_, _<_, min};

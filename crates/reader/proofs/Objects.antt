@@ -11,10 +11,10 @@ use Rattle.model.specs.Values.{Value, readValue}
 use Rattle.model.specs.RecordText.{Node, Members, leaf, object, noMembers, member, skip, token, readKey, readLeaf, readMore, readMembers, asNode, readObject}
 use Rattle.model.proofs.Lists.{none-some}
 use Rattle.model.proofs.Reading.{after-cases}
-use Rattle.lexical.specs.declared.value.Scalar.{Scalar}
-use Rattle.lexical.specs.declared.value.ValueAt.{ValueAt}
-use Rattle.lexical.specs.declared.value.ValueAt.the-variants as value-at
-use Rattle.lexical.specs.Scalars.{valueIn, valueAnswer}
+use Rattle.values.specs.declared.value.Scalar.{Scalar}
+use Rattle.values.specs.declared.value.ValueAt.{ValueAt}
+use Rattle.values.specs.declared.value.ValueAt.the-variants as value-at
+use Rattle.values.specs.Scalars.{valueIn, valueAnswer}
 use Rattle.lexical.proofs.Runs.{bind-same, bind-bind}
 use Rattle.lexical.proofs.Readers.{rest-on, leaves-or, leaves-bind, leaves-some}
 use Rattle.reader.specs.Tokens.{readToken, readScalar, readMember, mapped}

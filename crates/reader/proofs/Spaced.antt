@@ -17,14 +17,14 @@ use Rattle.model.proofs.Reading.{bind-some, some-same, after-some, span-joins}
 use Rattle.lexical.specs.declared.class.Class.the-variants.{Name}
 use Rattle.lexical.specs.declared.class.End.{End}
 use Rattle.lexical.specs.declared.class.End.the-variants.{At, Bad}
-use Rattle.lexical.specs.declared.value.Scalar.{Scalar}
-use Rattle.lexical.specs.declared.value.ValueAt.{ValueAt}
-use Rattle.lexical.specs.declared.value.ValueAt.the-variants as value-at
+use Rattle.values.specs.declared.value.Scalar.{Scalar}
+use Rattle.values.specs.declared.value.ValueAt.{ValueAt}
+use Rattle.values.specs.declared.value.ValueAt.the-variants as value-at
 use Rattle.lexical.specs.Classes.{readBetween}
-use Rattle.lexical.specs.Scalars.{valueIn, valueAnswer}
+use Rattle.values.specs.Scalars.{valueIn, valueAnswer}
 use Rattle.lexical.proofs.Runs.{span-at, after-here, rest-of, bind-same, bind-bind, check-bind}
 use Rattle.lexical.proofs.Between.{Stands, Quoted, between-gives, between-leaves, quoted-between}
-use Rattle.lexical.proofs.Values.{told, value-leaves}
+use Rattle.values.proofs.Values.{told, value-leaves}
 use Rattle.lexical.proofs.Readers.{rest-on, leaves-bind, leaves-word, leaves-some}
 use Rattle.reader.specs.Tokens.{readToken, readScalar, readMember, endAnswer, keyAnswer, MemberInText}
 use Rattle.reader.specs.declared.tokens.KeyAt.{KeyAt}

@@ -7,7 +7,7 @@ use crate::tokens::token_at;
 use lexical::class::Class;
 use lexical::class::End;
 use lexical::class::run;
-use lexical::value::ValueAt;
+use values::value::ValueAt;
 ghost use mathlib.Core.Path.{_≡_};
 ghost use Prim.Native.Nat.{_*_, _≤_};
 ghost use lib.ListN.{length, take};

@@ -3,14 +3,14 @@ use lexical::class::Class;
 use lexical::class::End;
 use lexical::class::between;
 use lexical::class::run;
-use lexical::value::ValueAt;
-use lexical::value::value_at;
+use values::value::ValueAt;
+use values::value::value_at;
 ghost use mathlib.Core.Path.{_≡_};
 ghost use Prim.Native.Nat.{_≤_};
 ghost use lib.ListN.{length};
 ghost use Rattle.rows.specs.Positions.{placed};
 ghost use Rattle.model.specs.RecordText.{readKey};
-ghost use Rattle.lexical.specs.Scalars.{valueAnswer, AnswerInText};
+ghost use Rattle.values.specs.Scalars.{valueAnswer, AnswerInText};
 ghost use Rattle.reader.specs.Tokens.{readToken, readScalar, endAnswer, keyAnswer, readMember, KeyInText, MemberInText};
 
 // A key is a part of the text: where it begins and ends, and where the next token stands.

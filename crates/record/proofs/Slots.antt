@@ -18,11 +18,11 @@ use Rattle.model.specs.Limits.{maxDepth, maxFields}
 use Rattle.model.specs.Values.{Value, truth, readValue, valueText}
 use Rattle.model.proofs.Valid.{validValue}
 use Rattle.model.proofs.Spelling as spelling
-use Rattle.lexical.specs.declared.value.Scalar.{Scalar}
-use Rattle.lexical.specs.declared.value.ValueAt.{ValueAt}
-use Rattle.lexical.specs.declared.value.ValueAt.the-variants.{At, Bad}
-use Rattle.lexical.specs.Scalars as scalars
-use Rattle.lexical.proofs.Values.{value-reads, value-bad, value-inside}
+use Rattle.values.specs.declared.value.Scalar.{Scalar}
+use Rattle.values.specs.declared.value.ValueAt.{ValueAt}
+use Rattle.values.specs.declared.value.ValueAt.the-variants.{At, Bad}
+use Rattle.values.specs.Scalars as scalars
+use Rattle.values.proofs.Values.{value-reads, value-bad, value-inside}
 use Rattle.paths.specs.Layout.{nameIn, counted, pathIn}
 use Rattle.record.specs.Slots.{textIn, valueIn, heldValue, fieldIn, isEmpty, fieldsIn, fieldAt}
 

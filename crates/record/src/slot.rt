@@ -1,15 +1,15 @@
 // A slot of 138 bytes: a path (103 bytes), how long the value's text is (one byte), and room for the text (34 bytes).
 use crate::table::store;
-use lexical::value::Scalar;
-use lexical::value::ValueAt;
-use lexical::value::put_value;
-use lexical::value::value_at;
-use lexical::write::copy;
 use paths::layout::count;
+use values::value::Scalar;
+use values::value::ValueAt;
+use values::value::put_value;
+use values::value::value_at;
+use values::write::copy;
 ghost use mathlib.Core.Path.{_≡_};
 ghost use Prim.Native.Nat.{_≤_, min};
 ghost use lib.ListN.{length};
-ghost use Rattle.lexical.specs.Scalars as scalars;
+ghost use Rattle.values.specs.Scalars as scalars;
 ghost use Rattle.paths.specs.Layout.{pathIn};
 ghost use Rattle.record.specs.Slots.{textIn, valueIn, heldValue, fieldIn, isEmpty, fieldsIn};
 ghost use Rattle.record.specs.Search.{storedAt};

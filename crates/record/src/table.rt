@@ -1,7 +1,7 @@
 // A table of 256 slots of 138 bytes, sorted by path: the slots before the first empty one are in use.
 use lexical::slice::Order;
-use lexical::write::copy;
 use paths::field::compare_paths;
+use values::write::copy;
 ghost use mathlib.Core.Path.{_≡_};
 ghost use mathlib.Core.Bool.{false};
 ghost use mathlib.Core.List.{_++_};

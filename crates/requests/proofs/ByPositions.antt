@@ -15,12 +15,12 @@ use Rattle.model.specs.Values.{Value, readValue, valueOf}
 use Rattle.model.specs.Fields.{Keys}
 use Rattle.model.specs.Paths.{keysOf}
 use Rattle.model.specs.Requests.{Request, login, get, push, sessionOf, readLogin, readGet, readPush}
-use Rattle.lexical.specs.declared.value.Scalar.{Scalar}
-use Rattle.lexical.specs.declared.value.ValueAt.{ValueAt}
-use Rattle.lexical.specs.declared.value.ValueAt.the-variants.{At, Bad}
-use Rattle.lexical.specs.Scalars.{valueIn, valueAnswer}
+use Rattle.values.specs.declared.value.Scalar.{Scalar}
+use Rattle.values.specs.declared.value.ValueAt.{ValueAt}
+use Rattle.values.specs.declared.value.ValueAt.the-variants.{At, Bad}
+use Rattle.values.specs.Scalars.{valueIn, valueAnswer}
 use Rattle.lexical.proofs.Slices.{after-yes, after-no}
-use Rattle.lexical.proofs.Values.{value-bad, value-reads}
+use Rattle.values.proofs.Values.{value-bad, value-reads}
 use Rattle.paths.specs.declared.field.PathRead.{PathRead}
 use Rattle.paths.specs.Layout.{pathIn}
 use Rattle.paths.specs.Fields.{pathAnswer}

@@ -5,7 +5,7 @@ use lib.ListN.{length, take, drop}
 use Rattle.model.specs.Base.{Bytes}
 use Rattle.model.specs.Fields.{Keys}
 use Rattle.model.specs.Requests as model
-use Rattle.lexical.specs.Scalars.{valueIn, InText}
+use Rattle.values.specs.Scalars.{valueIn, InText}
 use Rattle.requests.specs.declared.Request.{Request}
 use Rattle.requests.specs.declared.Request.the-variants.{Login, Get, Push}
 use Rattle.requests.specs.declared.Parsed.{Parsed}

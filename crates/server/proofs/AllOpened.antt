@@ -17,11 +17,11 @@ use Rattle.model.proofs.Lists.{by-cases}
 use Rattle.rows.specs.Rows.{rows}
 use Rattle.tables.specs.Memory.{tablesIn}
 use Rattle.record.specs.Slots.{fieldsIn}
-use Rattle.server.specs.declared.answer.Opening.{Opening}
-use Rattle.server.specs.declared.answer.Opening.the-variants.{Done, Refused}
+use Rattle.opening.specs.declared.answer.Opening.{Opening}
+use Rattle.opening.specs.declared.answer.Opening.the-variants.{Done, Refused}
 use Rattle.sessions.specs.Logins.{loginIn, loginsIn}
 use Rattle.server.specs.Memory.{stateIn}
-use Rattle.server.specs.Answers.{textsOf, tooLong, openingResult, openingAnswer, KeptIfRefused}
+use Rattle.opening.specs.Answers.{textsOf, tooLong, openingResult, openingAnswer, KeptIfRefused}
 
 -- the state that opened tables and fields make
 abbrev pub fresh : Tables → Fields → State

@@ -1,6 +1,4 @@
--- Laws that the proofs cite: the quotas together, fields in conflict with a policy, a record that is opened, the tables that are, and the four texts.
-pub mod Quotas
-pub mod Conflicting
-pub mod Opened
-pub mod TablesOpened
+-- Laws that the proofs cite: the four texts opened, what a request leaves, and what a line and a push leave.
 pub mod AllOpened
+pub mod Replied
+pub mod Pushed

@@ -1,7 +1,10 @@
-// What the operations answer.
+// What a request and a save answer.
 
-// An opening: accepted, or a refusal's number, text and line.
-pub enum Opening {
-    Done,
-    Refused(usize, usize, usize),
+// A refusal's number; the number of the session that a login opened; how many first bytes of the buffer were written; that a push is
+// accepted, and for the caller alone how many numbers the list received.
+pub enum Reply {
+    Refused(usize),
+    Session(u32),
+    Length(usize),
+    Pushed(usize),
 }

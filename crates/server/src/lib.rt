@@ -1,4 +1,5 @@
 // The three operations of the server: open, request, save.
 pub mod answer;
-pub mod fields;
 pub mod open;
+pub mod request;
+pub mod save;

@@ -1,18 +1,11 @@
 // Opening the four texts: all or nothing.
-use crate::answer::Opening;
-use crate::fields::open_record;
-use tables::conflicts::first_conflict;
-use tabletext::read::Table;
-use tabletext::read::TableRead;
-use tabletext::read::read_table;
+use opening::answer::Opening;
+use opening::fields::open_record;
+use opening::texts::open_tables;
 ghost use mathlib.Core.Path.{_≡_};
-ghost use mathlib.Core.List.{[]};
-ghost use Prim.Native.Nat.{_≤_};
-ghost use lib.ListN.{length};
-ghost use Rattle.model.specs.Opening.{openTables, opened, afterOpening};
-ghost use Rattle.tables.specs.Memory.{tablesIn};
+ghost use Rattle.model.specs.Opening.{opened, afterOpening};
 ghost use Rattle.server.specs.Memory.{stateIn};
-ghost use Rattle.server.specs.Answers.{textsOf, tooLong, openingResult, openingAnswer, KeptIfRefused};
+ghost use Rattle.opening.specs.Answers.{textsOf, tooLong, openingAnswer, KeptIfRefused};
 
 // Users and their environment lines, and the policy.
 pub const TABLES: usize = 47200;
@@ -22,29 +15,6 @@ pub const LOGINS: usize = 96;
 
 // 256 slots of fields.
 pub const RECORD: usize = 35328;
-
-// The three tables' texts into memory.
-fn open_tables(tables: &mut [u8], users: &[u8], environments: &[u8], policy: &[u8]) -> Opening
-    requires { ⌜ (length (now tables) ≡ 47200) × (length (now users) ≤ 65536) × (length (now environments) ≤ 65536) × (length (now policy) ≤ 65536) ⌝ }
-    ensures { λ r. ⌜ openingResult r (tablesIn (now (tables .exit))) ≡ openTables (textsOf (now (users .entry)) (now (environments .entry)) (now (policy .entry)) []) ⌝ }
-{
-    tables[0] = 0;
-    tables[19104] = 0;
-    if let TableRead::Refused(e, n) = read_table(Table::Users, tables, users) {
-        return Opening::Refused(e, 1, n);
-    }
-    if let TableRead::Refused(e, n) = read_table(Table::Environments, tables, environments) {
-        return Opening::Refused(e, 2, n);
-    }
-    if let TableRead::Refused(e, n) = read_table(Table::Policy, tables, policy) {
-        return Opening::Refused(e, 3, n);
-    }
-    let n = first_conflict(&tables[19104..]);
-    if n != 0 {
-        return Opening::Refused(5, 3, n);
-    }
-    Opening::Done
-}
 
 // The number of the first text that is longer than 65,536 bytes; 0 where none is.
 fn too_long(users: &[u8], environments: &[u8], policy: &[u8], fields: &[u8]) -> usize

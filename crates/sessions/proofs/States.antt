@@ -29,7 +29,8 @@ use Rattle.tables.specs.declared.layout.UserAt.{UserAt}
 use Rattle.tables.specs.declared.layout.UserAt.the-variants.{At, Unknown}
 use Rattle.tables.proofs.Tabled.{length-decoded, counted-within}
 use Rattle.tables.proofs.Users.{user-none, user-some}
-use Rattle.sessions.specs.Logins.{loginIn, loginsIn, loginDecided, sessionIs, hasSession}
+use Rattle.sessions.specs.declared.LoginState as code
+use Rattle.sessions.specs.Logins.{loginIn, loginsIn, stateOf, entered, loginDecided, sessionIs, hasSession}
 
 -- ── A login state in its three numbers ──
 -- a flag is stored as 1 or 0
@@ -58,6 +59,22 @@ module _ (s : List ℕ) (i : ℕ) (below : i < 32) where
       let e : sets s (i * 3) row ≡ replaced (i * 3) 3 row s = sets-eq row s (i * 3) (omega arith) ∙ rw (append-assoc, drop-drop) in
       rw (add-one (i * 3), add-two (i * 3), e, rows-set 3 i 32 row s refl below (omega arith), map-set, flag b)
 
+-- ── One login more; the count ends at 65,535 ──
+abbrev pub capped : ℕ → ℕ
+capped n = min (suc n) maxLogins
+
+-- the code's login state with one login more and a session
+abbrev pub opened : code.LoginState → code.LoginState
+opened h = record { logins = capped (h .logins); is_open = true; created = h .created }
+
+-- the meaning of a login state determines it
+pub opened-from : (h w : code.LoginState) → stateOf w ≡ entered (stateOf h) → w ≡ opened h
+unfolding stateOf entered
+opened-from h w e = ap back e
+  where
+    back : LoginState → code.LoginState
+    back a = record { logins = a .logins; is_open = a .isOpen; created = a .created }
+
 -- ── The user that a search finds ──
 -- what is found stands at its index
 found-at : {A : Type 0} (p : A → Bool) (xs : List A) (k : ℕ) (t : ℕ × A) → firstFrom k p xs ≡ some t
@@ -69,10 +86,6 @@ found-at {A} p (x ∷ xs) k t e =
     (λ h. let q : _≡_ {A = ℕ × A} (k, x) t = let r = rw h at e in cc in
     (0, rw (← q, add-zero), rw (← q)))
     (λ h. let (j, is, at) = found-at p xs (suc k) t (rw h at e) in (suc j, omega arith, at))
-
--- one login more, with a session
-abbrev pub once-more : LoginState → LoginState
-once-more a = record { logins = min (suc (a .logins)) maxLogins; isOpen = true; created = a .created }
 
 -- a user of the name n was found at i
 module _ (s n : Bytes) {o : UserAt} {i : ℕ} (at : o ≡ At i) (found : o ≡ userAnswer (userNamed n (usersIn s))) where
@@ -114,8 +127,8 @@ module _ (s n : Bytes) {o : UserAt} {i : ℕ} (at : o ≡ At i) (found : o ≡ u
   module _ (ls : List LoginState) (k : Bytes) {key : Bytes} {r : Bool} (is : key ≡ nameIn (take 17 (drop (i * 597 + 34) s))) (same : r ≡ (key == k)) where
     -- the comparison stands for the key's
     login-is : loginDecided (usersIn s) ls n k
-        ≡ ((refuse 12 if not r) >> ((refuse 13 if getD ls i emptyLogin .isOpen) >> done (enters i (once-more (getD ls i emptyLogin)))))
-    unfolding loginDecided decideLogin userIn _>>=_ _or_ _>>_ refuse_if_
+        ≡ ((refuse 12 if not r) >> ((refuse 13 if getD ls i emptyLogin .isOpen) >> done (enters i (entered (getD ls i emptyLogin)))))
+    unfolding loginDecided decideLogin entered userIn _>>=_ _or_ _>>_ refuse_if_
     login-is = rw (found-row, part-part (i * 597) 597 s 34 17 (omega arith), ← is, ← same)
 
     -- the key is another; the user's login state is a, with a session or without
@@ -128,8 +141,8 @@ module _ (s n : Bytes) {o : UserAt} {i : ℕ} (at : o ≡ At i) (found : o ≡ u
       unfolding _>>_ refuse_if_
       has-session h = login-is ∙ rw (right, ← state, h)
 
-      pub login-enters : a .isOpen ≡ false → {b : LoginState} → b ≡ once-more a → loginDecided (usersIn s) ls n k ≡ done (enters i b)
-      unfolding _>>_ refuse_if_
+      pub login-enters : a .isOpen ≡ false → {b : LoginState} → b ≡ entered a → loginDecided (usersIn s) ls n k ≡ done (enters i b)
+      unfolding entered _>>_ refuse_if_
       login-enters h e = login-is ∙ rw (right, ← state, h, e)
 
 -- nobody has the name

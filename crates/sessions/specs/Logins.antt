@@ -1,5 +1,6 @@
 -- What the numbers of the login states mean, whatever they are.
-use Prim.Native.Nat.{ℕ}
+use Prim.Native.Nat.{ℕ, suc, min}
+use mathlib.Core.Path.{_≡_}
 use mathlib.Core.Bool.{Bool, true, false, not}
 use mathlib.Core.List.{List, map}
 use mathlib.Core.Option.{Option, none, some}
@@ -7,7 +8,7 @@ use lib.Dec.{eqb}
 use lib.ListN.{getD, set}
 use Rattle.rows.specs.Rows.{rows}
 use Rattle.model.specs.Base.{Bytes}
-use Rattle.model.specs.Limits.{maxUsers}
+use Rattle.model.specs.Limits.{maxUsers, maxLogins}
 use Rattle.model.specs.Refusals.{Result, refused, done, _>>=_, _or_}
 use Rattle.model.specs.Tables.{User, userAt, userNamed}
 use Rattle.model.specs.Opening.{LoginState, emptyLogin}
@@ -30,6 +31,10 @@ unfoldable pub stateOf : code.LoginState → LoginState
 stateOf s = record { logins = s .logins; isOpen = s .is_open; created = s .created }
 
 -- ── A login ──
+-- one login more, and a session is open
+unfoldable pub entered : LoginState → LoginState
+entered a = record { logins = min (suc (a .logins)) maxLogins; isOpen = true; created = a .created }
+
 unfoldable pub loginDecided : List User → List LoginState → Bytes → Bytes → Result ℕ Change
 loginDecided us ls n k = do
   (i, u) ← userNamed n us or 12
@@ -48,6 +53,11 @@ loginsAfter ls (refused e) = ls
 loginsAfter ls (done (enters i a)) = set ls i a
 loginsAfter ls (done (shows c)) = ls
 loginsAfter ls (done (stores i a f)) = ls
+
+-- a refusal keeps every number
+abbrev pub LoginKept : LoginReply → List ℕ → List ℕ → Type 0
+LoginKept (login.Session n) before now = Unit {0}
+LoginKept (login.Refused e) before now = now ≡ before
 
 -- ── A session's number ──
 unfoldable pub sessionIs : Option User → ℕ → LoginState → ℕ → Bool

@@ -7,14 +7,13 @@ use tables::layout::UserAt;
 use tables::layout::find_user;
 use tables::layout::row_count;
 ghost use mathlib.Core.Path.{_≡_};
-ghost use mathlib.Core.Bool.{true};
 ghost use Prim.Native.Nat.{suc, min, _≤_, _<_};
 ghost use lib.ListN.{length, getD, set};
 ghost use Rattle.model.specs.Limits.{maxLogins};
 ghost use Rattle.model.specs.Opening.{emptyLogin};
 ghost use Rattle.model.specs.Serving.{sessionNumber};
 ghost use Rattle.tables.specs.Memory.{usersIn};
-ghost use Rattle.sessions.specs.Logins.{loginsIn, stateOf, loginDecided, loginAnswer, loginsAfter, hasSession, sessionAnswer};
+ghost use Rattle.sessions.specs.Logins.{loginsIn, stateOf, entered, loginDecided, loginAnswer, loginsAfter, LoginKept, hasSession, sessionAnswer};
 
 pub struct LoginState {
     pub logins: u16,
@@ -24,7 +23,7 @@ pub struct LoginState {
 
 // A login: the session's number, or a refusal's.
 pub enum LoginReply {
-    Session(usize),
+    Session(u32),
     Refused(usize),
 }
 
@@ -59,26 +58,38 @@ pub fn put_state(logins: &mut [u16], i: usize, state: LoginState)
 }
 
 // The session number of a login state at an index.
-pub fn number(i: usize, state: LoginState) -> usize
+pub fn number(i: usize, state: LoginState) -> u32
     requires { ⌜ i < 32 ⌝ }
     ensures { λ r. ⌜ r ≡ sessionNumber i (stateOf state) ⌝ }
 {
-    65536 * i + (state.logins as usize)
+    65536 * (i as u32) + (state.logins as u32)
 }
 
-// One login more, up to 65,535, and a session is open.
-fn entered(state: LoginState) -> LoginState
-    ensures { λ r. ⌜ stateOf r ≡ record { logins = min (suc (stateOf state .logins)) maxLogins; isOpen = true; created = stateOf state .created } ⌝ }
+// One login more; the count ends at 65,535.
+fn one_more(logins: u16) -> u16
+    ensures { λ r. ⌜ r ≡ min (suc logins) maxLogins ⌝ }
 {
-    let mut logins = state.logins;
     if logins < 65535 {
-        logins += 1;
+        return logins + 1;
     }
-    LoginState {
-        logins: logins,
-        is_open: true,
-        created: state.created,
-    }
+    logins
+}
+
+// A login: the count goes up, and a session is open.
+fn enter(state: &mut LoginState)
+    ensures { λ _. ⌜ stateOf (now (state .exit)) ≡ entered (stateOf (now (state .entry))) ⌝ }
+{
+    state.logins = one_more(state.logins);
+    state.is_open = true;
+}
+
+// The same for a caller that has the login state by value.
+fn entered(state: LoginState) -> LoginState
+    ensures { λ r. ⌜ stateOf r ≡ entered (stateOf state) ⌝ }
+{
+    let mut next = state;
+    enter(&mut next);
+    next
 }
 
 // LOGIN: 12 user unknown or key wrong; 13 the user has a session.
@@ -86,12 +97,13 @@ pub fn login(users: &[u8], logins: &mut [u16], name: &[u8], key: &[u8]) -> Login
     requires { ⌜ (19104 ≤ length (now users)) × (length (now users) ≤ 65536) × (length (now logins) ≡ 96) ⌝ }
     ensures { λ r. ⌜ r ≡ loginAnswer (loginDecided (usersIn (now (users .entry))) (loginsIn (now (logins .entry))) (now (name .entry)) (now (key .entry))) ⌝ }
     ensures { λ r. ⌜ loginsIn (now (logins .exit)) ≡ loginsAfter (loginsIn (now (logins .entry))) (loginDecided (usersIn (now (users .entry))) (loginsIn (now (logins .entry))) (now (name .entry)) (now (key .entry))) ⌝ }
+    ensures { λ r. ⌜ LoginKept r (now (logins .entry)) (now (logins .exit)) ⌝ }
 {
     let UserAt::At(i) = find_user(users, name) else {
         return LoginReply::Refused(12);
     };
     if !same(name_from(users, i * USER + 34), key) {
-        return LoginReply::Refused(12);
+        return LoginReply::Refused(12); // as for an unknown user
     }
     let state = state_at(logins, i);
     if state.is_open {
@@ -103,11 +115,11 @@ pub fn login(users: &[u8], logins: &mut [u16], name: &[u8], key: &[u8]) -> Login
 }
 
 // The user whose open session has the number n.
-pub fn session(users: &[u8], logins: &[u16], n: usize) -> SessionAt
+pub fn session(users: &[u8], logins: &[u16], n: u32) -> SessionAt
     requires { ⌜ (19104 ≤ length (now users)) × (length (now users) ≤ 65536) × (length (now logins) ≡ 96) ⌝ }
     ensures { λ r. ⌜ r ≡ sessionAnswer (hasSession (usersIn (now (users .entry))) (loginsIn (now (logins .entry))) n) n ⌝ }
 {
-    let i = n / 65536;
+    let i = (n / 65536) as usize;
     if row_count(users, USER, USERS) <= i {
         return SessionAt::Unknown;
     }

@@ -1,5 +1,3 @@
-// A policy's paths in slots of bytes: read, spelled, matched with fields' paths, and in conflict or not.
-pub mod conflict;
-pub mod matching;
+// A policy's paths in slots of bytes: read and spelled.
 pub mod policy;
 pub mod step;

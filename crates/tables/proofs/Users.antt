@@ -6,9 +6,10 @@ use mathlib.Core.Option.{none, some}
 use mathlib.Core.List.{List, [], _∷_}
 use native.Mathlib.Numerals.{add-one}
 use native.Mathlib.Omega.{arith}
-use lib.ListN.{length, getElem?, take, drop}
+use lib.ListN.{length, getD, getElem?, take, drop}
 use lib.Seq.{take-take}
 use Rattle.rows.specs.Rows.{rows, upTo}
+use Rattle.rows.proofs.Parts.{part-at}
 use Rattle.model.specs.Base.{Bytes, if_then_else_, firstFrom, _==_}
 use Rattle.model.specs.Limits.{maxUsers}
 use Rattle.model.specs.Tables.{User, userAt}
@@ -52,3 +53,12 @@ module _ (s : Bytes) {m : ℕ} (counted : m ≡ length (upTo isEmptyRow (rows 59
         ≡ (if r then some (i, userIn (take 597 (drop (i * 597) s))) else firstFrom (i + 1) (λ (u : User). u .name == n) (drop (i + 1) (usersIn s)))
     unfolding firstFrom userIn
     named-left n e t = rw (user-left refl, take-take 17 597 (drop (i * 597) s) (omega arith), ← e, ← t, add-one)
+
+-- two bytes say at most 65,535
+pub quota-small : (s : Bytes) (i : ℕ) {row : Bytes} {q : ℕ} → row ≡ take 597 (drop (i * 597) s) → q ≡ userIn row .quota
+    → getD s (i * 597 + 51) 0 < 256 → getD s (i * 597 + 52) 0 < 256 → q ≤ 65535
+unfolding userIn
+quota-small s i {row} is t low high =
+    let low-is : getD row 51 0 ≡ getD s (i * 597 + 51) 0 = rw is (part-at (i * 597) 597 s 0 51 (omega arith)) in
+    let high-is : getD row 52 0 ≡ getD s (i * 597 + 52) 0 = rw is (part-at (i * 597) 597 s 0 52 (omega arith)) in
+    omega arith

@@ -4,7 +4,7 @@ use crate::layout::RULES;
 use crate::layout::is_write;
 use crate::layout::row_at;
 use crate::layout::row_count;
-use steps::conflict::conflict;
+use matching::conflict::conflict;
 ghost use mathlib.Core.Path.{_≡_};
 ghost use mathlib.Core.List.{[]};
 ghost use Prim.Native.Nat.{_≤_};

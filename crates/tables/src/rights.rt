@@ -8,7 +8,7 @@ use crate::layout::is_for;
 use crate::layout::is_write;
 use crate::layout::row_at;
 use crate::layout::row_count;
-use steps::matching::matches;
+use matching::path::matches;
 ghost use mathlib.Core.Path.{_≡_};
 ghost use Prim.Native.Nat.{_≤_};
 ghost use lib.ListN.{length};

@@ -2,15 +2,15 @@
 use crate::turn::put_braces;
 use crate::turn::put_descent;
 use crate::turn::put_turn;
-use lexical::value::put_value;
-use lexical::write::put;
-use lexical::write::put_byte;
 use paths::layout::count;
 use record::slot::value_of;
 use record::slot::value_text;
 use record::table::SLOTS;
 use record::table::is_empty;
 use record::table::slot_at;
+use values::value::put_value;
+use values::write::put;
+use values::write::put_byte;
 ghost use mathlib.Core.Path.{_≡_};
 ghost use Prim.Native.Nat.{_+_, _≤_, _<_, _^_};
 ghost use lib.ListN.{length, drop};

@@ -1,9 +1,9 @@
 // From one field to the next: objects closed, a comma, objects opened.
 use lexical::slice::same;
-use lexical::write::put;
-use lexical::write::put_byte;
 use paths::layout::count;
 use paths::layout::name_at;
+use values::write::put;
+use values::write::put_byte;
 ghost use mathlib.Core.Path.{_≡_};
 ghost use Prim.Native.Nat.{_+_, _≤_, _<_, _^_};
 ghost use lib.ListN.{length, drop, replicate};

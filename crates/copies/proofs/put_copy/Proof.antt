@@ -1,7 +1,7 @@
 -- The parts of the copy are written one behind the other.
 use borrow.Author.Needs.{needs}
 use Rattle.model.specs.Base.{text}
-use Rattle.lexical.proofs.Writers.{wrote-both}
+use Rattle.values.proofs.Writers.{wrote-both}
 use Rattle.copies.proofs.Lines.{copy-text}
 use Rattle.copies.proofs.put_copy.Statement.{statement}
 use Rattle.copies.proofs.put_copy.Tie as tie

@@ -9,7 +9,7 @@ use borrow.Author.Needs.{needs}
 use Rattle.rows.specs.Rows.{Wrote}
 use Rattle.rows.proofs.Parts.{tail-part}
 use Rattle.model.specs.Base.{text}
-use Rattle.lexical.proofs.Writers.{wrote-both}
+use Rattle.values.proofs.Writers.{wrote-both}
 use Rattle.paths.proofs.Spelled.{name-length}
 use Rattle.tables.specs.Memory.{userIn, ruleIn}
 use Rattle.copies.proofs.Lines.{accessPart, rule-line, access-part}

@@ -9,7 +9,7 @@ use lib.ListN.{length, take, drop}
 use Rattle.rows.specs.Positions.{Reads, placed}
 use Rattle.model.specs.Base.{Bytes}
 use Rattle.model.specs.RecordText.{Node, Members, noMembers, member}
-use Rattle.lexical.proofs.Values.{told, value-inside}
+use Rattle.values.proofs.Values.{told, value-inside}
 use Rattle.paths.specs.Layout.{pathIn}
 use Rattle.record.specs.Slots.{fieldsIn}
 use Rattle.reader.specs.Tokens.{readToken, mapped}

@@ -1,7 +1,7 @@
 -- A table is written only where the text is a record without a key twice and with at most 256 fields; what `load_top` puts there is all of them.
 use mathlib.Core.Path.{refl, sym}
 use Rattle.rows.proofs.Positions.{run-within}
-use Rattle.lexical.proofs.Values.{told}
+use Rattle.values.proofs.Values.{told}
 use Rattle.reader.specs.Summaries.{readAnswer}
 use Rattle.loader.proofs.Loading.{refused-fields, many-fields, few-fields}
 use borrow.Author.Needs.{needs}

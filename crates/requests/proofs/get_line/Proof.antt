@@ -10,7 +10,7 @@ use Rattle.model.specs.Requests.{readGet}
 use Rattle.lexical.specs.Numbers.{numberAnswer}
 use Rattle.lexical.proofs.Slices.{after-yes}
 use Rattle.lexical.proofs.Decimals.{number-some}
-use Rattle.lexical.proofs.Values.{told}
+use Rattle.values.proofs.Values.{told}
 use Rattle.requests.proofs.ByPositions.{other-word, get-session}
 use Rattle.requests.proofs.get_line.Statement.{statement}
 use Rattle.requests.proofs.get_line.Tie as tie

@@ -5,7 +5,7 @@ use mathlib.Core.List.{[]}
 use borrow.Author.Needs.{needs}
 use lib.ListN.{length}
 use Rattle.model.specs.Limits.{maxLine}
-use Rattle.lexical.proofs.Values.{told}
+use Rattle.values.proofs.Values.{told}
 use Rattle.requests.specs.Lines.{parsedAnswer}
 use Rattle.requests.proofs.FirstOf.{is-some, too-long, asks-login, asks-get, asks-push}
 use Rattle.requests.proofs.parse.Statement.{statement}

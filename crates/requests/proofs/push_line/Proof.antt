@@ -15,7 +15,7 @@ use Rattle.paths.specs.Layout.{pathIn}
 use Rattle.lexical.specs.Numbers.{numberAnswer}
 use Rattle.lexical.proofs.Slices.{after-yes}
 use Rattle.lexical.proofs.Decimals.{number-some}
-use Rattle.lexical.proofs.Values.{told, value-inside}
+use Rattle.values.proofs.Values.{told, value-inside}
 use Rattle.requests.proofs.ByPositions.{other-word, pushOf, PathEnds, session-last, session-ends, path-last, path-ends}
 use Rattle.requests.proofs.ByPositions.{path-told, whole-bad, whole-more, whole-is, copy-whole}
 use Rattle.requests.proofs.push_line.Statement.{statement}

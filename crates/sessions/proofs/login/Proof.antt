@@ -19,7 +19,7 @@ enum-told : tie.Need-enum-told
 enum-told c = search needs
 
 returns : tie.Need-returns
-returns c = rw (login-unknown _ _ (c .enum-told .given .1) (c .before .before .find-user .ensures) _ _) (refl, refl)
+returns c = rw (login-unknown _ _ (c .enum-told .given .1) (c .before .before .find-user .ensures) _ _) (refl, (refl, refl))
 
 mul-name-from : tie.Need-mul-name-from
 mul-name-from c = omega (arith, found-below _ _ (c .before .i .given .1) (c .before .before .before .find-user .ensures))
@@ -35,12 +35,17 @@ same-requires c κs = search needs
 
 returns-2 : tie.Need-returns-2
 returns-2 c =
-    let k = c .before .before .before .before .before .before in
-    let at = c .before .before .before .before .i .given .1 in
-    rw (wrong-key _ _ at (k .find-user .ensures) (loginsIn (k .before .before .before .before .before .args .logins .now)) _ (c .before .before .name-from .ensures) (c .before .same .ensures) (not-true _ (c .if1 .taken))) (refl, refl)
+    let j = c .before .before .before .before in
+    let k = j .before .before in
+    let ls = loginsIn (k .before .before .before .before .before .args .logins .now) in
+    let name = c .before .before .name-from .ensures in
+    rw (wrong-key _ _ (j .i .given .1) (k .find-user .ensures) ls _ name (c .before .same .ensures) (not-true _ (c .if1 .taken)))
+    (refl, (refl, refl))
 
 state-at-requires : tie.Need-state-at-requires
-state-at-requires c κs = (search needs, found-below _ _ (c .before .before .before .before .before .i .given .1) (c .before .before .before .before .before .before .before .find-user .ensures))
+state-at-requires c κs =
+    let j = c .before .before .before .before .before in
+    (search needs, found-below _ _ (j .i .given .1) (j .before .before .find-user .ensures))
 
 same-length : tie.Need-same-length
 same-length c = search needs
@@ -48,19 +53,27 @@ same-length c = search needs
 returns-3 : tie.Need-returns-3
 unfolding stateOf
 returns-3 c =
-    let k = c .before .before .before .before .before .before .before .before .before in
-    let at = c .before .before .before .before .before .before .before .i .given .1 in
-    let right = not-false _ (c .before .before .before .if1 .left) in
-    rw (has-session _ _ at (k .find-user .ensures) (loginsIn (k .before .before .before .before .before .args .logins .now)) _ (c .before .before .before .before .before .name-from .ensures) (c .before .before .before .before .same .ensures) right (c .before .state-at .ensures) (c .if2 .taken)) (refl, refl)
+    let i = c .before .before .before in
+    let j = i .before .before .before .before in
+    let k = j .before .before in
+    let ls = loginsIn (k .before .before .before .before .before .args .logins .now) in
+    let name = i .before .before .name-from .ensures in
+    let right = not-false _ (i .if1 .left) in
+    rw (has-session _ _ (j .i .given .1) (k .find-user .ensures) ls _ name (i .before .same .ensures) right (c .before .state-at .ensures) (c .if2 .taken))
+    (refl, (refl, refl))
 
 entered-requires : tie.Need-entered-requires
 entered-requires c κs = search needs
 
 put-state-requires : tie.Need-put-state-requires
-put-state-requires c κs = (search needs, found-below _ _ (c .before .before .before .before .before .before .before .before .before .i .given .1) (c .before .before .before .before .before .before .before .before .before .before .before .find-user .ensures))
+put-state-requires c κs =
+    let j = c .before .before .before .before .before .before .before .before .before in
+    (search needs, found-below _ _ (j .i .given .1) (j .before .before .find-user .ensures))
 
 number-requires : tie.Need-number-requires
-number-requires c κs = found-below _ _ (c .before .before .before .before .before .before .before .before .before .before .before .before .i .given .1) (c .before .before .before .before .before .before .before .before .before .before .before .before .before .before .find-user .ensures)
+number-requires c κs =
+    let j = c .before .before .before .before .before .before .before .before .before .before .before .before in
+    found-below _ _ (j .i .given .1) (j .before .before .find-user .ensures)
 
 same-length-2 : tie.Need-same-length-2
 same-length-2 c = search needs
@@ -68,10 +81,17 @@ same-length-2 c = search needs
 returns-4 : tie.Need-returns-4
 unfolding stateOf
 returns-4 c =
-    let k = c .before .before .before .before .before .before .before .before .before .before .before .before .before .before .before in
-    let at = c .before .before .before .before .before .before .before .before .before .before .before .before .before .i .given .1 in
-    let right = not-false _ (c .before .before .before .before .before .before .before .before .before .if1 .left) in
-    rw (login-enters _ _ at (k .find-user .ensures) (loginsIn (k .before .before .before .before .before .args .logins .now)) _ (c .before .before .before .before .before .before .before .before .before .before .before .name-from .ensures) (c .before .before .before .before .before .before .before .before .before .before .same .ensures) right (c .before .before .before .before .before .before .before .state-at .ensures) (c .before .before .before .before .before .before .if2 .left) (c .before .before .before .before .before .entered .ensures)) (ap Session (c .number .ensures), c .before .before .before .put-state .ensures)
+    let h = c .before .before .before .before .before .before in
+    let i = h .before .before .before in
+    let j = i .before .before .before .before in
+    let k = j .before .before in
+    let ls = loginsIn (k .before .before .before .before .before .args .logins .now) in
+    let name = i .before .before .name-from .ensures in
+    let right = not-false _ (i .if1 .left) in
+    let state = h .before .state-at .ensures in
+    let enters = c .before .before .before .before .before .entered .ensures in
+    rw (login-enters _ _ (j .i .given .1) (k .find-user .ensures) ls _ name (i .before .same .ensures) right state (h .if2 .left) enters)
+    (ap Session (c .number .ensures), (c .before .before .before .put-state .ensures, tt))
 
 pub login-spec : {M : Type 1} → statement M
 login-spec =

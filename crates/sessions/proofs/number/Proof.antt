@@ -1,15 +1,18 @@
--- 65,536 times the index, plus the logins: at most 65,535, so that nothing wraps.
+-- 65,536 times an index below 32, plus at most 65,535 logins: nothing wraps at 32 bits, and both casts keep their number.
 use borrow.Author.Needs.{needs}
 use Rattle.model.specs.Serving.{sessionNumber}
 use Rattle.sessions.specs.Logins.{stateOf}
 use Rattle.sessions.proofs.number.Statement.{statement}
 use Rattle.sessions.proofs.number.Tie as tie
 
+cast-result : tie.Need-cast-result
+cast-result c = search needs
+
 mul-result : tie.Need-mul-result
 mul-result c = search needs
 
-cast-result : tie.Need-cast-result
-cast-result c = search needs
+cast-result-2 : tie.Need-cast-result-2
+cast-result-2 c = search needs
 
 add-result : tie.Need-add-result
 add-result c = search needs
@@ -19,4 +22,4 @@ unfolding sessionNumber stateOf
 returns c = search needs
 
 pub number-spec : {M : Type 1} → statement M
-number-spec = tie.close (tie.spec mul-result cast-result add-result returns)
+number-spec = tie.close (tie.spec cast-result mul-result cast-result-2 add-result returns)

@@ -7,6 +7,9 @@ use Rattle.sessions.proofs.States.{session-user, session-none, session-
 use Rattle.sessions.proofs.session.Statement.{statement}
 use Rattle.sessions.proofs.session.Tie as tie
 
+cast-i : tie.Need-cast-i
+cast-i c = search needs
+
 row-count-requires : tie.Need-row-count-requires
 row-count-requires c κs = search needs
 
@@ -25,9 +28,11 @@ state-at-requires c κs =
 returns-2 : tie.Need-returns-2
 unfolding stateOf
 returns-2 c =
-    let k = c .before .before .before .before in
+    let j = c .before .before .before in
+    let k = j .before in
     let a = k .before .before .before .args in
-    rw (session-closed _ (loginsIn (a .logins .now)) (a .n) (k .row-count .ensures) (c .before .before .before .if1 .left) (c .before .before .state-at .ensures) (not-true _ (c .if2 .taken)))
+    let state = c .before .before .state-at .ensures in
+    rw (session-closed _ (loginsIn (a .logins .now)) (a .n) (k .row-count .ensures) (j .if1 .left) state (not-true _ (c .if2 .taken)))
 
 number-requires : tie.Need-number-requires
 number-requires c κs =
@@ -38,21 +43,30 @@ number-requires c κs =
 returns-3 : tie.Need-returns-3
 unfolding stateOf
 returns-3 c =
-    let k = c .before .before .before .before .before .before in
+    let i = c .before .before in
+    let j = i .before .before .before in
+    let k = j .before in
     let a = k .before .before .before .args in
-    rw (session-other _ (loginsIn (a .logins .now)) (a .n) (k .row-count .ensures) (c .before .before .before .before .before .if1 .left) (c .before .before .before .before .state-at .ensures) (not-false _ (c .before .before .if2 .left)) (c .before .number .ensures) (c .if3 .taken))
+    let state = i .before .before .state-at .ensures in
+    let is-open = not-false _ (i .if2 .left) in
+    rw (session-other _ (loginsIn (a .logins .now)) (a .n) (k .row-count .ensures) (j .if1 .left) state is-open (c .before .number .ensures) (c .if3 .taken))
 
 returns-4 : tie.Need-returns-4
 unfolding stateOf indexIn
 returns-4 c =
-    let k = c .before .before .before .before .before .before in
+    let i = c .before .before in
+    let j = i .before .before .before in
+    let k = j .before in
     let a = k .before .before .before .args in
-    rw (session-open _ (loginsIn (a .logins .now)) (a .n) (k .row-count .ensures) (c .before .before .before .before .before .if1 .left) (c .before .before .before .before .state-at .ensures) (not-false _ (c .before .before .if2 .left)) (c .before .number .ensures) (c .if3 .left))
+    let state = i .before .before .state-at .ensures in
+    let is-open = not-false _ (i .if2 .left) in
+    rw (session-open _ (loginsIn (a .logins .now)) (a .n) (k .row-count .ensures) (j .if1 .left) state is-open (c .before .number .ensures) (c .if3 .left))
 
 pub session-spec : {M : Type 1} → statement M
 session-spec =
     tie.close
     (tie.spec
+    cast-i
     row-count-requires
     returns
     state-at-requires

@@ -1,5 +1,5 @@
 -- A value that was read lies in the text that it was read from, so it can be written.
-use Rattle.lexical.proofs.Values.{value-inside}
+use Rattle.values.proofs.Values.{value-inside}
 use native.Mathlib.Omega.{arith}
 use borrow.Author.Needs.{needs}
 use Rattle.leaves.proofs.scalars.value.Statement.{statement}

@@ -8,7 +8,7 @@ use Rattle.rows.specs.Rows.{Wrote}
 use Rattle.model.specs.Base.{text, joined, between}
 use Rattle.model.specs.Paths.{nameText, stepText}
 use Rattle.model.proofs.Spelling.{keyText, keys-text}
-use Rattle.lexical.proofs.Writers.{wrote-both}
+use Rattle.values.proofs.Writers.{wrote-both}
 use Rattle.paths.specs.Layout.{nameIn, pathIn}
 use Rattle.paths.proofs.Spelled.{spelled, wrote-none, spelled-step, spelled-all, name-length}
 use Rattle.paths.proofs.field.put_path.Statement.{statement}

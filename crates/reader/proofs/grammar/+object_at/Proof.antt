@@ -9,7 +9,7 @@ use lib.ListN.{length, take, drop, set}
 use Rattle.rows.specs.Positions.{Reads, placed}
 use Rattle.model.specs.Base.{Bytes}
 use Rattle.model.specs.RecordText.{Node, Members, member, count, twice}
-use Rattle.lexical.proofs.Values.{told}
+use Rattle.values.proofs.Values.{told}
 use Rattle.reader.specs.Tokens.{readToken, mapped}
 use Rattle.reader.specs.Summaries.{summary, objectAnswer, FieldsWithin}
 use Rattle.reader.proofs.Spaced.{token-leaves, token-moves, end-bad, end-reads, key-bad, MemberStands, member-stands}

@@ -3,7 +3,7 @@ use Rattle.rows.specs.Positions.{Reads}
 use Rattle.rows.proofs.Positions.{run-within}
 use Rattle.model.specs.RecordText.{Members}
 use mathlib.Core.Path.{_≡_}
-use Rattle.lexical.proofs.Values.{told}
+use Rattle.values.proofs.Values.{told}
 use Rattle.reader.specs.Tokens.{readTop}
 use Rattle.reader.specs.Summaries.{summary, objectAnswer}
 use Rattle.reader.proofs.Mapped.{mapped-bad, mapped-reads}

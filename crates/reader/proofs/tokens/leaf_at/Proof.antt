@@ -1,5 +1,5 @@
 -- What `value_at` answers is the value, and the run of the blanks behind it is where the next token stands.
-use Rattle.lexical.proofs.Values.{value-bad, value-reads, value-inside}
+use Rattle.values.proofs.Values.{value-bad, value-reads, value-inside}
 use Rattle.reader.proofs.Spaced.{scalar-spaced, spaced-none, spaced-reads}
 use borrow.Author.Needs.{needs}
 use Rattle.reader.proofs.tokens.leaf_at.Statement.{statement}

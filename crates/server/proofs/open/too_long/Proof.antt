@@ -3,7 +3,7 @@ use native.Mathlib.Omega.{arith}
 use lib.ListN.{length}
 use borrow.Author.Tests.{lt-ltb, le-ltb}
 use Rattle.model.specs.Limits.{maxText}
-use Rattle.server.specs.Answers.{textsOf, tooLong}
+use Rattle.opening.specs.Answers.{textsOf, tooLong}
 use Rattle.server.proofs.open.too_long.Statement.{statement}
 use Rattle.server.proofs.open.too_long.Tie as tie
 

@@ -8,7 +8,7 @@ use lib.ListN.{length, take, length-append}
 use Rattle.rows.specs.Rows.{Wrote}
 use Rattle.model.specs.Base.{text, between}
 use Rattle.model.specs.Paths.{nameText, stepText}
-use Rattle.lexical.proofs.Writers.{wrote-both}
+use Rattle.values.proofs.Writers.{wrote-both}
 use Rattle.paths.proofs.Spelled.{wrote-none, name-length}
 use Rattle.steps.specs.Steps.{namesIn}
 use Rattle.steps.proofs.StepTexts.{spelledNames, divider, divider-some, divider-none, names-step, names-all}

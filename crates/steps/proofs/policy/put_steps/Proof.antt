@@ -8,7 +8,7 @@ use Rattle.rows.specs.Rows.{Wrote}
 use Rattle.rows.proofs.Parts.{length-part}
 use Rattle.model.specs.Base.{text, joined}
 use Rattle.model.specs.Paths.{stepText, stepsText}
-use Rattle.lexical.proofs.Writers.{wrote-both}
+use Rattle.values.proofs.Writers.{wrote-both}
 use Rattle.steps.specs.Steps.{stepIn, stepsIn}
 use Rattle.paths.proofs.Spelled.{spelled, wrote-none, spelled-step, spelled-all}
 use Rattle.steps.proofs.StepTexts.{step-length}

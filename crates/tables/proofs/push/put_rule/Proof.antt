@@ -1,5 +1,5 @@
 -- The access and the steps are written and then the role before them: each is read back, and the first byte is the length of a role that is not empty.
-use Rattle.lexical.proofs.Writers.{wrote-both}
+use Rattle.values.proofs.Writers.{wrote-both}
 use Rattle.tables.proofs.Pushed.{named, rule-put}
 use borrow.Author.Needs.{needs}
 use Rattle.tables.proofs.push.put_rule.Statement.{statement}

@@ -1,5 +1,5 @@
 -- The quota, an empty first line, the key, the role and the name are written from the end of the row on, so that each leaves what is behind it: each is read back.
-use Rattle.lexical.proofs.Writers.{wrote-both}
+use Rattle.values.proofs.Writers.{wrote-both}
 use Rattle.tables.proofs.Pushed.{named, user-put}
 use borrow.Author.Needs.{needs}
 use Rattle.tables.proofs.push.put_user.Statement.{statement}

@@ -11,7 +11,7 @@ use Rattle.model.specs.Table.{split, under}
 use Rattle.model.specs.Tables.{everyRole, userNamed}
 use Rattle.model.proofs.Spelling.{name-named}
 use Rattle.lexical.specs.Numbers.{numberAnswer}
-use Rattle.lexical.proofs.Values.{told}
+use Rattle.values.proofs.Values.{told}
 use Rattle.lexical.proofs.Decimals.{number-some}
 use Rattle.tables.specs.Memory.{usersIn}
 use Rattle.tabletext.proofs.Standing.{user-known, user-unknown}

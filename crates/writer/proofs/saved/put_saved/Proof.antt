@@ -6,7 +6,7 @@ use borrow.Author.Needs.{needs}
 use lib.ListN.{length, take, drop, length-replicate}
 use Rattle.model.specs.Base.{Bytes, text}
 use Rattle.model.specs.SavedText.{savedBehind}
-use Rattle.lexical.proofs.Writers.{wrote-both}
+use Rattle.values.proofs.Writers.{wrote-both}
 use Rattle.paths.specs.Layout.{pathIn}
 use Rattle.record.specs.Slots.{fieldsIn}
 use Rattle.writer.proofs.Remains.{Remains, remains-step, remains-end}

@@ -1,0 +1,79 @@
+-- Steps that overlap, and what is left of two paths in conflict from a place on.
+use Prim.Native.Nat.{ℕ, _+_, _*_, _-_, _≤_, _<_, min}
+use mathlib.Core.Path.{_≡_, refl}
+use mathlib.Core.Bool.{Bool, true, false, _&&_}
+use mathlib.Core.List.{List, [], _∷_}
+use mathlib.Core.Logic.{inl, inr}
+use native.Mathlib.Omega.{arith}
+use lib.Dec.{ltb}
+use lib.ListN.{length, getD, take, drop}
+use types.Run.{OneOf}
+use denote.Enum.Declared.{tagOf}
+use borrow.Author.Tests.{ltb-true, ltb-false}
+use Rattle.model.specs.Base.{Bytes, any, among}
+use Rattle.model.specs.Paths.{Step, names, wildcard, environment}
+use Rattle.model.specs.Rights.{overlap, isAbove}
+use Rattle.model.proofs.Lists.{by-cases}
+use Rattle.steps.specs.Steps.{namesIn, byKind, kindOf, stepIn, stepsIn}
+use Rattle.steps.specs.declared.step.Kind.{Kind}
+use Rattle.steps.specs.declared.step.Kind.the-variants.{Names, Wildcard, Environment}
+use Rattle.steps.proofs.step.Kind.{the-type}
+use Rattle.steps.proofs.StepRows.{step-told}
+use Rattle.paths.proofs.Counted.{counted-step, counted-over}
+
+-- ── A step of another kind than a list of names overlaps every step ──
+-- the variants Wildcard and Environment by their numbers, as the code's `else` tells them
+abbrev NoNames : Kind → Type 0
+NoNames k = OneOf (1 ∷ 2 ∷ []) (tagOf the-type k)
+
+kind-left : (k : Kind) (ns : List Bytes) (t : Step) → NoNames k → overlap (byKind k ns) t ≡ true
+unfolding overlap
+kind-left Names ns t (inl e) = absurd (omega arith)
+kind-left Names ns t (inr e) = absurd (omega arith)
+kind-left Wildcard ns t o = refl
+kind-left (Environment x) ns t o = refl
+
+kind-right : (t : Step) (k : Kind) (ns : List Bytes) → NoNames k → overlap t (byKind k ns) ≡ true
+unfolding overlap
+kind-right (names a) Names ns (inl e) = absurd (omega arith)
+kind-right (names a) Names ns (inr e) = absurd (omega arith)
+kind-right (names a) Wildcard ns o = refl
+kind-right (names a) (Environment x) ns o = refl
+kind-right wildcard k ns o = refl
+kind-right (environment x n) k ns o = refl
+
+-- the same of the steps in the rows x and y
+module _ (x y : Bytes) where
+  pub overlap-left : {k : Kind} → k ≡ kindOf (getD x 0 0) → NoNames k → overlap (stepIn x) (stepIn y) ≡ true
+  unfolding stepIn
+  overlap-left h o = kind-left (kindOf (getD x 0 0)) (namesIn (drop 1 x)) (stepIn y) (rw h at o)
+
+  pub overlap-right : {k : Kind} → k ≡ kindOf (getD y 0 0) → NoNames k → overlap (stepIn x) (stepIn y) ≡ true
+  unfolding stepIn
+  overlap-right h o = kind-right (stepIn x) (kindOf (getD y 0 0)) (namesIn (drop 1 y)) (rw h at o)
+
+  -- both are lists of names, which are the parts behind the first bytes
+  pub overlap-names : {j k : Kind} → j ≡ kindOf (getD x 0 0) → j ≡ Names → k ≡ kindOf (getD y 0 0) → k ≡ Names
+      → overlap (stepIn x) (stepIn y) ≡ any (λ n. among n (namesIn (take (length y - 1) (drop 1 y)))) (namesIn (take (length x - 1) (drop 1 x)))
+  unfolding overlap
+  overlap-names h e i f = rw (step-told x h e, step-told y i f)
+
+-- ── Whether a path is above another, from the step i on ──
+module _ (a b : Bytes) (i : ℕ) where
+  pub above-longer : i < min (getD a 0 0) 6 → min (getD b 0 0) 6 ≤ i → isAbove (drop i (stepsIn a)) (drop i (stepsIn b)) ≡ false
+  unfolding stepsIn isAbove
+  above-longer p q = rw (counted-step stepIn 70 6 a i p, counted-over stepIn 70 6 b i q)
+
+  -- the steps in the rows x and y at i overlap, or not
+  pub above-step : {x y : Bytes} {r : Bool} → i < min (getD a 0 0) 6 → i < min (getD b 0 0) 6
+      → x ≡ take 70 (drop (i * 70 + 1) a) → y ≡ take 70 (drop (i * 70 + 1) b) → r ≡ overlap (stepIn x) (stepIn y)
+      → isAbove (drop i (stepsIn a)) (drop i (stepsIn b)) ≡ (r && isAbove (drop (i + 1) (stepsIn a)) (drop (i + 1) (stepsIn b)))
+  unfolding stepsIn isAbove
+  above-step p q e f t = rw (counted-step stepIn 70 6 a i p, counted-step stepIn 70 6 b i q, t, e, f)
+
+  -- where the first ends, the second must go on
+  pub above-end : i ≡ min (getD a 0 0) 6 → isAbove (drop i (stepsIn a)) (drop i (stepsIn b)) ≡ ltb (min (getD a 0 0) 6) (min (getD b 0 0) 6)
+  unfolding stepsIn isAbove
+  above-end p = by-cases (ltb (min (getD a 0 0) 6) (min (getD b 0 0) 6))
+      (λ e. rw (counted-over stepIn 70 6 a i (omega arith), counted-step stepIn 70 6 b i (omega (arith, ltb-true)), e))
+      (λ e. rw (counted-over stepIn 70 6 a i (omega arith), counted-over stepIn 70 6 b i (omega (arith, ltb-false)), e))

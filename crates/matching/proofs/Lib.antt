@@ -1,0 +1,3 @@
+-- Laws that the proofs cite: what a step admits, and which steps overlap.
+pub mod Matched
+pub mod Conflicts

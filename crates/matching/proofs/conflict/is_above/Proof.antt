@@ -1,0 +1,86 @@
+-- Each turn leaves the question for what stands behind two steps that overlap.
+use Prim.Native.Nat.{_-_, _≤_}
+use mathlib.Core.Path.{_≡_, refl, sym, _∙_}
+use lib.ListN.{drop}
+use Rattle.model.specs.Rights.{isAbove}
+use Rattle.steps.specs.Steps.{stepsIn}
+use Rattle.steps.proofs.StepRows.{row-length}
+use Rattle.matching.proofs.Conflicts.{above-longer, above-step, above-end}
+use borrow.Author.Needs.{needs}
+use Rattle.matching.proofs.conflict.is_above.Statement.{statement}
+use Rattle.matching.proofs.conflict.is_above.Tie as tie
+
+abbrev Inv-loop : tie.InvT-loop
+Inv-loop a b m n i₀ i = (i ≤ m) × (isAbove (stepsIn a) (stepsIn b) ≡ isAbove (drop i (stepsIn a)) (drop i (stepsIn b)))
+
+abbrev μ-loop : tie.MeasureT-loop
+μ-loop a b m n i₀ i = m - i
+
+count-requires : tie.Need-count-requires Inv-loop μ-loop
+count-requires c κs = search needs
+
+count-requires-2 : tie.Need-count-requires-2 Inv-loop μ-loop
+count-requires-2 c κs = search needs
+
+loop-holds : tie.Need-loop-holds Inv-loop μ-loop
+loop-holds c = (search needs, refl)
+
+returns : tie.Need-returns Inv-loop μ-loop
+returns c = let l = c .before .before .loop in sym (l .inv .1 ∙ above-longer _ _ (l .i) (search needs) (search needs))
+
+row-requires : tie.Need-row-requires Inv-loop μ-loop
+row-requires c κs = search needs
+
+row-requires-2 : tie.Need-row-requires-2 Inv-loop μ-loop
+row-requires-2 c κs = search needs
+
+overlap-requires : tie.Need-overlap-requires Inv-loop μ-loop
+overlap-requires c κs =
+    let i = c .before .before .before .before .loop .i in
+    (row-length _ i (search needs) (c .before .row .ensures), row-length _ i (search needs) (c .row2 .ensures))
+
+add-i : tie.Need-add-i Inv-loop μ-loop
+add-i c = search needs
+
+loop-less : tie.Need-loop-less Inv-loop μ-loop
+loop-less c = search needs
+
+loop-again : tie.Need-loop-again Inv-loop μ-loop
+loop-again c =
+    let k = c .before in
+    let l = k .before .before .before .before .before .loop in (
+      search needs,
+      l .inv .1 ∙ above-step _ _ (l .i) (search needs) (search needs) (k .before .before .row .ensures) (k .before .row2 .ensures) (k .overlap .ensures)
+          ∙ rw (c .if2 .taken),
+    )
+
+returns-2 : tie.Need-returns-2 Inv-loop μ-loop
+returns-2 c =
+    let k = c .before in
+    let l = k .before .before .before .before .before .loop in
+    sym (l .inv .1 ∙ above-step _ _ (l .i) (search needs) (search needs) (k .before .before .row .ensures) (k .before .row2 .ensures) (k .overlap .ensures)
+    ∙ rw (c .if2 .left))
+
+returns-3 : tie.Need-returns-3 Inv-loop μ-loop
+returns-3 c =
+    let l = c .before .loop in
+    rw (c .before .before .before .count .ensures, c .before .before .count2 .ensures) (sym (l .inv .1 ∙ above-end _ _ (l .i) (search needs)))
+
+pub is-above-spec : {M : Type 1} → statement M
+is-above-spec =
+    tie.close
+    (tie.spec
+    Inv-loop
+    μ-loop
+    count-requires
+    count-requires-2
+    loop-holds
+    returns
+    row-requires
+    row-requires-2
+    overlap-requires
+    add-i
+    loop-less
+    loop-again
+    returns-2
+    returns-3)

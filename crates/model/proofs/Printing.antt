@@ -1,0 +1,109 @@
+-- What is printed depends neither on the content of what is lent nor, where it is long enough, on its length.
+use Prim.Native.Nat.{ℕ, _≤_}
+use mathlib.Core.Path.{_≡_, refl, ap, ap₂, _∙_}
+use mathlib.Core.Option.{Option, none, some}
+use mathlib.Core.List.{List, [], _∷_, _++_, map}
+use lib.ListN.{length, replicate, length-replicate}
+use native.Mathlib.Nat.{le-refl}
+use native.Mathlib.Omega.{arith}
+use borrow.Author.Tests.{le-ltb}
+use Rattle.model.specs.Base.{Bytes, joined}
+use Rattle.model.specs.Limits.{maxCopy, listRoom}
+use Rattle.model.specs.Refusals.{Result, refused, done, _>>=_, _or_}
+use Rattle.model.specs.Tables.{User, userAt}
+use Rattle.model.specs.Opening.{State}
+use Rattle.model.specs.Requests.{Request, login, get, push, requestOf}
+use Rattle.model.specs.Serving.{indexIn, loginAt, copyOf, readable, Change, enters, shows, stores, decideShow, decideGet, roomFor, decide, notified, shown, answerOf, Act, line, unchanged, conclude, served, outcome}
+use Rattle.model.specs.Runs.{events, requestIn}
+use Rattle.model.specs.Program.{printDeliveries, printAnswer, printed}
+use Rattle.model.specs.Claims.{eventIn, withZeros, Lent, lent}
+use Rattle.model.proofs.TwoRuns.{over-take}
+
+-- ── Content: from one decision the same is printed ──
+module _ (s : State) (b b₁ : Bytes) (l l₁ : List ℕ) where
+  answer-alike : (x : Result ℕ Change) →
+      printAnswer (conclude s b l x .buffer) (conclude s b l x .answer) ≡ printAnswer (conclude s b₁ l₁ x .buffer) (conclude s b₁ l₁ x .answer)
+  unfolding conclude unchanged printAnswer answerOf shown
+  answer-alike (refused e) = refl
+  answer-alike (done (enters i a)) = refl
+  answer-alike (done (shows c)) = rw (over-take c b, over-take c b₁)
+  answer-alike (done (stores i a f)) = refl
+
+  deliveries-alike : (x : Result ℕ Change) (q : Request) → printDeliveries (conclude s b l x) (some q) ≡ printDeliveries (conclude s b₁ l₁ x) (some q)
+  unfolding printDeliveries
+  deliveries-alike x (login u k) = refl
+  deliveries-alike x (get n) = refl
+  deliveries-alike (refused e) (push n p v) = unfold conclude unchanged in refl
+  deliveries-alike (done c) (push n p v) = unfold conclude in rw (over-take (notified s c) l, over-take (notified s c) l₁)
+
+  state-alike : (x : Result ℕ Change) → conclude s b l x .state ≡ conclude s b₁ l₁ x .state
+  unfolding conclude unchanged
+  state-alike (refused e) = refl
+  state-alike (done c) = refl
+
+-- ── Length: where there is room, how much plays no part in a decision ──
+-- no copy is longer than a buffer must be
+abbrev pub CopiesFit : State → Type 0
+CopiesFit s =
+    (i : ℕ) (u : User) → userAt (s .tables .users) i ≡ some u →
+    length (copyOf (s .tables .policy) u (readable (s .tables .policy) u (s .fields))) ≤ maxCopy
+
+module _ (s : State) (fit : CopiesFit s) (b b₁ : Bytes) (l l₁ : List ℕ)
+    (room : maxCopy ≤ length b) (room₁ : maxCopy ≤ length b₁) (places : listRoom ≤ length l) (places₁ : listRoom ≤ length l₁) where
+  show-alike : (c : Bytes) → length c ≤ maxCopy → decideShow c (length b) ≡ decideShow c (length b₁)
+  unfolding decideShow
+  show-alike c h = rw (le-ltb (length b) (length c) (omega arith), le-ltb (length b₁) (length c) (omega arith))
+
+  decide-alike : (q : Request) → decide s q (roomFor q b l) ≡ decide s q (roomFor q b₁ l₁)
+  unfolding decide roomFor
+  decide-alike (login n k) = refl
+  decide-alike (get n) = go (userAt (s .tables .users) (indexIn n)) refl
+    where
+      go : (w : Option User) → userAt (s .tables .users) (indexIn n) ≡ w →
+          ((w or 14) >>= λ u. decideGet (s .tables .policy) (indexIn n) u (loginAt s (indexIn n)) (readable (s .tables .policy) u (s .fields)) n (length b))
+          ≡ ((w or 14) >>= λ u. decideGet (s .tables .policy) (indexIn n) u (loginAt s (indexIn n)) (readable (s .tables .policy) u (s .fields)) n (length b₁))
+      go none e = unfold _>>=_ _or_ in refl
+      go (some u) e = unfold _>>=_ _or_ decideGet in rw (show-alike _ (fit (indexIn n) u e))
+  decide-alike (push n p v) = rw (le-ltb (length l) listRoom places, le-ltb (length l₁) listRoom places₁)
+
+  printed-served : (q : Option Request) →
+      printAnswer (served s b l q .buffer) (served s b l q .answer) ++ printDeliveries (served s b l q) q
+      ≡ printAnswer (served s b₁ l₁ q .buffer) (served s b₁ l₁ q .answer) ++ printDeliveries (served s b₁ l₁ q) q
+  unfolding served
+  printed-served none = unfold unchanged printAnswer printDeliveries in refl
+  printed-served (some q) = rw (decide-alike q) (ap₂ _++_ (answer-alike s b b₁ l l₁ _) (deliveries-alike s b b₁ l l₁ _ q))
+
+  state-served : (q : Option Request) → served s b l q .state ≡ served s b₁ l₁ q .state
+  unfolding served
+  state-served none = unfold unchanged in refl
+  state-served (some q) = rw (decide-alike q) (state-alike s b b₁ l l₁ _)
+
+  printed-alike : (x : Bytes) → printed (eventIn s (line x b l)) ≡ printed (eventIn s (line x b₁ l₁))
+  unfolding printed requestIn outcome
+  printed-alike x = printed-served (requestOf x)
+
+  next-alike : (x : Bytes) → outcome s (line x b l) .state ≡ outcome s (line x b₁ l₁) .state
+  unfolding outcome
+  next-alike x = state-served (requestOf x)
+
+-- ── A line: the zeros are long enough too ──
+zeros-fit : (n : ℕ) → n ≤ length {A = ℕ} (replicate n 0)
+zeros-fit n = rw length-replicate (le-refl n)
+
+pub line-alike : (s : State) → CopiesFit s → (x b : Bytes) (l : List ℕ) → maxCopy ≤ length b → listRoom ≤ length l →
+    (printed (eventIn s (line x b l)) ≡ printed (eventIn s (withZeros x))) × (outcome s (line x b l) .state ≡ outcome s (withZeros x) .state)
+line-alike s fit x b l room places =
+    let copy = zeros-fit maxCopy in
+    let numbers = zeros-fit listRoom in
+    (printed-alike s fit b _ l _ room copy places numbers x, next-alike s fit b _ l _ room copy places numbers x)
+
+-- ── A run: each line leaves the same state to the next ──
+pub lines-alike : (P : State → Type 0) → ((s : State) (a : Act) → P s → P (outcome s a .state)) → ((s : State) → P s → CopiesFit s) →
+    (s : State) (xs : List Lent) → P s → joined (map printed (events s (map lent xs))) ≡ joined (map printed (events s (map (λ x. withZeros (x .content)) xs)))
+unfolding joined events
+lines-alike P keeps fit s [] h = refl
+lines-alike P keeps fit s (x ∷ xs) h =
+    let w = line-alike s (fit s h) (x .content) (x .buffer) (x .list) (x .roomForCopy) (x .roomForList) in
+    ap₂ _++_ (w .0) (
+    lines-alike P keeps fit (outcome s (lent x) .state) xs (keeps s (lent x) h)
+    ∙ ap (λ (y : State). joined (map printed (events y (map (λ z. withZeros (z .content)) xs)))) (w .1))

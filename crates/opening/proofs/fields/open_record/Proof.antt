@@ -1,0 +1,97 @@
+-- Each return answers what `openRecord` says, in its order: the reader's refusals, too many fields, a conflict, and the fields that the table holds.
+use mathlib.Core.Path.{_≡_}
+use mathlib.Core.Bool.{Bool}
+use native.Mathlib.Omega.{arith}
+use Rattle.model.specs.Refusals.{done, _>>_, refuse_if_}
+use Rattle.model.specs.Opening.{fault, openRecord}
+use Rattle.record.specs.Slots.{fieldsIn}
+use Rattle.tables.specs.Memory.{tablesIn}
+use Rattle.values.proofs.Values.{told}
+use Rattle.reader.specs.Summaries.{readAnswer}
+use Rattle.opening.proofs.Opened.{opened-refused, opened-many, opened-few}
+use borrow.Author.Needs.{needs}
+use Rattle.opening.proofs.fields.open_record.Statement.{statement}
+use Rattle.opening.proofs.fields.open_record.Tie as tie
+
+-- where there is room, a conflict decides
+conflicting : (c : tie.After-has-conflicting-field) {v : Bool} → c .has-conflicting-field .result ≡ v
+    → let k = c .before .before .before .before .before .before .before .before .before .before in
+    let a = k .before .before .before .before .args in
+    ((refuse fault 5 4 0 if v) >> done (fieldsIn (k .read-record .last .0))) ≡ openRecord (tablesIn (a .tables .now)) (a .s .now)
+conflicting c e =
+    let k = c .before .before .before .before .before .before .before .before in
+    let read = k .before .before .read-record in
+    let a = k .before .before .before .before .before .before .args in
+    let is = told readAnswer (read .ensures .0) (k .read .given .1) in
+    opened-few _ _ _ is (omega arith) (a .table .now) (read .last .0) (read .ensures .1) (c .has-conflicting-field .ensures) e
+
+read-record-requires : tie.Need-read-record-requires
+read-record-requires c κs = search needs
+
+enum-told : tie.Need-enum-told
+enum-told c = search needs
+
+returns : tie.Need-returns
+returns c = opened-refused _ _ 8 (told readAnswer (c .before .before .read-record .ensures .0) (c .enum-told .given .1))
+
+enum-told-2 : tie.Need-enum-told-2
+enum-told-2 c = search needs
+
+returns-2 : tie.Need-returns-2
+returns-2 c = opened-refused _ _ 6 (told readAnswer (c .before .before .read-record .ensures .0) (c .enum-told2 .given .1))
+
+enum-known-read : tie.Need-enum-known-read
+enum-known-read c = search needs
+
+returns-3 : tie.Need-returns-3
+returns-3 c =
+    let k = c .before .before in
+    opened-many _ _ _ (told readAnswer (k .before .before .read-record .ensures .0) (k .read .given .1)) (omega arith)
+
+all-quotas-requires : tie.Need-all-quotas-requires
+all-quotas-requires c κs = search needs
+
+returns-4 : tie.Need-returns-4
+returns-4 c =
+    let k = c .before .before .before .before in
+    opened-many _ _ _ (told readAnswer (k .before .before .read-record .ensures .0) (k .read .given .1)) (omega arith)
+
+sub-has-conflicting-field : tie.Need-sub-has-conflicting-field
+sub-has-conflicting-field c = search needs
+
+part-has-conflicting-field-start : tie.Need-part-has-conflicting-field-start
+part-has-conflicting-field-start c = search needs
+
+part-has-conflicting-field-end : tie.Need-part-has-conflicting-field-end
+part-has-conflicting-field-end c = search needs
+
+has-conflicting-field-requires : tie.Need-has-conflicting-field-requires
+has-conflicting-field-requires c κs = search needs
+
+returns-5 : tie.Need-returns-5
+unfolding _>>_ refuse_if_
+returns-5 c = conflicting (c .before) (c .if3 .taken)
+
+returns-6 : tie.Need-returns-6
+unfolding _>>_ refuse_if_
+returns-6 c = conflicting (c .before) (c .if3 .left)
+
+pub open-record-spec : {M : Type 1} → statement M
+open-record-spec =
+    tie.close
+    (tie.spec
+    read-record-requires
+    enum-told
+    returns
+    enum-told-2
+    returns-2
+    enum-known-read
+    returns-3
+    all-quotas-requires
+    returns-4
+    sub-has-conflicting-field
+    part-has-conflicting-field-start
+    part-has-conflicting-field-end
+    has-conflicting-field-requires
+    returns-5
+    returns-6)

@@ -1,0 +1,7 @@
+// What the operations answer.
+
+// An opening: accepted, or a refusal's number, text and line.
+pub enum Opening {
+    Done,
+    Refused(usize, usize, usize),
+}

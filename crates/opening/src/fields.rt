@@ -1,0 +1,80 @@
+// The record's text opened against the tables.
+use crate::answer::Opening;
+use loader::read_record;
+use matching::conflict::steps_of;
+use reader::grammar::RecordRead;
+use record::table::SLOTS;
+use record::table::count;
+use record::table::slot_at;
+use tables::conflicts::has_conflict;
+use tables::layout::RULES;
+use tables::layout::USER;
+use tables::layout::USERS;
+use tables::layout::quota;
+use tables::layout::row_at;
+use tables::layout::row_count;
+ghost use mathlib.Core.Path.{_≡_};
+ghost use Prim.Native.Nat.{_≤_};
+ghost use lib.ListN.{length};
+ghost use Rattle.model.specs.Base.{any};
+ghost use Rattle.model.specs.Paths.{asSteps};
+ghost use Rattle.model.specs.Rights.{conflictsWith};
+ghost use Rattle.model.specs.Opening.{quotas, openRecord};
+ghost use Rattle.record.specs.Slots.{fieldsIn};
+ghost use Rattle.tables.specs.Memory.{usersIn, policyIn, tablesIn};
+ghost use Rattle.opening.specs.Answers.{openingResult};
+
+// All quotas together.
+fn all_quotas(users: &[u8]) -> usize
+    requires { ⌜ (19104 ≤ length (now users)) × (length (now users) ≤ 65536) ⌝ }
+    ensures { λ r. ⌜ r ≡ quotas (usersIn (now (users .entry))) ⌝ }
+{
+    let n = row_count(users, USER, USERS);
+    let mut sum: usize = 0;
+    let mut i: usize = 0;
+    while i < n {
+        sum += quota(row_at(users, i, USER));
+        i += 1;
+    }
+    sum
+}
+
+// Whether a field is in conflict with a WRITE line.
+fn has_conflicting_field(policy: &[u8], table: &[u8]) -> bool
+    requires { ⌜ (length (now policy) ≡ 28096) × (length (now table) ≡ 35328) ⌝ }
+    ensures { λ r. ⌜ r ≡ any (λ f. any (conflictsWith (asSteps (f .path))) (policyIn (now (policy .entry)))) (fieldsIn (now (table .entry))) ⌝ }
+{
+    let n = count(table);
+    let mut i: usize = 0;
+    while i < n {
+        let steps = steps_of(slot_at(table, i));
+        if has_conflict(policy, RULES, &steps) {
+            return true;
+        }
+        i += 1;
+    }
+    false
+}
+
+// A record's text into a table.
+pub fn open_record(tables: &[u8], table: &mut [u8; 35328], s: &[u8]) -> Opening
+    requires { ⌜ (length (now tables) ≡ 47200) × (length (now s) ≤ 65536) ⌝ }
+    ensures { λ r. ⌜ openingResult r (fieldsIn (now (table .exit))) ≡ openRecord (tablesIn (now (tables .entry))) (now (s .entry)) ⌝ }
+{
+    let read = read_record(table, s);
+    let n = match read {
+        RecordRead::NotRecord => return Opening::Refused(8, 4, 0),
+        RecordRead::KeyTwice => return Opening::Refused(6, 4, 0),
+        RecordRead::Fields(n) => n,
+    };
+    if SLOTS < n {
+        return Opening::Refused(9, 4, 0);
+    }
+    if SLOTS - n < all_quotas(tables) {
+        return Opening::Refused(9, 4, 0);
+    }
+    if has_conflicting_field(&tables[19104..], table) {
+        return Opening::Refused(5, 4, 0);
+    }
+    Opening::Done
+}

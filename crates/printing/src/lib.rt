@@ -1,0 +1,99 @@
+// All that the program prints: for a line, and for a refused opening.
+use deliveries::put_deliveries;
+use lines::until;
+use opening::answer::Opening;
+use server::answer::Reply;
+use server::open::LOGINS;
+use server::open::RECORD;
+use server::open::TABLES;
+use server::request::request;
+use values::write::put;
+use values::write::put_byte;
+use values::write::put_decimal;
+ghost use mathlib.Core.Path.{_≡_};
+ghost use mathlib.Core.List.{[], _∷_};
+ghost use Prim.Native.Nat.{_+_, _≤_, _<_, _^_};
+ghost use lib.ListN.{length};
+ghost use Rattle.rows.specs.Rows.{Wrote};
+ghost use Rattle.model.specs.Base.{decimal};
+ghost use Rattle.model.specs.Serving as serving;
+ghost use Rattle.model.specs.Program.{printAnswer, printed};
+ghost use Rattle.model.specs.Claims.{eventIn};
+ghost use Rattle.server.specs.Memory.{stateIn};
+ghost use Rattle.server.specs.Replies.{answerIn};
+ghost use Rattle.printing.specs.Printed.{Inside, openingText};
+
+// A copy never exceeds this many bytes.
+pub const COPY: usize = 51069;
+
+// A push never reaches more sessions.
+pub const LIST: usize = 32;
+
+// `word;number` and 0A.
+fn put_numbered(out: &mut [u8], word: &[u8], n: usize) -> usize
+    requires { ⌜ length (now word) ≤ 16 ⌝ }
+    ensures { λ r. ⌜ Wrote 0 (serving.tableLine (now (word .entry) ∷ decimal n ∷ [])) (now (out .entry)) r (now (out .exit)) ⌝ }
+    ensures { λ r. ⌜ r ≤ 38 ⌝ }
+{
+    let mut to = put(out, 0, word);
+    to = put_byte(out, to, b';');
+    to = put_decimal(out, to, n);
+    put_byte(out, to, b'\n')
+}
+
+// The answer; behind a length, as many first bytes of the buffer.
+fn put_answer(out: &mut [u8], reply: Reply, buffer: &[u8]) -> usize
+    requires { ⌜ (length (now buffer) ≡ 51069) × Inside reply (length (now buffer)) ⌝ }
+    ensures { λ r. ⌜ Wrote 0 (printAnswer (now (buffer .entry)) (answerIn reply)) (now (out .entry)) r (now (out .exit)) ⌝ }
+    ensures { λ r. ⌜ r ≤ 51107 ⌝ }
+{
+    match reply {
+        Reply::Refused(e) => put_numbered(out, b"NO", e),
+        Reply::Session(n) => put_numbered(out, b"OK", n as usize),
+        Reply::Length(n) => {
+            let to = put_numbered(out, b"OK", n);
+            put(out, to, &buffer[..n])
+        }
+        Reply::Pushed(_) => put(out, 0, b"OK\n"),
+    }
+}
+
+// One line answered, and what is printed for it: the answer, and for a push the deliveries, with path and value as they stand in the line.
+pub fn respond(
+    tables: &[u8; TABLES],
+    logins: &mut [u16; LOGINS],
+    fields: &mut [u8; RECORD],
+    line: &[u8],
+    buffer: &mut [u8; COPY],
+    list: &mut [u32; LIST],
+    out: &mut [u8],
+) -> usize
+    ensures { λ r. ⌜ stateIn (now (tables .entry)) (now (logins .exit)) (now (fields .exit)) ≡ serving.outcome (stateIn (now (tables .entry)) (now (logins .entry)) (now (fields .entry))) (serving.line (now (line .entry)) (now (buffer .entry)) (now (list .entry))) .state ⌝ }
+    ensures { λ r. ⌜ Wrote 0 (printed (eventIn (stateIn (now (tables .entry)) (now (logins .entry)) (now (fields .entry))) (serving.line (now (line .entry)) (now (buffer .entry)) (now (list .entry))))) (now (out .entry)) r (now (out .exit)) ⌝ }
+    ensures { λ r. ⌜ r ≤ 65536 ⌝ }
+{
+    let reply = request(tables, logins, fields, line, buffer, list);
+    let to = put_answer(out, reply, buffer);
+    let Reply::Pushed(told) = reply else {
+        return to;
+    };
+    let from = until(line, 5, b';') + 1;
+    put_deliveries(out, to, list, told, &line[from..])
+}
+
+// `NO;number;text;line` for a refused opening; nothing for an accepted one.
+pub fn put_opening(out: &mut [u8], opened: Opening) -> usize
+    ensures { λ r. ⌜ Wrote 0 (openingText opened) (now (out .entry)) r (now (out .exit)) ⌝ }
+    ensures { λ r. ⌜ r ≤ 66 ⌝ }
+{
+    let Opening::Refused(number, text, line) = opened else {
+        return 0;
+    };
+    let mut to = put(out, 0, b"NO;");
+    to = put_decimal(out, to, number);
+    to = put_byte(out, to, b';');
+    to = put_decimal(out, to, text);
+    to = put_byte(out, to, b';');
+    to = put_decimal(out, to, line);
+    put_byte(out, to, b'\n')
+}

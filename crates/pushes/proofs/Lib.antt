@@ -1,0 +1,2 @@
+-- Laws that the proofs cite: what a push is decided to be.
+pub mod Ruled

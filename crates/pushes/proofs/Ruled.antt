@@ -1,0 +1,92 @@
+-- What a push is decided to be, by the answers about the session, the right, the field and the quota.
+use Prim.Native.Nat.{ℕ, _*_, _-_, _≤_, _<_}
+use mathlib.Core.Path.{_≡_, refl, sym, _∙_}
+use mathlib.Core.Bool.{Bool, true, false, not, _&&_}
+use mathlib.Core.Option.{some}
+use mathlib.Core.List.{List}
+use borrow.Author.Tests.{le-leb, lt-leb}
+use lib.Dec.{leb}
+use lib.ListN.{length, getD, take, drop}
+use Rattle.rows.proofs.Parts.{tail-part}
+use Rattle.model.specs.Base.{Bytes, any}
+use Rattle.model.specs.Values.{Value}
+use Rattle.model.specs.Fields.{Keys, Fields, holds}
+use Rattle.model.specs.Refusals.{Result, refused, done, _>>_, refuse_if_}
+use Rattle.model.specs.Tables.{User, Rule}
+use Rattle.model.specs.Opening.{LoginState, emptyLogin}
+use Rattle.model.specs.Serving.{Change, stores, creating, indexIn, decidePush}
+use Rattle.tables.specs.Memory.{userIn, usersIn, policyIn, tablesIn}
+use Rattle.model.specs.Rights.{mayWrite}
+use Rattle.tables.specs.Grants.{gives, givenBy, writesBy}
+use Rattle.tables.proofs.Given.{given-writes}
+use Rattle.record.specs.declared.table.Place.{Place}
+use Rattle.record.specs.declared.table.Place.the-variants.{At, Before}
+use Rattle.record.specs.Search.{placeIn}
+use Rattle.record.proofs.Places.{at-holds, before-holds}
+use Rattle.sessions.specs.declared.SessionAt.{SessionAt}
+use Rattle.sessions.specs.declared.SessionAt.the-variants.{Of, Unknown}
+use Rattle.sessions.specs.Logins.{hasSession, sessionAnswer}
+use Rattle.sessions.proofs.Known.{inSession, no-session, in-session, session-unknown, session-known, session-user}
+use Rattle.pushes.specs.Rulings.{pushDecided}
+
+-- what is decided for the user of an open session
+ruling : List Rule → LoginState → ℕ → Bool → Keys → Value → User → Result ℕ Change
+ruling rs a i held p v u =
+    (refuse 16 if not (mayWrite rs u p)) >> ((refuse 17 if not held && leb (u .quota) (a .created)) >>
+    done (stores i (creating a held) (record { path = p; value = v })))
+
+module _ (s : Bytes) (ls : List LoginState) (n : ℕ) {o : SessionAt} (found : o ≡ sessionAnswer (hasSession (usersIn s) ls n) n) where
+  module _ (fs : Fields) (p : Keys) (v : Value) where
+    push-decides : pushDecided (tablesIn s) ls fs n p v
+        ≡ inSession (usersIn s) ls n (ruling (policyIn (drop 19104 s)) (getD ls (indexIn n) emptyLogin) (indexIn n) (holds p fs) p v)
+    unfolding tablesIn pushDecided decidePush ruling
+    push-decides = refl
+
+    -- no open session has the number
+    pub unknown-session : o ≡ Unknown → pushDecided (tablesIn s) ls fs n p v ≡ refused 14
+    unknown-session at = push-decides ∙ no-session (usersIn s) ls n _ (session-unknown s ls n found at)
+
+  -- it is that of the user at i
+  module _ {i : ℕ} (at : o ≡ Of i) where
+    -- ── The right: r says whether that user may write the path p ──
+    module _
+        {row : Bytes}
+        (is : row ≡ take 597 (drop (i * 597) s))
+        (p : Keys)
+        {r : Bool}
+        (may : r ≡ any (gives true (userIn row) p) (policyIn (take (length s - 19104) (drop 19104 s))))
+        (fs : Fields)
+        (v : Value)
+      where
+        ruled : pushDecided (tablesIn s) ls fs n p v
+            ≡ ((refuse 16 if not r) >> ((refuse 17 if not (holds p fs) && leb (userIn row .quota) (getD ls i emptyLogin .created))
+            >> done (stores i (creating (getD ls i emptyLogin) (holds p fs)) (record { path = p; value = v }))))
+        unfolding ruling givenBy writesBy
+        ruled =
+            let (known, index) = session-known s ls n found at in
+            let writes = (rw (tail-part 19104 s) at may) ∙ given-writes (policyIn (drop 19104 s)) (some (userIn row)) p in
+            push-decides fs p v ∙ in-session (usersIn s) ls n _ (session-user s ls n found at is) known ∙ rw (← index, writes)
+
+        pub no-right : r ≡ false → pushDecided (tablesIn s) ls fs n p v ≡ refused 16
+        unfolding _>>_ refuse_if_
+        no-right f = ruled ∙ rw f
+
+        -- ── The field: a is the user's login state, and l where a search for the path ended ──
+        module _ (right : r ≡ true) {a : LoginState} (state : a ≡ getD ls i emptyLogin) {k : ℕ} {l : Place} (place : l ≡ placeIn 0 p fs) where
+          pub stored-held : l ≡ At k → pushDecided (tablesIn s) ls fs n p v ≡ done (stores i a (record { path = p; value = v }))
+          unfolding creating _>>_ refuse_if_
+          stored-held e = ruled ∙ rw (right, at-holds p fs k (sym place ∙ e), ← state)
+
+          -- it is absent, and q is the user's quota
+          module _ (e : l ≡ Before k) {q : ℕ} (quota : q ≡ userIn row .quota) where
+            absent : holds p fs ≡ false
+            absent = before-holds p fs k (sym place ∙ e)
+
+            pub quota-reached : q ≤ a .created → pushDecided (tablesIn s) ls fs n p v ≡ refused 17
+            unfolding _>>_ refuse_if_
+            quota-reached h = ruled ∙ rw (right, absent, ← state, ← quota, le-leb _ _ h)
+
+            pub stored-new : a .created < q → {b : LoginState} → b ≡ creating a false
+                → pushDecided (tablesIn s) ls fs n p v ≡ done (stores i b (record { path = p; value = v }))
+            unfolding _>>_ refuse_if_
+            stored-new h c = ruled ∙ rw (right, absent, ← state, ← quota, lt-leb _ _ h, c)

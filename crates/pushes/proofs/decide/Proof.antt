@@ -1,0 +1,152 @@
+-- The answers in the order of the refusals: of the session, of the right, of the quota; else the field is stored.
+use Prim.Native.Nat.{_+_, _*_}
+use mathlib.Core.Path.{sym}
+use native.Mathlib.Omega.{arith}
+use borrow.Author.Needs.{needs}
+use borrow.Author.Tests.{not-true, not-false}
+use Rattle.record.specs.Slots.{fieldsIn}
+use Rattle.sessions.specs.Logins.{loginsIn, stateOf}
+use Rattle.tables.proofs.Users.{quota-small}
+use Rattle.sessions.proofs.Known.{session-below, session-inside}
+use Rattle.pushes.proofs.Ruled.{unknown-session, no-right, stored-held, quota-reached, stored-new}
+use Rattle.pushes.proofs.decide.Statement.{statement}
+use Rattle.pushes.proofs.decide.Tie as tie
+
+session-requires : tie.Need-session-requires
+session-requires c κs = search needs
+
+enum-known-i : tie.Need-enum-known-i
+enum-known-i c = search needs
+
+enum-told : tie.Need-enum-told
+enum-told c = search needs
+
+returns : tie.Need-returns
+returns c =
+    let f = c .before .before in
+    let a = f .before .before .before .before .before .args in
+    λ v. sym (unknown-session _ (loginsIn (a .logins .now)) (a .n) (f .session .ensures) (fieldsIn (a .fields .now)) _ v (c .enum-told .given .1))
+
+row-at-requires : tie.Need-row-at-requires
+row-at-requires c κs =
+    let f = c .before .before .before in
+    let a = f .before .before .before .before .before .args in
+    (session-inside _ (loginsIn (a .logins .now)) (a .n) (f .session .ensures) (c .before .i .given .1) (search needs), search needs)
+
+sub-may : tie.Need-sub-may
+sub-may c = search needs
+
+part-may-start : tie.Need-part-may-start
+part-may-start c = search needs
+
+part-may-end : tie.Need-part-may-end
+part-may-end c = search needs
+
+may-requires : tie.Need-may-requires
+may-requires c κs = search needs
+
+returns-2 : tie.Need-returns-2
+returns-2 c =
+    let m = c .before in
+    let k = m .before .before .before in
+    let f = k .before .before .before in
+    let a = f .before .before .before .before .before .args in
+    λ v. sym (no-right _ (loginsIn (a .logins .now)) (a .n) (f .session .ensures) (k .before .i .given .1) (m .before .before .row-at .ensures .0) _
+    (m .may .ensures) (fieldsIn (a .fields .now)) v (not-true _ (c .if1 .taken)))
+
+state-at-requires : tie.Need-state-at-requires
+state-at-requires c κs =
+    let k = c .before .before .before .before in
+    let f = k .before .before .before in
+    let a = f .before .before .before .before .before .args in
+    (search needs, search (needs, session-below _ (loginsIn (a .logins .now)) (a .n) (f .session .ensures) (k .before .i .given .1)))
+
+find-requires : tie.Need-find-requires
+find-requires c κs = search needs
+
+enum-told-2 : tie.Need-enum-told-2
+enum-told-2 c = search needs
+
+enum-told-3 : tie.Need-enum-told-3
+enum-told-3 c = search needs
+
+returns-3 : tie.Need-returns-3
+returns-3 c =
+    let l = c .before .before in
+    let w = l .before .before in
+    let m = w .before in
+    let k = m .before .before .before in
+    let f = k .before .before .before in
+    let a = f .before .before .before .before .before .args in
+    λ v. sym (stored-held _ (loginsIn (a .logins .now)) (a .n) (f .session .ensures) (k .before .i .given .1) (m .before .before .row-at .ensures .0) _
+    (m .may .ensures) (fieldsIn (a .fields .now)) v (not-false _ (w .if1 .left)) (l .before .state-at .ensures) (l .find .ensures)
+    (c .enum-told3 .given .1))
+
+quota-requires : tie.Need-quota-requires
+quota-requires c κs = search needs
+
+cast-if2 : tie.Need-cast-if2
+cast-if2 c = search needs
+
+returns-4 : tie.Need-returns-4
+unfolding stateOf
+returns-4 c =
+    let q = c .before .before in
+    let l = q .before .before .before in
+    let w = l .before .before in
+    let m = w .before in
+    let k = m .before .before .before in
+    let f = k .before .before .before in
+    let a = f .before .before .before .before .before .args in
+    λ v. sym (quota-reached _ (loginsIn (a .logins .now)) (a .n) (f .session .ensures) (k .before .i .given .1) (m .before .before .row-at .ensures .0) _
+    (m .may .ensures) (fieldsIn (a .fields .now)) v (not-false _ (w .if1 .left)) (l .before .state-at .ensures) (l .find .ensures)
+    (q .before .enum-told2 .given .1) (q .quota .ensures) (search needs))
+
+creating-requires : tie.Need-creating-requires
+creating-requires c κs =
+    let q = c .before .before in
+    let m = q .before .before .before .before .before .before in
+    let k = m .before .before .before in
+    let s = k .before .before .before .before .before .before .before in
+    let i = k .before .i .given .0 .0 in
+    let byte = s .shared-slice-known .given in
+    omega (arith, quota-small _ i (m .before .before .row-at .ensures .0) (q .quota .ensures) (byte (i * 597 + 51) .fits) (byte (i * 597 + 52) .fits))
+
+returns-5 : tie.Need-returns-5
+unfolding stateOf
+returns-5 c =
+    let q = c .before .before .before in
+    let l = q .before .before .before in
+    let w = l .before .before in
+    let m = w .before in
+    let k = m .before .before .before in
+    let f = k .before .before .before in
+    let a = f .before .before .before .before .before .args in
+    λ v. sym (stored-new _ (loginsIn (a .logins .now)) (a .n) (f .session .ensures) (k .before .i .given .1) (m .before .before .row-at .ensures .0) _
+    (m .may .ensures) (fieldsIn (a .fields .now)) v (not-false _ (w .if1 .left)) (l .before .state-at .ensures) (l .find .ensures)
+    (q .before .enum-told2 .given .1) (q .quota .ensures) (search needs) (c .creating .ensures))
+
+pub decide-spec : {M : Type 1} → statement M
+decide-spec =
+    tie.close
+    (tie.spec
+    session-requires
+    enum-known-i
+    enum-told
+    returns
+    row-at-requires
+    sub-may
+    part-may-start
+    part-may-end
+    may-requires
+    returns-2
+    state-at-requires
+    find-requires
+    enum-told-2
+    enum-told-3
+    returns-3
+    quota-requires
+    cast-if2
+    returns-4
+    creating-requires
+    returns-5)

@@ -1,0 +1,25 @@
+-- What a push is decided to be, but for the list's length.
+use Prim.Native.Nat.{ℕ}
+use mathlib.Core.List.{List}
+use lib.ListN.{getD}
+use Rattle.model.specs.Values.{Value}
+use Rattle.model.specs.Fields.{Keys, Fields, holds}
+use Rattle.model.specs.Refusals.{Result, refused, done, _>>=_, _or_}
+use Rattle.model.specs.Tables.{Tables, userAt}
+use Rattle.model.specs.Opening.{LoginState, emptyLogin}
+use Rattle.model.specs.Serving.{Change, stores, indexIn, decidePush}
+use Rattle.sessions.specs.Logins.{stateOf}
+use Rattle.pushes.specs.declared.Ruling.{Ruling}
+use Rattle.pushes.specs.declared.Ruling.the-variants.{Refused, Stores}
+
+-- the refusal, or the change for a path and a value
+abbrev pub rulingAnswer : Ruling → Keys → Value → Result ℕ Change
+rulingAnswer (Refused e) p v = refused e
+rulingAnswer (Stores i a) p v = done (stores i (stateOf a) (record { path = p; value = v }))
+
+-- "14; 16 the user may not write the path; 17 the field is absent and the user has created as many as the allowance"
+unfoldable pub pushDecided : Tables → List LoginState → Fields → ℕ → Keys → Value → Result ℕ Change
+pushDecided t ls fs n p v = do
+  let i = indexIn n
+  u ← userAt (t .users) i or 14
+  decidePush (t .policy) i u (getD ls i emptyLogin) (holds p fs) n p v

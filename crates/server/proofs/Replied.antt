@@ -1,0 +1,164 @@
+-- What a request leaves, from what its parts answer: a refusal keeps all, a login changes the login states, a shown text the buffer.
+use Prim.Native.Nat.{ℕ, zero, suc, _*_, _-_, _≤_, _<_}
+use mathlib.Core.Path.{_≡_, refl, ap, _∙_}
+use mathlib.Core.Option.{none, some}
+use mathlib.Core.List.{List, [], _∷_, _++_}
+use native.Mathlib.Nat.{zero-add, sub-zero}
+use native.Mathlib.Omega.{arith}
+use borrow.Author.Tests.{lt-ltb, le-ltb}
+use lib.ListN.{length, take, drop, replicate}
+use lib.Seq.{take-all, drop-nil}
+use Rattle.rows.specs.Rows.{written, Wrote}
+use Rattle.rows.proofs.Writing.{written-clipped}
+use Rattle.rows.proofs.Parts.{tail-part}
+use Rattle.model.specs.Base.{Bytes}
+use Rattle.model.specs.Fields.{Fields}
+use Rattle.model.specs.SavedText.{saved}
+use Rattle.model.specs.Refusals.{Result, refused, done, _>>_, refuse_if_}
+use Rattle.model.specs.Tables.{User}
+use Rattle.model.specs.Opening.{State}
+use Rattle.model.specs.Requests.{Request, login, get}
+use Rattle.model.specs.Serving.{Change, enters, shows, stores, loginAt, copyOf, readable}
+use Rattle.model.specs.Serving.{decideShow, decideGet, decideSave, roomFor, decide}
+use Rattle.model.specs.Serving.{apply, notified, shown, answerOf, over, unchanged, conclude, served, save, outcome}
+use Rattle.model.proofs.Decisions.{decided}
+use Rattle.tables.specs.Memory.{userIn, usersIn, policyIn, tablesIn}
+use Rattle.record.specs.Slots.{fieldsIn}
+use Rattle.record.proofs.Stores.{fields-fit}
+use Rattle.writer.specs.Selected.{selected}
+use Rattle.sessions.specs.Logins.{loginsIn, loginDecided, loginAnswer, loginsAfter, LoginKept, hasSession, sessionAnswer}
+use Rattle.sessions.specs.declared.LoginReply.{LoginReply}
+use Rattle.sessions.specs.declared.LoginReply.the-variants as entry
+use Rattle.sessions.specs.declared.SessionAt.{SessionAt}
+use Rattle.sessions.specs.declared.SessionAt.the-variants.{Of, Unknown}
+use Rattle.server.specs.declared.answer.Reply.{Reply}
+use Rattle.server.specs.declared.answer.Reply.the-variants.{Refused, Session, Length}
+use Rattle.sessions.proofs.Known.{inSession, no-session, in-session, session-unknown, session-known, session-user}
+use Rattle.server.specs.Memory.{stateIn}
+use Rattle.server.specs.Replies.{outcomeIn, KeptIfRefused}
+
+-- ── Refusals: all is as it was ──
+module _ (s : State) (b : Bytes) (l : List ℕ) where
+  -- a line that is no request
+  pub no-request : outcomeIn (Refused 11) s b l ≡ served s b l none
+  unfolding outcomeIn served unchanged
+  no-request = refl
+
+  -- a request whose decision is a refusal
+  pub request-refused : (q : Request) {e : ℕ} → decide s q (roomFor q b l) ≡ refused e → outcomeIn (Refused e) s b l ≡ served s b l (some q)
+  unfolding outcomeIn served conclude unchanged
+  request-refused q h = rw h
+
+-- ── LOGIN: r is what the login states answered ──
+-- the reply says the same
+abbrev pub loginReply : LoginReply → Reply
+loginReply (entry.Session n) = Session n
+loginReply (entry.Refused e) = Refused e
+
+reply-kept : (r : LoginReply) (before now : List ℕ) → LoginKept r before now → KeptIfRefused (loginReply r) before now
+reply-kept (entry.Session n) before now h = tt
+reply-kept (entry.Refused e) before now h = h
+
+module _ (tables : Bytes) (logins : List ℕ) (n k : Bytes) where
+  abbrev entering : Result ℕ Change
+  entering = loginDecided (usersIn tables) (loginsIn logins) n k
+
+  -- the decision looks at the users and the login states alone
+  login-decides : (fs : Bytes) (room : ℕ) → decide (stateIn tables logins fs) (login n k) room ≡ entering
+  unfolding decide stateIn tablesIn loginAt loginDecided
+  login-decides fs room = refl
+
+  -- the answer was matched with r
+  module _ (after : List ℕ) {answer r : LoginReply} (answers : answer ≡ loginAnswer entering) (is : answer ≡ r)
+      (leaves : loginsIn after ≡ loginsAfter (loginsIn logins) entering) where
+    pub login-replied : (fs b : Bytes) (l : List ℕ)
+        → outcomeIn (loginReply r) (stateIn tables after fs) b l ≡ served (stateIn tables logins fs) b l (some (login n k))
+    unfolding outcomeIn stateIn served roomFor conclude unchanged answerOf apply shown notified over
+    login-replied fs b l = go entering refl
+      where
+        go : (d : Result ℕ Change) → entering ≡ d
+            → outcomeIn (loginReply r) (stateIn tables after fs) b l ≡ served (stateIn tables logins fs) b l (some (login n k))
+        go (refused e) h = rw (← is, answers, leaves, login-decides fs 0, h)
+        go (done (enters i a)) h = rw (← is, answers, leaves, login-decides fs 0, h)
+        go (done (shows c)) h = absurd (decided _ (login n k) 0 _ (login-decides fs 0 ∙ h))
+        go (done (stores i a f)) h = absurd (decided _ (login n k) 0 _ (login-decides fs 0 ∙ h))
+
+    pub login-kept : LoginKept answer logins after → KeptIfRefused (loginReply r) logins after
+    login-kept h = reply-kept r logins after (rw is at h)
+
+-- ── A text shown: it was measured on no bytes, and then written if it fits ──
+measured : (c : Bytes) {n : ℕ} {o : Bytes} → Wrote 0 c [] n o → (n ≡ length c) × (o ≡ [])
+measured c (is, left) = (is ∙ zero-add (length c), left ∙ written-clipped 0 c [] ∙ rw drop-nil)
+
+-- a text that fits stands over the start of the buffer
+written-over : (c b : Bytes) → length c ≤ length b → written 0 c b ≡ over c b
+unfolding over
+written-over c b h = written-clipped 0 c b ∙ rw (sub-zero, take-all (length b) c h, zero-add)
+
+module _ (s : State) (b : Bytes) (l : List ℕ) (c : Bytes) {n : ℕ} {o : Bytes} (first : Wrote 0 c [] n o) where
+  pub shown-refused : length (o ++ b) < n → outcomeIn (Refused 15) s (o ++ b) l ≡ conclude s b l (decideShow c (length b))
+  unfolding outcomeIn conclude unchanged decideShow _>>_ refuse_if_
+  shown-refused h =
+      let (is, empty) = measured c first in
+      let short : length b < length c = rw (empty, is) at h in
+      rw (empty, lt-ltb (length b) (length c) short)
+
+  pub shown-done : {m : ℕ} {p : Bytes} → Wrote 0 c (o ++ b) m p → n ≤ length (o ++ b) → outcomeIn (Length n) s p l ≡ conclude s b l (decideShow c (length b))
+  unfolding outcomeIn conclude decideShow _>>_ refuse_if_ answerOf apply shown notified over
+  shown-done (_, stands) h =
+      let (is, empty) = measured c first in
+      let fits : length c ≤ length b = rw (empty, is) at h in
+      rw (stands, empty, is, le-ltb (length b) (length c) fits, written-over c b fits)
+
+-- ── GET: the copy is shown ──
+module _ (tables : Bytes) (logins : List ℕ) (fields : Bytes) (n : ℕ) {o : SessionAt}
+    (answer : o ≡ sessionAnswer (hasSession (usersIn tables) (loginsIn logins) n) n) (b : Bytes) (l : List ℕ) where
+  copied : ℕ → User → Result ℕ Change
+  copied room u = decideShow (copyOf (policyIn (drop 19104 tables)) u (readable (policyIn (drop 19104 tables)) u (fieldsIn fields))) room
+
+  get-decides : (room : ℕ) → decide (stateIn tables logins fields) (get n) room ≡ inSession (usersIn tables) (loginsIn logins) n (copied room)
+  unfolding decide decideGet stateIn tablesIn loginAt copied
+  get-decides room = refl
+
+  pub get-unknown : o ≡ Unknown → outcomeIn (Refused 14) (stateIn tables logins fields) b l ≡ served (stateIn tables logins fields) b l (some (get n))
+  unfolding roomFor
+  get-unknown is =
+      request-refused _ b l (get n) (get-decides (length b) ∙ no-session _ _ n (copied (length b)) (session-unknown tables _ n answer is))
+
+  -- the user's row and the policy are parts of the tables, and `marks` selects the fields that the user may read
+  module _ {i : ℕ} {row policy : Bytes} (marks : Bytes) (is : o ≡ Of i) (at : row ≡ take 597 (drop (i * 597) tables))
+      (part : policy ≡ take (length tables - 19104) (drop 19104 tables))
+      (selects : selected marks (fieldsIn fields) ≡ readable (policyIn policy) (userIn row) (fieldsIn fields)) where
+    abbrev copy : Bytes
+    copy = copyOf (policyIn policy) (userIn row) (selected marks (fieldsIn fields))
+
+    get-shows : conclude (stateIn tables logins fields) b l (decideShow copy (length b)) ≡ served (stateIn tables logins fields) b l (some (get n))
+    unfolding served roomFor copied
+    get-shows =
+        let policy-is = part ∙ tail-part 19104 tables in
+        let user = session-user tables _ n answer is at in
+        rw (selects, policy-is, get-decides (length b), in-session _ _ n (copied (length b)) user (session-known tables _ n answer is .0))
+
+    module _ {k : ℕ} {e : Bytes} (first : Wrote 0 copy [] k e) where
+      pub get-refused : length (e ++ b) < k
+          → outcomeIn (Refused 15) (stateIn tables logins fields) (e ++ b) l ≡ served (stateIn tables logins fields) b l (some (get n))
+      get-refused h = shown-refused _ b l copy first h ∙ get-shows
+
+      pub get-done : {m : ℕ} {p : Bytes} → Wrote 0 copy (e ++ b) m p → k ≤ length (e ++ b)
+          → outcomeIn (Length k) (stateIn tables logins fields) p l ≡ served (stateIn tables logins fields) b l (some (get n))
+      get-done second h = shown-done _ b l copy first second h ∙ get-shows
+
+-- ── Save: the saved text of all fields is shown ──
+-- a selection without 0 shows all
+all-selected : (k : ℕ) (fs : Fields) → length fs ≤ k → selected (replicate k 1) fs ≡ fs
+unfolding selected
+all-selected zero [] h = refl
+all-selected zero (f ∷ fs) h = absurd (omega arith)
+all-selected (suc k) [] h = refl
+all-selected (suc k) (f ∷ fs) h = ap (λ (l : Fields). f ∷ l) (all-selected k fs (omega arith))
+
+pub save-shows : (tables : Bytes) (logins : List ℕ) (fields b : Bytes)
+    → conclude (stateIn tables logins fields) b [] (decideShow (saved (selected (replicate 256 1) (fieldsIn fields))) (length b))
+    ≡ outcome (stateIn tables logins fields) (save b)
+unfolding outcome decideSave stateIn
+save-shows tables logins fields b = rw (all-selected 256 (fieldsIn fields) (fields-fit fields))

@@ -1,0 +1,76 @@
+-- What a session's number says: no open session has it, or that of the user at an index; and what a request that carries it decides first.
+use Prim.Native.Nat.{ℕ, _+_, _*_, _≤_, _<_}
+use mathlib.Core.Path.{_≡_, refl, sym, _∙_}
+use mathlib.Core.Bool.{Bool, true, false, not}
+use mathlib.Core.Option.{Option, none, some}
+use mathlib.Core.List.{List}
+use native.Mathlib.Omega.{arith}
+use lib.ListN.{length, getD, take, drop}
+use Rattle.rows.specs.Rows.{rows, upTo}
+use Rattle.model.specs.Base.{Bytes}
+use Rattle.model.specs.Limits.{maxUsers}
+use Rattle.model.specs.Refusals.{Result, refused, _>>=_, _>>_, refuse_if_, _or_}
+use Rattle.model.specs.Tables.{User, userAt}
+use Rattle.model.specs.Opening.{LoginState, emptyLogin}
+use Rattle.model.specs.Serving.{Change, isSession, indexIn}
+use Rattle.model.proofs.Lists.{never, elem-below}
+use Rattle.steps.specs.Environments.{isEmptyRow}
+use Rattle.tables.specs.Memory.{userIn, usersIn}
+use Rattle.tables.proofs.Tabled.{length-decoded, counted-within}
+use Rattle.tables.proofs.Users.{user-inside, user-some}
+use Rattle.sessions.specs.declared.SessionAt.{SessionAt}
+use Rattle.sessions.specs.declared.SessionAt.the-variants.{Of, Unknown}
+use Rattle.sessions.specs.Logins.{sessionIs, hasSession, sessionAnswer}
+
+-- 14, or what is decided for the session's user
+module _ (us : List User) (ls : List LoginState) (n : ℕ) (f : User → Result ℕ Change) where
+  abbrev pub inSession : Result ℕ Change
+  inSession = (userAt us (indexIn n) or 14) >>= λ u. (refuse 14 if not (isSession (indexIn n) (getD ls (indexIn n) emptyLogin) n)) >> f u
+
+  pub no-session : hasSession us ls n ≡ false → inSession ≡ refused 14
+  unfolding hasSession sessionIs _>>=_ _>>_ _or_ refuse_if_
+  no-session h = go (userAt us (indexIn n)) refl
+    where
+      go : (o : Option User) → userAt us (indexIn n) ≡ o → inSession ≡ refused 14
+      go none e = rw e
+      go (some u) e = rw (e, rw e at h)
+
+  pub in-session : {u : User} → userAt us (indexIn n) ≡ some u → hasSession us ls n ≡ true → inSession ≡ f u
+  unfolding hasSession sessionIs _>>=_ _>>_ _or_ refuse_if_
+  in-session e h = rw (e, rw e at h)
+
+-- o is what the search for the session answered
+module _ (s : Bytes) (ls : List LoginState) (n : ℕ) {o : SessionAt} (answer : o ≡ sessionAnswer (hasSession (usersIn s) ls n) n) where
+  pub session-unknown : o ≡ Unknown → hasSession (usersIn s) ls n ≡ false
+  session-unknown is = go (hasSession (usersIn s) ls n) (sym is ∙ answer)
+    where
+      go : (b : Bool) → Unknown ≡ sessionAnswer b n → b ≡ false
+      go true h = let z : _≡_ {A = ℕ} 0 1 = cc in absurd (omega arith)
+      go false h = refl
+
+  module _ {i : ℕ} (is : o ≡ Of i) where
+    -- a session of the user in the row at i
+    pub session-known : (hasSession (usersIn s) ls n ≡ true) × (i ≡ indexIn n)
+    session-known = go (hasSession (usersIn s) ls n) (sym is ∙ answer)
+      where
+        go : (b : Bool) → Of i ≡ sessionAnswer b n → (b ≡ true) × (i ≡ indexIn n)
+        go true h = (refl, (cc))
+        go false h = let z : _≡_ {A = ℕ} 0 1 = cc in absurd (omega arith)
+
+    session-counted : i < length (upTo isEmptyRow (rows 597 maxUsers s))
+    unfolding hasSession sessionIs userAt usersIn
+    session-counted = go (userAt (usersIn s) (indexIn n)) refl
+      where
+        go : (o : Option User) → userAt (usersIn s) (indexIn n) ≡ o → i < length (upTo isEmptyRow (rows 597 maxUsers s))
+        go none e = never (sym (session-known .0) ∙ rw e)
+        go (some u) e =
+            omega (arith, session-known .1, elem-below (usersIn s) (indexIn n) u e, length-decoded isEmptyRow userIn 597 maxUsers s)
+
+    pub session-below : i < 32
+    session-below = omega (arith, session-counted, counted-within isEmptyRow userIn 597 maxUsers s refl)
+
+    pub session-inside : 19104 ≤ length s → i * 597 + 597 ≤ length s
+    session-inside h = user-inside s refl i session-counted h
+
+    pub session-user : {row : Bytes} → row ≡ take 597 (drop (i * 597) s) → userAt (usersIn s) (indexIn n) ≡ some (userIn row)
+    session-user at = rw (← session-known .1) (user-some s refl i session-counted at)

@@ -1,0 +1,3 @@
+-- Laws that the proofs cite, and callers too.
+pub mod Writers
+pub mod Values

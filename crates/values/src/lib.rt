@@ -1,0 +1,3 @@
+// Values read and written, and bytes written into buffers.
+pub mod value;
+pub mod write;

@@ -1,0 +1,81 @@
+// Writers: each stores what falls inside the buffer from `at` on, and answers where the text ends; and a copy of a slice.
+ghost use mathlib.Core.Path.{_≡_};
+ghost use mathlib.Core.List.{[], _∷_, _++_};
+ghost use Prim.Native.Nat.{_+_, _≤_, _<_, _^_};
+ghost use lib.ListN.{length, drop};
+ghost use Rattle.rows.specs.Rows.{Wrote};
+ghost use Rattle.model.specs.Base.{decimal};
+ghost use Rattle.model.specs.Values.{valueText, whole};
+
+pub fn put_byte(out: &mut [u8], at: usize, b: u8) -> usize
+    requires { ⌜ at + 1 < 2 ^ 64 ⌝ }
+    ensures { λ r. ⌜ Wrote at (b ∷ []) (now (out .entry)) r (now (out .exit)) ⌝ }
+{
+    if at < out.len() {
+        out[at] = b;
+        return at + 1;
+    }
+    at + 1
+}
+
+pub fn put(out: &mut [u8], at: usize, bytes: &[u8]) -> usize
+    requires { ⌜ at + length (now bytes) < 2 ^ 64 ⌝ }
+    ensures { λ r. ⌜ Wrote at (now (bytes .entry)) (now (out .entry)) r (now (out .exit)) ⌝ }
+{
+    let mut i = 0;
+    while i < bytes.len() {
+        put_byte(out, at + i, bytes[i]);
+        i += 1;
+    }
+    at + bytes.len()
+}
+
+// A text between two of the same quote.
+pub fn put_quoted(out: &mut [u8], at: usize, quote: u8, bytes: &[u8]) -> usize
+    requires { ⌜ at + length (now bytes) + 2 < 2 ^ 64 ⌝ }
+    ensures { λ r. ⌜ Wrote at (quote ∷ (now (bytes .entry) ++ (quote ∷ []))) (now (out .entry)) r (now (out .exit)) ⌝ }
+{
+    let open = put_byte(out, at, quote);
+    let close = put(out, open, bytes);
+    put_byte(out, close, quote)
+}
+
+// A number in decimal: the digits before the last, and the last.
+pub fn put_decimal(out: &mut [u8], at: usize, n: usize) -> usize
+    requires { ⌜ at + length (decimal n) < 2 ^ 64 ⌝ }
+    ensures { λ r. ⌜ Wrote at (decimal n) (now (out .entry)) r (now (out .exit)) ⌝ }
+{
+    let last = b'0' + ((n % 10) as u8);
+    if n < 10 {
+        return put_byte(out, at, last);
+    }
+    let to = put_decimal(out, at, n / 10);
+    put_byte(out, to, last)
+}
+
+// An i32: the smallest one's negation is no i32, so its digits are written out.
+pub fn put_whole(out: &mut [u8], at: usize, z: i32) -> usize
+    requires { ⌜ at + 11 < 2 ^ 64 ⌝ }
+    ensures { λ r. ⌜ Wrote at (valueText (whole z)) (now (out .entry)) r (now (out .exit)) ⌝ }
+{
+    if z == -2147483648 {
+        return put(out, at, b"-2147483648");
+    }
+    if z < 0 {
+        let to = put_byte(out, at, b'-');
+        return put_decimal(out, to, (0 - z) as usize);
+    }
+    put_decimal(out, at, z as usize)
+}
+
+// The bytes of `src` at the start of `dst`.
+pub fn copy(dst: &mut [u8], src: &[u8])
+    requires { ⌜ length (now src) ≤ length (now dst) ⌝ }
+    ensures { λ _. ⌜ now (dst .exit) ≡ now (src .entry) ++ drop (length (now (src .entry))) (now (dst .entry)) ⌝ }
+{
+    let mut i: usize = 0;
+    while i < src.len() {
+        dst[i] = src[i];
+        i += 1;
+    }
+}
