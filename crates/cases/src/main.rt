@@ -1,18 +1,20 @@
 // Recorded openings, each with what came of it; then recorded afternoons, with all that is printed.
 mod afternoon;
+mod case;
 mod outcome;
+mod rooms;
 mod unpack;
 
 use crate::afternoon::answer_input;
+use crate::case::open_case;
 use crate::outcome::print;
 use crate::outcome::print_refusal;
+use crate::rooms::print_rooms;
 use crate::unpack::TEXT;
 use crate::unpack::unpack;
-use opening::answer::Opening;
 use server::open::LOGINS;
 use server::open::RECORD;
 use server::open::TABLES;
-use server::open::open;
 ghost use Prim.Native.Nat.{_≤_};
 ghost use lib.ListN.{length};
 
@@ -26,64 +28,63 @@ fn run_openings(pack: &[u8])
     let mut users = [0u8; TEXT];
     let mut environments = [0u8; TEXT];
     let mut policy = [0u8; TEXT];
-    let mut fields = [0u8; TEXT];
+    let mut text = [0u8; TEXT];
     let mut tables = [0u8; TABLES];
     let mut logins = [0u16; LOGINS];
-    let mut record = [0u8; RECORD];
+    let mut fields = [0u8; RECORD];
     let mut at: usize = 0;
     while at < pack.len() {
-        let u = unpack(pack, at, &mut users);
-        let e = unpack(pack, u.to, &mut environments);
-        let p = unpack(pack, e.to, &mut policy);
-        let f = unpack(pack, p.to, &mut fields);
-        let done = open(
+        let opened = open_case(
+            pack,
+            at,
+            &mut users,
+            &mut environments,
+            &mut policy,
+            &mut text,
             &mut tables,
             &mut logins,
-            &mut record,
-            &users[..u.length],
-            &environments[..e.length],
-            &policy[..p.length],
-            &fields[..f.length],
+            &mut fields,
         );
+        let done = opened.done;
         print(done);
-        at = f.to;
+        at = opened.to;
     }
 }
 
-// The afternoons: an opening, and the lines of an input.
+// The afternoons: an opening, and the lines of an input. The last leaves the state of document 01's example.
 fn run_afternoons(pack: &[u8])
     requires { ⌜ length (now pack) ≤ 262144 ⌝ }
 {
     let mut users = [0u8; TEXT];
     let mut environments = [0u8; TEXT];
     let mut policy = [0u8; TEXT];
-    let mut fields = [0u8; TEXT];
+    let mut text = [0u8; TEXT];
     let mut input = [0u8; TEXT];
     let mut tables = [0u8; TABLES];
     let mut logins = [0u16; LOGINS];
-    let mut record = [0u8; RECORD];
+    let mut fields = [0u8; RECORD];
     let mut at: usize = 0;
     while at < pack.len() {
-        let u = unpack(pack, at, &mut users);
-        let e = unpack(pack, u.to, &mut environments);
-        let p = unpack(pack, e.to, &mut policy);
-        let f = unpack(pack, p.to, &mut fields);
-        let i = unpack(pack, f.to, &mut input);
-        let done = open(
+        let opened = open_case(
+            pack,
+            at,
+            &mut users,
+            &mut environments,
+            &mut policy,
+            &mut text,
             &mut tables,
             &mut logins,
-            &mut record,
-            &users[..u.length],
-            &environments[..e.length],
-            &policy[..p.length],
-            &fields[..f.length],
+            &mut fields,
         );
+        let done = opened.done;
         if print_refusal(done) {
             return;
         }
-        answer_input(&tables, &mut logins, &mut record, &input[..i.length]);
+        let i = unpack(pack, opened.to, &mut input);
+        answer_input(&tables, &mut logins, &mut fields, &input[..i.length]);
         at = i.to;
     }
+    print_rooms(&tables, &mut logins, &mut fields);
 }
 
 fn read_pack(name: &[u8], pack: &mut [u8]) -> usize

@@ -1,4 +1,4 @@
--- What is printed depends neither on the content of what is lent nor, where it is long enough, on its length.
+-- What is printed depends neither on what the buffer and the list held nor, where they are long enough, on their lengths.
 use Prim.Native.Nat.{ℕ, _≤_}
 use mathlib.Core.Path.{_≡_, refl, ap, ap₂, _∙_}
 use mathlib.Core.Option.{Option, none, some}
@@ -16,7 +16,7 @@ use Rattle.model.specs.Requests.{Request, login, get, push, requestOf}
 use Rattle.model.specs.Serving.{indexIn, loginAt, copyOf, readable, Change, enters, shows, stores, decideShow, decideGet, roomFor, decide, notified, shown, answerOf, Act, line, unchanged, conclude, served, outcome}
 use Rattle.model.specs.Runs.{events, requestIn}
 use Rattle.model.specs.Program.{printDeliveries, printAnswer, printed}
-use Rattle.model.specs.Claims.{eventIn, withZeros, Lent, lent}
+use Rattle.model.specs.Claims.{eventIn, withZeros, LongEnough, actOf}
 use Rattle.model.proofs.TwoRuns.{over-take}
 
 -- ── Content: from one decision the same is printed ──
@@ -99,11 +99,11 @@ line-alike s fit x b l room places =
 
 -- ── A run: each line leaves the same state to the next ──
 pub lines-alike : (P : State → Type 0) → ((s : State) (a : Act) → P s → P (outcome s a .state)) → ((s : State) → P s → CopiesFit s) →
-    (s : State) (xs : List Lent) → P s → joined (map printed (events s (map lent xs))) ≡ joined (map printed (events s (map (λ x. withZeros (x .content)) xs)))
+    (s : State) (xs : List LongEnough) → P s → joined (map printed (events s (map actOf xs))) ≡ joined (map printed (events s (map (λ x. withZeros (x .content)) xs)))
 unfolding joined events
 lines-alike P keeps fit s [] h = refl
 lines-alike P keeps fit s (x ∷ xs) h =
     let w = line-alike s (fit s h) (x .content) (x .buffer) (x .list) (x .roomForCopy) (x .roomForList) in
     ap₂ _++_ (w .0) (
-    lines-alike P keeps fit (outcome s (lent x) .state) xs (keeps s (lent x) h)
+    lines-alike P keeps fit (outcome s (actOf x) .state) xs (keeps s (actOf x) h)
     ∙ ap (λ (y : State). joined (map printed (events y (map (λ z. withZeros (z .content)) xs)))) (w .1))

@@ -24,7 +24,7 @@ use Rattle.model.specs.Serving.{loginAt, readable, readsBy, readsAt, Cha
 use Rattle.model.specs.Runs.{end, only, seen, seenFields}
 use Rattle.model.specs.Program.{lineBytes, printRun, serveWith, serve}
 use Rattle.model.specs.Claims
-use Rattle.model.specs.Claims.{Reached, spelled, SameTables, TwoRuns, isSorted, begins, noneBegins, withRecord, Lent}
+use Rattle.model.specs.Claims.{Reached, spelled, SameTables, TwoRuns, isSorted, begins, noneBegins, withRecord, LongEnough}
 use Rattle.model.proofs.Lists.{by-cases, never, none-some, All, all-every, all-getD, all-replicate, all-keep, all-imp, all-range, any-range, false-any, elem-below, keep-agree, map-agree, length-keep-le}
 use Rattle.model.proofs.Order.{path-orders, by-three, after-before, Before, Sorted, behind-trans, value-less, value-same, value-more, value-behind}
 use Rattle.model.proofs.Valid.{Valid}
@@ -303,12 +303,12 @@ pub serves-alike : Claims.ServesAlike
 unfolding serve serveWith printRun
 serves-alike b l room places t input = go (opened t) refl
   where
-    lend : Line → Lent
-    lend x = record { content = lineBytes x; buffer = b; list = l; roomForCopy = room; roomForList = places }
+    given : Line → LongEnough
+    given x = record { content = lineBytes x; buffer = b; list = l; roomForCopy = room; roomForList = places }
 
     go : (o : Result Fault State) → opened t ≡ o → printRun b l input o ≡ printRun (replicate maxCopy 0) (replicate listRoom 0) input o
     go (refused f) h = refl
-    go (done s) h = rw (map-map, map-map) at (prints-alike t s (map lend (lines input)) h)
+    go (done s) h = rw (map-map, map-map) at (prints-alike t s (map given (lines input)) h)
 
 -- ── Changes ──
 pub push-changes-one : Claims.PushChangesOne

@@ -1,5 +1,5 @@
 -- The claims about runs, each with its sentence: of document 01, or of the conditions where it says so.
-use Prim.Native.Nat.{ℕ, suc, min, _+_, _≤_, _<_}
+use Prim.Native.Nat.{ℕ, _+_, _≤_, _<_}
 use mathlib.Core.Path.{_≡_}
 use mathlib.Core.Option.{some}
 use mathlib.Core.List.{List, [], _∷_, map}
@@ -7,7 +7,7 @@ use mathlib.Core.Bool.{Bool, true, false, not, _&&_, _||_}
 use lib.Dec.{ltb}
 use lib.ListN.{length, take, replicate}
 use Rattle.model.specs.Base.{Bytes, any, keep, joined, sum, range, _==_}
-use Rattle.model.specs.Limits.{maxFields, maxCopy, maxLogins, listRoom}
+use Rattle.model.specs.Limits.{maxFields, maxCopy, listRoom}
 use Rattle.model.specs.Values.{Value, valueOf, valueText}
 use Rattle.model.specs.Fields.{Keys, Field, Fields, orderPath, byOrder, valueAt, holds, put, store}
 use Rattle.model.specs.RecordText.{Members, treeOf, count}
@@ -17,7 +17,7 @@ use Rattle.model.specs.Refusals.{refused, done}
 use Rattle.model.specs.Tables.{User, Access, Rule, Tables, userAt}
 use Rattle.model.specs.Opening.{LoginState, State, emptyLogins, Texts, Fault, quotas, opened, afterOpening}
 use Rattle.model.specs.Requests.{Request, push, requestOf}
-use Rattle.model.specs.Serving.{indexIn, loginAt, copyOf, readable, creating, stores, decide, refusal, session, length-is, accepted, Act, line, save, outcome}
+use Rattle.model.specs.Serving.{indexIn, loginAt, copyOf, readable, entered, creating, stores, decide, refusal, session, length-is, accepted, Act, line, save, outcome}
 use Rattle.model.specs.Runs.{Event, events, end, only, seenFields, sequence, got, creates, createdBy}
 use Rattle.model.specs.Program.{printed, serveWith, serve}
 
@@ -180,7 +180,7 @@ ListAscends =
 abbrev pub eventIn : State → Act → Event
 eventIn s a = record { before = s; act = a; result = outcome s a }
 
--- a line with the zeros that `serve` lends
+-- a line with the zeros that `serve` gives
 abbrev pub withZeros : Bytes → Act
 withZeros x = line x (replicate maxCopy 0) (replicate listRoom 0)
 
@@ -191,21 +191,21 @@ LinePrintsAlike =
     (printed (eventIn s (line x b l)) ≡ printed (eventIn s (withZeros x))) × (outcome s (line x b l) .state ≡ outcome s (withZeros x) .state)
 
 -- a line with a buffer and a list of its own, of any content and long enough
-pub record Lent : Type 0 where
+pub record LongEnough : Type 0 where
   pub content : Bytes
   pub buffer : Bytes
   pub list : List ℕ
   pub roomForCopy : maxCopy ≤ length buffer
   pub roomForList : listRoom ≤ length list
 
-abbrev pub lent : Lent → Act
-lent x = line (x .content) (x .buffer) (x .list)
+abbrev pub actOf : LongEnough → Act
+actOf x = line (x .content) (x .buffer) (x .list)
 
--- the same of all lines of a run: what earlier answers left in a buffer or a list lent again is not printed
+-- the same of all lines of a run: what earlier answers left in a buffer or a list that is used again is not printed
 abbrev pub PrintsAlike : Type 0
 PrintsAlike =
-    (t : Texts) (s : State) (xs : List Lent) → opened t ≡ done s →
-    joined (map printed (events s (map lent xs))) ≡ joined (map printed (events s (map (λ x. withZeros (x .content)) xs)))
+    (t : Texts) (s : State) (xs : List LongEnough) → opened t ≡ done s →
+    joined (map printed (events s (map actOf xs))) ≡ joined (map printed (events s (map (λ x. withZeros (x .content)) xs)))
 
 -- and of the program: that they are "always long enough" is all that matters of them
 abbrev pub ServesAlike : Type 0
@@ -247,7 +247,7 @@ PushChangesOne =
 -- what a login at index i makes of a state
 pub record LoggedIn (s s₁ : State) (i : ℕ) : Type 0 where
   pub ownLogin : i < length (s .loginStates) →
-      loginAt s₁ i ≡ record { logins = min (suc (loginAt s i .logins)) maxLogins; isOpen = true; created = loginAt s i .created }
+      loginAt s₁ i ≡ entered (loginAt s i)
   pub otherLogins : (j : ℕ) → (j ≡ i → ⊥) → loginAt s₁ j ≡ loginAt s j
   pub fieldsStay : s₁ .fields ≡ s .fields
   pub tablesStay : s₁ .tables ≡ s .tables

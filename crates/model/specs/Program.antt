@@ -43,7 +43,7 @@ unfoldable pub printRun : Bytes → List ℕ → Bytes → Result Fault State �
 printRun b l input (refused f) = printFault f
 printRun b l input (done s) = joined (map printed (events s (map (λ x. line (lineBytes x) b l) (lines input))))
 
--- with this buffer and this list lent each time
+-- with this buffer and this list each time
 unfoldable pub serveWith : Bytes → List ℕ → Texts → Bytes → Bytes
 serveWith b l t input = printRun b l input (opened t)
 

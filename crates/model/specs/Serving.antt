@@ -72,12 +72,16 @@ pub data Change : Type 0 where
   shows : Bytes → Change  -- a text goes into the buffer
   stores : ℕ → LoginState → Field → Change  -- a field holds its value, and the login state at an index becomes this one
 
+-- a login: one more, up to the last, and a session is open
+abbrev pub entered : LoginState → LoginState
+entered a = record { logins = min (suc (a .logins)) maxLogins; isOpen = true; created = a .created }
+
 -- "12 user unknown or key wrong; 13 the user has a session"
 unfoldable pub decideLogin : ℕ → User → LoginState → Bytes → Result ℕ Change
 decideLogin i u a k = do
   refuse 12 if not (u .key == k)
   refuse 13 if a .isOpen
-  done (enters i (record { logins = min (suc (a .logins)) maxLogins; isOpen = true; created = a .created }))
+  done (enters i (entered a))
 
 -- "15 the lent buffer is shorter" than the text
 unfoldable pub decideShow : Bytes → ℕ → Result ℕ Change
@@ -103,13 +107,13 @@ decidePush rs i u a held n p v = do
   refuse 17 if not held && leb (u .quota) (a .created)
   done (stores i (creating a held) (record { path = p; value = v }))
 
--- the length lent to a request, 0 where it is lent nothing
+-- the length of what a request writes into, 0 where it writes into nothing
 unfoldable pub roomFor : Request → Bytes → List ℕ → ℕ
 roomFor (login u k) b l = 0
 roomFor (get n) b l = length b
 roomFor (push n p v) b l = length l
 
--- what a request, with the length lent, is decided to be; PUSH: "15 the lent delivery list has fewer than 32 numbers; 14; .."
+-- what a request, with that length, is decided to be; PUSH: "15 the lent delivery list has fewer than 32 numbers; 14; .."
 unfoldable pub decide : State → Request → ℕ → Result ℕ Change
 decide s (login n k) room = do
   (i, u) ← userNamed n (s .tables .users) or 12
@@ -173,7 +177,7 @@ answerOf (shows c) = length-is (length c)
 answerOf (stores i a f) = accepted
 
 -- ── Acts ──
--- a line with the buffer and the list lent to it, or a save with its buffer
+-- a line with its buffer and its list, or a save with its buffer
 pub data Act : Type 0 where
   line : Bytes → Bytes → List ℕ → Act
   save : Bytes → Act
@@ -186,7 +190,7 @@ pub record Outcome : Type 0 where
   pub list : List ℕ
   pub told : ℕ
 
--- what was lent with new content at its start: "bytes behind it keep their values", "the rest of it is unchanged"
+-- a buffer or a list with new content at its start: "bytes behind it keep their values", "the rest of it is unchanged"
 unfoldable pub over : {A : Type 0} → List A → List A → List A
 over new old = new ++ drop (length new) old
 

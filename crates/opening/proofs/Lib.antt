@@ -1,5 +1,7 @@
--- Laws that the proofs cite: the quotas together, fields in conflict with a policy, a record that is opened, and the tables that are.
+-- Laws that the proofs cite: the quotas together, fields in conflict with a policy, a record that is opened, the tables that are, the four texts, and zeros.
 pub mod Quotas
 pub mod Conflicting
 pub mod Opened
 pub mod TablesOpened
+pub mod AllOpened
+pub mod Zeros

@@ -141,7 +141,7 @@ abbrev noTables : Tables
 noTables = record { users = []; policy = [] }
 
 -- the first row is empty
-first-empty : {B : Type 0} (decode : Bytes → B) (k n : ℕ) (s : Bytes) → 0 < k → 0 < n → getD s 0 0 ≡ 0 → table isEmptyRow decode k n s ≡ []
+pub first-empty : {B : Type 0} (decode : Bytes → B) (k n : ℕ) (s : Bytes) → 0 < k → 0 < n → getD s 0 0 ≡ 0 → table isEmptyRow decode k n s ≡ []
 unfolding isEmptyRow
 first-empty decode k n s p q h =
     let e : getD (take k (drop 0 s)) 0 0 ≡ 0 = part-at 0 k s 0 0 p ∙ h in

@@ -30,7 +30,7 @@ abbrev pub openingAnswer : {A : Type 0} → Result Fault A → Opening
 openingAnswer (refused f) = Refused (f .number) (f .inText) (f .line)
 openingAnswer (done a) = Done
 
--- a refusal keeps what was lent, byte for byte
+-- a refusal keeps an array, byte for byte
 abbrev pub KeptIfRefused : {A : Type 0} → Opening → A → A → Type 0
 KeptIfRefused Done before now = Unit {0}
 KeptIfRefused (Refused n t l) before now = now ≡ before

@@ -1,4 +1,4 @@
-// What the operations answer.
+// What an opening answers.
 
 // An opening: accepted, or a refusal's number, text and line.
 pub enum Opening {

@@ -7,6 +7,7 @@ use record::table::SLOTS;
 use record::table::count;
 use record::table::slot_at;
 use tables::conflicts::has_conflict;
+use tables::layout::POLICY;
 use tables::layout::RULES;
 use tables::layout::USER;
 use tables::layout::USERS;
@@ -73,7 +74,7 @@ pub fn open_record(tables: &[u8], table: &mut [u8; 35328], s: &[u8]) -> Opening
     if SLOTS - n < all_quotas(tables) {
         return Opening::Refused(9, 4, 0);
     }
-    if has_conflicting_field(&tables[19104..], table) {
+    if has_conflicting_field(&tables[POLICY..], table) {
         return Opening::Refused(5, 4, 0);
     }
     Opening::Done

@@ -1,4 +1,5 @@
-// The four texts of an opening: the tables into memory, and the record's text against them.
+// Opening the four texts: the tables into memory, the record's text against them, all or nothing.
 pub mod answer;
-pub mod fields;
-pub mod texts;
+mod fields;
+pub mod open;
+mod texts;

@@ -1,6 +1,7 @@
 // The texts of the three tables opened together.
 use crate::answer::Opening;
 use tables::conflicts::first_conflict;
+use tables::layout::POLICY;
 use tabletext::read::Table;
 use tabletext::read::TableRead;
 use tabletext::read::read_table;
@@ -18,7 +19,7 @@ pub fn open_tables(tables: &mut [u8], users: &[u8], environments: &[u8], policy:
     ensures { λ r. ⌜ openingResult r (tablesIn (now (tables .exit))) ≡ openTables (textsOf (now (users .entry)) (now (environments .entry)) (now (policy .entry)) []) ⌝ }
 {
     tables[0] = 0;
-    tables[19104] = 0;
+    tables[POLICY] = 0;
     if let TableRead::Refused(e, n) = read_table(Table::Users, tables, users) {
         return Opening::Refused(e, 1, n);
     }
@@ -28,7 +29,7 @@ pub fn open_tables(tables: &mut [u8], users: &[u8], environments: &[u8], policy:
     if let TableRead::Refused(e, n) = read_table(Table::Policy, tables, policy) {
         return Opening::Refused(e, 3, n);
     }
-    let n = first_conflict(&tables[19104..]);
+    let n = first_conflict(&tables[POLICY..]);
     if n != 0 {
         return Opening::Refused(5, 3, n);
     }

@@ -38,9 +38,9 @@ use Rattle.deliveries.proofs.Delivered.{delivery-as}
 use Rattle.server.specs.declared.answer.Reply.{Reply}
 use Rattle.server.specs.declared.answer.Reply.the-variants.{Refused, Session, Length, Pushed}
 use Rattle.server.proofs.answer.Reply.{the-type}
-use Rattle.server.specs.Memory.{stateIn}
+use Rattle.opening.specs.Memory.{stateIn}
 use Rattle.server.specs.Replies.{answerIn, toldIn, outcomeIn}
-use Rattle.printing.specs.Printed.{Inside}
+use Rattle.printing.specs.Printed.{Inside, Left}
 
 -- ── A line that asks for a push ──
 get-push : {C : Type 0} {m n : ℕ} {p : Keys} {v : Value} → some (get m) ≡ some (push n p v) → C
@@ -222,9 +222,9 @@ module _ (s : State) (t b : Bytes) (l : List ℕ) (r : Reply) (s₁ : State) (b�
   pub pushed-inside : {k : ℕ} → r ≡ Pushed k → {a : ℕ} → a ≡ runEnd (isNot 0x3B) t 5 → a < length t
   pushed-inside is at = let (n, p, v, asks) = pushed-line is in line-parts t n p v asks at .0
 
-  pub reply-state : s₁ ≡ outcome s (line t b l) .state
+  pub reply-left : Left (outcome s (line t b l)) s₁ b₁ l₁
   unfolding outcomeIn
-  reply-state = ap (λ (o : Outcome). o .state) left
+  reply-left = (ap (λ (o : Outcome). o .state) left, ap (λ (o : Outcome). o .buffer) left, ap (λ (o : Outcome). o .list) left)
 
   -- for any other reply than to a push, the answer alone
   pub printed-other : NotPushed r → printed (eventIn s (line t b l)) ≡ printAnswer b₁ (answerIn r)

@@ -1,8 +1,10 @@
 -- What is printed for an opening, and what a reply may say of a buffer.
 use Prim.Native.Nat.{ℕ, _≤_}
-use mathlib.Core.List.{[]}
+use mathlib.Core.Path.{_≡_}
+use mathlib.Core.List.{List, []}
 use Rattle.model.specs.Base.{Bytes}
-use Rattle.model.specs.Opening.{fault}
+use Rattle.model.specs.Opening.{State, fault}
+use Rattle.model.specs.Serving.{Outcome}
 use Rattle.model.specs.Program.{printFault}
 use Rattle.opening.specs.declared.answer.Opening.{Opening}
 use Rattle.opening.specs.declared.answer.Opening.the-variants as opening
@@ -20,3 +22,7 @@ Inside (reply.Refused e) room = Unit {0}
 Inside (reply.Session n) room = Unit {0}
 Inside (reply.Length n) room = n ≤ room
 Inside (reply.Pushed k) room = Unit {0}
+
+-- the state, the buffer and the list that an act leaves
+abbrev pub Left : Outcome → State → Bytes → List ℕ → Type 0
+Left o s b l = (s ≡ o .state) × (b ≡ o .buffer) × (l ≡ o .list)

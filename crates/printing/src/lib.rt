@@ -19,9 +19,9 @@ ghost use Rattle.model.specs.Base.{decimal};
 ghost use Rattle.model.specs.Serving as serving;
 ghost use Rattle.model.specs.Program.{printAnswer, printed};
 ghost use Rattle.model.specs.Claims.{eventIn};
-ghost use Rattle.server.specs.Memory.{stateIn};
+ghost use Rattle.opening.specs.Memory.{stateIn};
 ghost use Rattle.server.specs.Replies.{answerIn};
-ghost use Rattle.printing.specs.Printed.{Inside, openingText};
+ghost use Rattle.printing.specs.Printed.{Inside, Left, openingText};
 
 // A copy never exceeds this many bytes.
 pub const COPY: usize = 51069;
@@ -68,7 +68,7 @@ pub fn respond(
     list: &mut [u32; LIST],
     out: &mut [u8],
 ) -> usize
-    ensures { λ r. ⌜ stateIn (now (tables .entry)) (now (logins .exit)) (now (fields .exit)) ≡ serving.outcome (stateIn (now (tables .entry)) (now (logins .entry)) (now (fields .entry))) (serving.line (now (line .entry)) (now (buffer .entry)) (now (list .entry))) .state ⌝ }
+    ensures { λ _. ⌜ Left (serving.outcome (stateIn (now (tables .entry)) (now (logins .entry)) (now (fields .entry))) (serving.line (now (line .entry)) (now (buffer .entry)) (now (list .entry)))) (stateIn (now (tables .entry)) (now (logins .exit)) (now (fields .exit))) (now (buffer .exit)) (now (list .exit)) ⌝ }
     ensures { λ r. ⌜ Wrote 0 (printed (eventIn (stateIn (now (tables .entry)) (now (logins .entry)) (now (fields .entry))) (serving.line (now (line .entry)) (now (buffer .entry)) (now (list .entry))))) (now (out .entry)) r (now (out .exit)) ⌝ }
     ensures { λ r. ⌜ r ≤ 65536 ⌝ }
 {

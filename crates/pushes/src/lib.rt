@@ -5,6 +5,7 @@ use sessions::LoginState;
 use sessions::SessionAt;
 use sessions::session;
 use sessions::state_at;
+use tables::layout::POLICY;
 use tables::layout::USER;
 use tables::layout::quota;
 use tables::layout::row_at;
@@ -48,7 +49,7 @@ pub fn decide(tables: &[u8], logins: &[u16], fields: &[u8], n: u32, path: &[u8])
         return Ruling::Refused(14);
     };
     let user = row_at(tables, i, USER);
-    if !may(&tables[19104..], user, path, true) {
+    if !may(&tables[POLICY..], user, path, true) {
         return Ruling::Refused(16);
     }
     let state = state_at(logins, i);

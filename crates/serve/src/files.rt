@@ -2,7 +2,7 @@
 ghost use Prim.Native.Nat.{_≤_};
 ghost use lib.ListN.{length};
 
-// One byte more than an opening accepts: a longer file is refused for its first bytes' number alone.
+// One byte more than an opening accepts, so that a longer file is seen to be too long.
 pub const TEXT: usize = 65537;
 
 // The first bytes of a file, and how many there are; a file that cannot be opened counts as empty.

@@ -9,8 +9,8 @@ use server::open::LOGINS;
 use server::open::RECORD;
 use server::open::TABLES;
 ghost use mathlib.Core.Path.{_≡_};
-ghost use Prim.Native.Nat.{_+_, _≤_};
-ghost use lib.ListN.{length};
+ghost use Prim.Native.Nat.{_+_, _-_, _≤_, min};
+ghost use lib.ListN.{length, take, drop};
 
 // What is read at once.
 const INPUT: usize = 65536;
@@ -62,7 +62,8 @@ fn answer_lines(
 // The bytes from `from` to `to` moved to the start, as many as are kept of a line; how many those are.
 fn keep_line(input: &mut [u8], from: usize, to: usize) -> usize
     requires { ⌜ (from ≤ to) × (to ≤ length (now input)) ⌝ }
-    ensures { λ r. ⌜ (r ≤ 257) × (r ≤ length (now (input .exit))) ⌝ }
+    ensures { λ r. ⌜ (r ≤ 257) × (r ≤ length (now (input .exit))) × (r ≡ min 257 (to - from)) ⌝ }
+    ensures { λ r. ⌜ take r (now (input .exit)) ≡ take 257 (drop from (take to (now (input .entry)))) ⌝ }
 {
     let mut n: usize = 0;
     while n < LINE && from + n < to {

@@ -1,4 +1,3 @@
 -- Laws that the proofs cite: the four texts opened, what a request leaves, and what a line and a push leave.
-pub mod AllOpened
 pub mod Replied
 pub mod Pushed

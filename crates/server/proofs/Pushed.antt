@@ -43,16 +43,22 @@ use Rattle.requests.specs.declared.Parsed.the-variants.{Is, Bad}
 use Rattle.requests.specs.Lines.{requestIn, parsedAnswer, RequestInText, ParsedInText}
 use Rattle.server.specs.declared.answer.Reply.{Reply}
 use Rattle.server.specs.declared.answer.Reply.the-variants.{Refused, Session, Length, Pushed}
-use Rattle.server.specs.Memory.{stateIn}
-use Rattle.server.specs.Replies.{outcomeIn, KeptIfRefused}
+use Rattle.opening.specs.Memory.{stateIn}
+use Rattle.server.specs.Replies.{outcomeIn, LoginsKept, FieldsKept}
 use Rattle.server.proofs.Replied.{no-request, request-refused}
 
 -- what a request leaves alone is kept, whatever is replied
-pub kept-same : (r : Reply) (x : List ℕ) → KeptIfRefused r x x
-kept-same (Refused e) x = refl
-kept-same (Session n) x = tt
-kept-same (Length n) x = tt
-kept-same (Pushed k) x = tt
+pub same-logins : (r : Reply) (x : List ℕ) → LoginsKept r x x
+same-logins (Refused e) x = refl
+same-logins (Session n) x = tt
+same-logins (Length n) x = refl
+same-logins (Pushed k) x = tt
+
+pub same-fields : (r : Reply) (x : Bytes) → FieldsKept r x x
+same-fields (Refused e) x = refl
+same-fields (Session n) x = refl
+same-fields (Length n) x = refl
+same-fields (Pushed k) x = tt
 
 -- a line that cannot be taken apart
 pub line-refused : (s path : Bytes) {r : Parsed} → parsedAnswer s (pathIn path) r ≡ model.requestOf s → r ≡ Bad

@@ -34,8 +34,8 @@ use Rattle.sessions.specs.declared.SessionAt.the-variants.{Of, Unknown}
 use Rattle.server.specs.declared.answer.Reply.{Reply}
 use Rattle.server.specs.declared.answer.Reply.the-variants.{Refused, Session, Length}
 use Rattle.sessions.proofs.Known.{inSession, no-session, in-session, session-unknown, session-known, session-user}
-use Rattle.server.specs.Memory.{stateIn}
-use Rattle.server.specs.Replies.{outcomeIn, KeptIfRefused}
+use Rattle.opening.specs.Memory.{stateIn}
+use Rattle.server.specs.Replies.{outcomeIn, LoginsKept}
 
 -- ── Refusals: all is as it was ──
 module _ (s : State) (b : Bytes) (l : List ℕ) where
@@ -55,7 +55,7 @@ abbrev pub loginReply : LoginReply → Reply
 loginReply (entry.Session n) = Session n
 loginReply (entry.Refused e) = Refused e
 
-reply-kept : (r : LoginReply) (before now : List ℕ) → LoginKept r before now → KeptIfRefused (loginReply r) before now
+reply-kept : (r : LoginReply) (before now : List ℕ) → LoginKept r before now → LoginsKept (loginReply r) before now
 reply-kept (entry.Session n) before now h = tt
 reply-kept (entry.Refused e) before now h = h
 
@@ -83,7 +83,7 @@ module _ (tables : Bytes) (logins : List ℕ) (n k : Bytes) where
         go (done (shows c)) h = absurd (decided _ (login n k) 0 _ (login-decides fs 0 ∙ h))
         go (done (stores i a f)) h = absurd (decided _ (login n k) 0 _ (login-decides fs 0 ∙ h))
 
-    pub login-kept : LoginKept answer logins after → KeptIfRefused (loginReply r) logins after
+    pub login-kept : LoginKept answer logins after → LoginsKept (loginReply r) logins after
     login-kept h = reply-kept r logins after (rw is at h)
 
 -- ── A text shown: it was measured on no bytes, and then written if it fits ──

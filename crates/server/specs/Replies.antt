@@ -26,9 +26,16 @@ toldIn (Pushed k) = k
 unfoldable pub outcomeIn : Reply → State → Bytes → List ℕ → Outcome
 outcomeIn r s b l = record { answer = answerIn r; state = s; buffer = b; list = l; told = toldIn r }
 
--- a refusal keeps what was lent, number by number
-abbrev pub KeptIfRefused : Reply → List ℕ → List ℕ → Type 0
-KeptIfRefused (Refused e) before now = now ≡ before
-KeptIfRefused (Session n) before now = Unit {0}
-KeptIfRefused (Length n) before now = Unit {0}
-KeptIfRefused (Pushed k) before now = Unit {0}
+-- a refusal and a text that was shown keep the login states, number by number
+abbrev pub LoginsKept : Reply → List ℕ → List ℕ → Type 0
+LoginsKept (Refused e) before now = now ≡ before
+LoginsKept (Session n) before now = Unit {0}
+LoginsKept (Length n) before now = now ≡ before
+LoginsKept (Pushed k) before now = Unit {0}
+
+-- all but an accepted push keep the fields, byte for byte
+abbrev pub FieldsKept : Reply → Bytes → Bytes → Type 0
+FieldsKept (Refused e) before now = now ≡ before
+FieldsKept (Session n) before now = now ≡ before
+FieldsKept (Length n) before now = now ≡ before
+FieldsKept (Pushed k) before now = Unit {0}

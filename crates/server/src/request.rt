@@ -16,6 +16,7 @@ use sessions::LoginReply;
 use sessions::SessionAt;
 use sessions::put_state;
 use sessions::session;
+use tables::layout::POLICY;
 use tables::layout::USER;
 use tables::layout::row_at;
 use values::value::Scalar;
@@ -31,14 +32,14 @@ ghost use Rattle.model.specs.Serving as serving;
 ghost use Rattle.values.specs.Scalars.{valueIn, InText};
 ghost use Rattle.paths.specs.Layout.{pathIn};
 ghost use Rattle.record.specs.Slots.{heldValue, isEmpty};
-ghost use Rattle.server.specs.Memory.{stateIn};
-ghost use Rattle.server.specs.Replies.{outcomeIn, KeptIfRefused};
+ghost use Rattle.opening.specs.Memory.{stateIn};
+ghost use Rattle.server.specs.Replies.{outcomeIn, LoginsKept, FieldsKept};
 
 // LOGIN, the user and the key in the line before and behind the `;` at `cut`.
 fn login(tables: &[u8], logins: &mut [u16], line: &[u8], cut: usize) -> Reply
     requires { ⌜ (length (now tables) ≡ 47200) × (length (now logins) ≡ 96) × (6 ≤ cut) × (cut < length (now line)) ⌝ }
     ensures { λ r. ⌜ ((fs b : Bytes) (l : List ℕ) → outcomeIn r (stateIn (now (tables .entry)) (now (logins .exit)) fs) b l ≡ serving.served (stateIn (now (tables .entry)) (now (logins .entry)) fs) b l (some (model.login (take (cut - 6) (drop 6 (now (line .entry)))) (drop (cut + 1) (now (line .entry)))))) ⌝ }
-    ensures { λ r. ⌜ KeptIfRefused r (now (logins .entry)) (now (logins .exit)) ⌝ }
+    ensures { λ r. ⌜ LoginsKept r (now (logins .entry)) (now (logins .exit)) ⌝ }
 {
     let from = cut + 1;
     match sessions::login(tables, logins, &line[6..cut], &line[from..]) {
@@ -56,7 +57,7 @@ fn get(tables: &[u8], logins: &[u16], fields: &[u8; RECORD], n: u32, buffer: &mu
         return Reply::Refused(14);
     };
     let user = row_at(tables, i, USER);
-    let policy = &tables[19104..];
+    let policy = &tables[POLICY..];
     let mut shown = [0u8; 256];
     select(&mut shown, policy, user, fields);
     let length = put_copy(&mut buffer[..0], 0, policy, user, fields, &shown);
@@ -81,7 +82,7 @@ fn push(
     requires { ⌜ (length (now tables) ≡ 47200) × (length (now logins) ≡ 96) × (length (now fields) ≡ 35328) × (length (now line) ≤ 65536) × InText value (now line) ⌝ }
     requires { ⌜ (isEmpty (now path) ≡ false) × (heldValue (valueIn (now line) value) ≡ valueIn (now line) value) ⌝ }
     ensures { λ r. ⌜ ((b : Bytes) → outcomeIn r (stateIn (now (tables .entry)) (now (logins .exit)) (now (fields .exit))) b (now (list .exit)) ≡ serving.served (stateIn (now (tables .entry)) (now (logins .entry)) (now (fields .entry))) b (now (list .entry)) (some (model.push n (pathIn (now (path .entry))) (valueIn (now (line .entry)) value)))) ⌝ }
-    ensures { λ r. ⌜ KeptIfRefused r (now (logins .entry)) (now (logins .exit)) × KeptIfRefused r (now (fields .entry)) (now (fields .exit)) ⌝ }
+    ensures { λ r. ⌜ LoginsKept r (now (logins .entry)) (now (logins .exit)) × FieldsKept r (now (fields .entry)) (now (fields .exit)) ⌝ }
 {
     if list.len() < 32 {
         return Reply::Refused(15);
@@ -108,7 +109,7 @@ pub fn request(
     list: &mut [u32],
 ) -> Reply
     ensures { λ r. ⌜ outcomeIn r (stateIn (now (tables .entry)) (now (logins .exit)) (now (fields .exit))) (now (buffer .exit)) (now (list .exit)) ≡ serving.outcome (stateIn (now (tables .entry)) (now (logins .entry)) (now (fields .entry))) (serving.line (now (line .entry)) (now (buffer .entry)) (now (list .entry))) ⌝ }
-    ensures { λ r. ⌜ KeptIfRefused r (now (logins .entry)) (now (logins .exit)) × KeptIfRefused r (now (fields .entry)) (now (fields .exit)) ⌝ }
+    ensures { λ r. ⌜ LoginsKept r (now (logins .entry)) (now (logins .exit)) × FieldsKept r (now (fields .entry)) (now (fields .exit)) ⌝ }
 {
     let mut path = [0u8; 103];
     let Parsed::Is(asked) = parse(line, &mut path) else {

@@ -7,7 +7,7 @@ ghost use mathlib.Core.List.{List, []};
 ghost use Prim.Native.Nat.{ℕ};
 ghost use Rattle.model.specs.Base.{Bytes};
 ghost use Rattle.model.specs.Serving.{save, outcome};
-ghost use Rattle.server.specs.Memory.{stateIn};
+ghost use Rattle.opening.specs.Memory.{stateIn};
 ghost use Rattle.server.specs.Replies.{outcomeIn};
 
 // Save, with any buffer: the text is measured, and written if it fits.

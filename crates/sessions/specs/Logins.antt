@@ -1,5 +1,5 @@
 -- What the numbers of the login states mean, whatever they are.
-use Prim.Native.Nat.{ℕ, suc, min}
+use Prim.Native.Nat.{ℕ}
 use mathlib.Core.Path.{_≡_}
 use mathlib.Core.Bool.{Bool, true, false, not}
 use mathlib.Core.List.{List, map}
@@ -8,10 +8,11 @@ use lib.Dec.{eqb}
 use lib.ListN.{getD, set}
 use Rattle.rows.specs.Rows.{rows}
 use Rattle.model.specs.Base.{Bytes}
-use Rattle.model.specs.Limits.{maxUsers, maxLogins}
+use Rattle.model.specs.Limits.{maxUsers}
 use Rattle.model.specs.Refusals.{Result, refused, done, _>>=_, _or_}
 use Rattle.model.specs.Tables.{User, userAt, userNamed}
 use Rattle.model.specs.Opening.{LoginState, emptyLogin}
+use Rattle.model.specs.Serving as serving
 use Rattle.model.specs.Serving.{Change, enters, shows, stores, isSession, indexIn, sessionNumber, decideLogin}
 use Rattle.sessions.specs.declared.LoginState as code
 use Rattle.sessions.specs.declared.LoginReply.{LoginReply}
@@ -31,9 +32,9 @@ unfoldable pub stateOf : code.LoginState → LoginState
 stateOf s = record { logins = s .logins; isOpen = s .is_open; created = s .created }
 
 -- ── A login ──
--- one login more, and a session is open
+-- the login state after a login, kept shut for the proofs
 unfoldable pub entered : LoginState → LoginState
-entered a = record { logins = min (suc (a .logins)) maxLogins; isOpen = true; created = a .created }
+entered a = serving.entered a
 
 unfoldable pub loginDecided : List User → List LoginState → Bytes → Bytes → Result ℕ Change
 loginDecided us ls n k = do
@@ -64,7 +65,7 @@ unfoldable pub sessionIs : Option User → ℕ → LoginState → ℕ → Bool
 sessionIs none i a n = false
 sessionIs (some u) i a n = isSession i a n
 
--- the user index of the number n, if an open session of a user has it
+-- whether an open session of a user has the number n
 unfoldable pub hasSession : List User → List LoginState → ℕ → Bool
 hasSession us ls n = sessionIs (userAt us (indexIn n)) (indexIn n) (getD ls (indexIn n) emptyLogin) n
 

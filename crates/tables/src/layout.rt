@@ -14,6 +14,9 @@ pub const USER: usize = 597;
 
 pub const USERS: usize = 32;
 
+// Behind the users' rows stand the policy's.
+pub const POLICY: usize = 19104;
+
 pub const RULE: usize = 439;
 
 pub const RULES: usize = 64;

@@ -1,4 +1,5 @@
 // Who may read and who may write a path.
+use crate::layout::POLICY;
 use crate::layout::RULE;
 use crate::layout::RULES;
 use crate::layout::USER;
@@ -58,7 +59,7 @@ fn may_at(tables: &[u8], i: usize, path: &[u8], writing: bool) -> bool
     if row_count(tables, USER, USERS) <= i {
         return false;
     }
-    may(&tables[19104..], row_at(tables, i, USER), path, writing)
+    may(&tables[POLICY..], row_at(tables, i, USER), path, writing)
 }
 
 // Whether the user at an index may read a path.

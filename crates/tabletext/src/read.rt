@@ -7,6 +7,7 @@ use lines::count;
 use lines::has_column;
 use lines::until;
 use lines::value;
+use tables::layout::POLICY;
 ghost use mathlib.Core.Path.{_≡_};
 ghost use mathlib.Core.Bool.{_&&_};
 ghost use Prim.Native.Nat.{_≤_};
@@ -66,9 +67,9 @@ fn add_row(t: Table, tables: &mut [u8], head: &[u8], line: &[u8]) -> RowRead
     ensures { λ r. ⌜ tablesIn (now (tables .exit)) ≡ keptOr (tablesIn (now (tables .entry))) (tableOf t .row (under (split (now (head .entry))) (split (now (line .entry)))) (tablesIn (now (tables .entry)))) ⌝ }
 {
     match t {
-        Table::Users => add_user(&mut tables[..19104], head, line),
-        Table::Environments => add_binding(&mut tables[..19104], head, line),
-        Table::Policy => add_rule(&mut tables[19104..], head, line),
+        Table::Users => add_user(&mut tables[..POLICY], head, line),
+        Table::Environments => add_binding(&mut tables[..POLICY], head, line),
+        Table::Policy => add_rule(&mut tables[POLICY..], head, line),
     }
 }
 

@@ -6,7 +6,7 @@ use borrow.Author.Needs.{needs}
 use lib.ListN.{length, length-drop}
 use Rattle.rows.proofs.Parts.{tail-part}
 use Rattle.values.proofs.Writers.{wrote-both}
-use Rattle.printing.proofs.Responded.{reply-inside, reply-state, pushed-long, pushed-inside, pushed-few, printed-other, printed-pushed}
+use Rattle.printing.proofs.Responded.{reply-inside, reply-left, pushed-long, pushed-inside, pushed-few, printed-other, printed-pushed}
 use Rattle.printing.proofs.respond.Statement.{statement}
 use Rattle.printing.proofs.respond.Tie as tie
 
@@ -29,7 +29,7 @@ returns : tie.Need-returns
 returns c =
     let put = c .before .before .before in
     let left = put .before .before .before .before .request .ensures .0 in
-    (reply-state _ _ _ _ _ _ _ _ left, (rw (printed-other _ _ _ _ _ _ _ _ left (c .match .keys2)) (put .put-answer .ensures .0), omega arith))
+    (reply-left _ _ _ _ _ _ _ _ left, (rw (printed-other _ _ _ _ _ _ _ _ left (c .match .keys2)) (put .put-answer .ensures .0), omega arith))
 
 until-requires : tie.Need-until-requires
 until-requires c κs =
@@ -76,7 +76,7 @@ returns-2 c =
     let put = until .before .before .before .before .before .before in
     let left = put .before .before .before .before .request .ensures .0 in
     let sent = rw tail-part at (c .before .before .put-deliveries .ensures .0) in (
-      reply-state _ _ _ _ _ _ _ _ left,
+      reply-left _ _ _ _ _ _ _ _ left,
       (
         rw (printed-pushed _ _ _ _ _ _ _ _ left is (until .until .ensures)) (wrote-both _ _ _ _ _ _ _ _ (put .put-answer .ensures .0) sent),
         omega (arith, put .put-answer .ensures .1),

@@ -2,7 +2,7 @@
 use mathlib.Core.Path.{refl, _∙_}
 use native.Mathlib.Omega.{arith}
 use borrow.Author.Needs.{needs}
-use Rattle.server.proofs.Pushed.{line-refused, asks, asked-inside, asked-short, line-served, push-asked, kept-same}
+use Rattle.server.proofs.Pushed.{line-refused, asks, asked-inside, asked-short, line-served, push-asked, same-logins, same-fields}
 use Rattle.server.proofs.request.request.Statement.{statement}
 use Rattle.server.proofs.request.request.Tie as tie
 
@@ -56,7 +56,7 @@ returns-2 c =
     let a = p .before .before .before .before .before .args in
     let (leaves, kept) = c .login .ensures in
     let served = line-served _ _ (p .parse .ensures .0) (q .before .before .before .asked .given .1) (q .asked2 .given .1) _ _ _ in
-    (leaves (a .fields .now) (a .buffer .now) (a .list .now) ∙ served, (kept, kept-same (c .login .result) (a .fields .now)))
+    (leaves (a .fields .now) (a .buffer .now) (a .list .now) ∙ served, (kept, same-fields (c .login .result) (a .fields .now)))
 
 same-length : tie.Need-same-length
 same-length c = search needs
@@ -68,7 +68,7 @@ returns-3 c =
     let p = q .before .before .before .before .before in
     let a = p .before .before .before .before .before .args in
     let served = line-served _ _ (p .parse .ensures .0) (q .before .before .before .asked .given .1) (q .asked3 .given .1) _ _ _ in
-    (g .get .ensures (a .list .now) ∙ served, (kept-same (g .get .result) (a .logins .now), kept-same (g .get .result) (a .fields .now)))
+    (g .get .ensures (a .list .now) ∙ served, (same-logins (g .get .result) (a .logins .now), same-fields (g .get .result) (a .fields .now)))
 
 same-length-2 : tie.Need-same-length-2
 same-length-2 c = search needs

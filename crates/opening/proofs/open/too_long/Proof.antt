@@ -3,9 +3,9 @@ use native.Mathlib.Omega.{arith}
 use lib.ListN.{length}
 use borrow.Author.Tests.{lt-ltb, le-ltb}
 use Rattle.model.specs.Limits.{maxText}
 use Rattle.opening.specs.Answers.{textsOf, tooLong}
-use Rattle.server.proofs.open.too_long.Statement.{statement}
-use Rattle.server.proofs.open.too_long.Tie as tie
+use Rattle.opening.proofs.open.too_long.Statement.{statement}
+use Rattle.opening.proofs.open.too_long.Tie as tie
 
 returns : tie.Need-returns
 unfolding tooLong textsOf
@@ -37,7 +37,7 @@ returns-4 c =
       le-ltb maxText (length (a .users .now)) (omega arith),
       le-ltb maxText (length (a .environments .now)) (omega arith),
       le-ltb maxText (length (a .policy .now)) (omega arith),
-      lt-ltb maxText (length (a .fields .now)) (omega arith),
+      lt-ltb maxText (length (a .text .now)) (omega arith),
     )
 
 returns-5 : tie.Need-returns-5
@@ -48,7 +48,7 @@ returns-5 c =
       le-ltb maxText (length (a .users .now)) (omega arith),
       le-ltb maxText (length (a .environments .now)) (omega arith),
       le-ltb maxText (length (a .policy .now)) (omega arith),
-      le-ltb maxText (length (a .fields .now)) (omega arith),
+      le-ltb maxText (length (a .text .now)) (omega arith),
     )
 
 pub too-long-spec : {M : Type 1} → statement M

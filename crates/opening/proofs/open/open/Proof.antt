@@ -2,9 +2,9 @@
 use mathlib.Core.Path.{refl}
 use native.Mathlib.Omega.{arith}
 use borrow.Author.Needs.{needs}
-use Rattle.server.proofs.AllOpened.{opened-long, lengths, tables-refused, record-refused, opened-done, refusal, acceptance}
-use Rattle.server.proofs.open.open.Statement.{statement}
-use Rattle.server.proofs.open.open.Tie as tie
+use Rattle.opening.proofs.AllOpened.{opened-long, lengths, tables-refused, record-refused, opened-done, refusal, acceptance}
+use Rattle.opening.proofs.open.open.Statement.{statement}
+use Rattle.opening.proofs.open.open.Tie as tie
 
 too-long-requires : tie.Need-too-long-requires
 too-long-requires c κs = search needs

@@ -1,4 +1,4 @@
--- What the three lent arrays mean, whatever they hold.
+-- What the three arrays mean, whatever they hold.
 use Prim.Native.Nat.{ℕ}
 use mathlib.Core.List.{List}
 use Rattle.model.specs.Base.{Bytes}

@@ -17,18 +17,18 @@ use Rattle.model.proofs.Lists.{by-cases}
 use Rattle.rows.specs.Rows.{rows}
 use Rattle.tables.specs.Memory.{tablesIn}
 use Rattle.record.specs.Slots.{fieldsIn}
 use Rattle.opening.specs.declared.answer.Opening.{Opening}
 use Rattle.opening.specs.declared.answer.Opening.the-variants.{Done, Refused}
 use Rattle.sessions.specs.Logins.{loginIn, loginsIn}
-use Rattle.server.specs.Memory.{stateIn}
+use Rattle.opening.specs.Memory.{stateIn}
 use Rattle.opening.specs.Answers.{textsOf, tooLong, openingResult, openingAnswer, KeptIfRefused}
 
 -- the state that opened tables and fields make
 abbrev pub fresh : Tables → Fields → State
 fresh tables fields = record { tables = tables; loginStates = emptyLogins; fields = fields }
 
 -- 96 zeros are the login states of an opening
-no-logins : loginsIn (replicate 96 0) ≡ emptyLogins
+pub no-logins : loginsIn (replicate 96 0) ≡ emptyLogins
 unfolding loginsIn loginIn rows emptyLogin emptyLogins
 no-logins = refl
 

@@ -1,0 +1,2 @@
+-- Laws that the proofs cite: what the numbers say of an answer.
+pub mod Numbered

@@ -1,0 +1,35 @@
+-- What is answered is read off the opening, in either case.
+use mathlib.Core.Path.{sym, _∙_}
+use borrow.Author.Needs.{needs}
+use Rattle.exports.specs.Numbers.{KeptUnless0}
+use Rattle.exports.proofs.Numbered.{done-as, refused-as, kept-unless}
+use Rattle.exports.proofs.jesovanga_open.Statement.{statement}
+use Rattle.exports.proofs.jesovanga_open.Tie as tie
+
+open-requires : tie.Need-open-requires
+open-requires c κs = search needs
+
+enum-told : tie.Need-enum-told
+enum-told c = search needs
+
+enum-known-number : tie.Need-enum-known-number
+enum-known-number c = search needs
+
+returns : tie.Need-returns
+unfolding KeptUnless0
+returns c =
+    let o = c .before .before .«open» .ensures in
+    let (n, t, l) = done-as _ (sym (c .enum-told .given .1) ∙ o .0) in
+    (n, (t, (l, (o .1 .0, (tt, tt, tt)))))
+
+returns-2 : tie.Need-returns-2
+returns-2 c =
+    let o = c .before .before .before .«open» .ensures in
+    let is = c .before .number .given .1 in
+    let (n, t, l) = refused-as _ _ _ _ (sym is ∙ o .0) in
+    let (a, b, d) = rw is at (o .1 .1) in
+    (n, (t, (l, (o .1 .0, (kept-unless _ _ _ a, kept-unless _ _ _ b, kept-unless _ _ _ d)))))
+
+pub jesovanga-open-spec : {M : Type 1} → statement M
+jesovanga-open-spec =
+    tie.close (tie.spec open-requires enum-told enum-known-number returns returns-2)

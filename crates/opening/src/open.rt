@@ -1,0 +1,70 @@
+// Opening the four texts: all or nothing.
+use crate::answer::Opening;
+use crate::fields::open_record;
+use crate::texts::open_tables;
+ghost use mathlib.Core.Path.{_≡_};
+ghost use Rattle.model.specs.Opening.{opened, afterOpening};
+ghost use Rattle.opening.specs.Memory.{stateIn};
+ghost use Rattle.opening.specs.Answers.{textsOf, tooLong, openingAnswer, KeptIfRefused};
+
+// Users and their environment lines, and the policy.
+pub const TABLES: usize = 47200;
+
+// Logins, whether a session is open, and fields created, for each of 32 user indices.
+pub const LOGINS: usize = 96;
+
+// 256 slots of fields.
+pub const RECORD: usize = 35328;
+
+// The number of the first text that is longer than 65,536 bytes; 0 where none is.
+fn too_long(users: &[u8], environments: &[u8], policy: &[u8], text: &[u8]) -> usize
+    ensures { λ r. ⌜ r ≡ tooLong (textsOf (now (users .entry)) (now (environments .entry)) (now (policy .entry)) (now (text .entry))) ⌝ }
+{
+    if 65536 < users.len() {
+        return 1;
+    }
+    if 65536 < environments.len() {
+        return 2;
+    }
+    if 65536 < policy.len() {
+        return 3;
+    }
+    if 65536 < text.len() {
+        return 4;
+    }
+    0
+}
+
+// The four texts opened together: refused, the three arrays are as they were; accepted, they hold the new state.
+pub fn open(
+    tables: &mut [u8; TABLES],
+    logins: &mut [u16; LOGINS],
+    fields: &mut [u8; RECORD],
+    users: &[u8],
+    environments: &[u8],
+    policy: &[u8],
+    text: &[u8],
+) -> Opening
+    ensures { λ r. ⌜ r ≡ openingAnswer (opened (textsOf (now (users .entry)) (now (environments .entry)) (now (policy .entry)) (now (text .entry)))) ⌝ }
+    ensures { λ r. ⌜ stateIn (now (tables .exit)) (now (logins .exit)) (now (fields .exit)) ≡ afterOpening (stateIn (now (tables .entry)) (now (logins .entry)) (now (fields .entry))) (textsOf (now (users .entry)) (now (environments .entry)) (now (policy .entry)) (now (text .entry))) ⌝ }
+    ensures { λ r. ⌜ KeptIfRefused r (now (tables .entry)) (now (tables .exit)) × KeptIfRefused r (now (logins .entry)) (now (logins .exit)) × KeptIfRefused r (now (fields .entry)) (now (fields .exit)) ⌝ }
+{
+    let long = too_long(users, environments, policy, text);
+    if long != 0 {
+        return Opening::Refused(10, long, 0);
+    }
+    let mut memory = [0u8; TABLES];
+    let read = open_tables(&mut memory, users, environments, policy);
+    let Opening::Done = read else {
+        return read;
+    };
+    let mut table = [0u8; RECORD];
+    let loaded = open_record(&memory, &mut table, text);
+    let Opening::Done = loaded else {
+        return loaded;
+    };
+    *tables = memory;
+    *fields = table;
+    *logins = [0u16; LOGINS];
+    Opening::Done
+}
