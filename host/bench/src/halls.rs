@@ -1,0 +1,196 @@
+//! The halls that are measured: texts, and lines that are asked there.
+
+use crate::rng::Rng;
+
+/// Users, environments, policy and record.
+pub type Texts = [Vec<u8>; 4];
+
+pub type Line = Vec<u8>;
+
+const USERS: usize = 32;
+const ROLES: [&str; 4] = ["driver", "repairer", "owner", "keeper"];
+
+/// Engines of a full hall, each of so many fields, and a user's own ones.
+const ENGINES: usize = 32;
+const ENGINE_FIELDS: usize = 8;
+const OWN: usize = 4;
+
+/// Lines of a recorded day.
+const DAY: usize = 20_000;
+const DAY_SEED: u64 = 1871;
+
+pub struct Hall {
+    pub texts: Texts,
+    pub logins: Vec<Line>,
+    pub gets: Vec<Line>,
+    /// Pushes to fields that are held, by users who may write them.
+    pub held_pushes: Vec<Line>,
+    /// Pushes of new fields, within the allowances.
+    pub new_pushes: Vec<Line>,
+    /// Pushes that are refused.
+    forbidden: Vec<Line>,
+}
+
+impl Hall {
+    /// The example of document 01.
+    pub fn example() -> Hall {
+        let users = "user;role;key;allowance\nann;repairer;k1;4\nbob;driver;k2;0\ncy;owner;k3;2\n";
+        let environments = "user;name;value\ncy;my-engine;e7\n";
+        let policy = "role;access;path\n*;READ;$.*.name\nrepairer;WRITE;$.*.cv.*\n\
+                      driver;READ;$.*.cv['1','29']\nowner;WRITE;$[=~my-engine].note\n";
+        let record = r#"{"e7":{"name":"Tank 7","cv":{"1":3,"29":6},"note":"shelf B"},"#.to_owned()
+            + r#""e9":{"name":"Mail","cv":{"1":12}}}"#;
+        Hall {
+            texts: [users.into(), environments.into(), policy.into(), record.into()],
+            logins: lines(&["LOGIN;ann;k1", "LOGIN;bob;k2", "LOGIN;cy;k3"]),
+            gets: lines(&["GET;1", "GET;65537", "GET;131073"]),
+            held_pushes: lines(&[
+                "PUSH;1;$['e7']['cv']['29'];38",
+                "PUSH;1;$['e9']['cv']['1'];-4",
+                "PUSH;131073;$['e7']['note'];\"shelf C\"",
+            ]),
+            new_pushes: lines(&[
+                "PUSH;1;$['e9']['cv']['3'];10",
+                "PUSH;1;$['e7']['cv']['5'];true",
+                "PUSH;1;$['e8']['cv']['1'];0",
+                "PUSH;1;$['e1']['cv']['29'];\"new\"",
+            ]),
+            forbidden: lines(&["PUSH;65537;$['e7']['cv']['1'];4", "PUSH;131073;$['e9']['note'];1"]),
+        }
+    }
+
+    /// 32 users, 64 policy lines and 256 fields.
+    pub fn full() -> Hall {
+        Hall::sized(64, 256, 0)
+    }
+
+    /// The same with 192 fields and room for two new ones of each user.
+    pub fn with_room() -> Hall {
+        Hall::sized(64, 192, 2)
+    }
+
+    /// A hall of 32 users with so many policy lines and fields.
+    pub fn sized(policy_lines: usize, fields: usize, allowance: usize) -> Hall {
+        let engines = fields / ENGINE_FIELDS;
+        let record = joined((0..engines).map(engine), ",");
+        Hall {
+            texts: [
+                table("user;role;key;allowance", (0..USERS).map(|user| user_line(user, allowance))),
+                table("user;name;value", (0..USERS).flat_map(environment_lines)),
+                table("role;access;path", (0..policy_lines).map(policy_line)),
+                format!("{{{record}}}").into(),
+            ],
+            logins: (0..USERS).map(|user| format!("LOGIN;user{user};key{user}").into()).collect(),
+            gets: (0..USERS).map(|user| format!("GET;{}", session(user)).into()).collect(),
+            held_pushes: (0..USERS).flat_map(|user| held_pushes(user, engines)).collect(),
+            new_pushes: (0..USERS).flat_map(new_pushes).collect(),
+            forbidden: (0..USERS).map(|user| push(user, engine_name(0), "name", "\"x\"")).collect(),
+        }
+    }
+
+    /// The logins with keys that are wrong.
+    pub fn wrong_logins(&self) -> Vec<Line> {
+        self.logins.iter().map(|line| [line, &b"x"[..]].concat()).collect()
+    }
+
+    /// A day in this hall: all log in; then mostly pushes, some copies, a few
+    /// lines that are refused.
+    pub fn day(&self) -> Vec<Line> {
+        let mut rng = Rng::new(DAY_SEED);
+        let mut day = self.logins.clone();
+        while day.len() < DAY {
+            let kind = match rng.below(100) {
+                0..=11 => &self.gets,
+                12..=83 => &self.held_pushes,
+                84..=89 => &self.new_pushes,
+                90..=95 => &self.forbidden,
+                _ => &self.logins,
+            };
+            let mut line = kind[rng.below(kind.len())].clone();
+            if rng.below(50) == 0 {
+                let end = rng.below(line.len());
+                line.truncate(end);
+            }
+            day.push(line);
+        }
+        day
+    }
+}
+
+fn lines(texts: &[&str]) -> Vec<Line> {
+    texts.iter().map(|text| text.as_bytes().to_vec()).collect()
+}
+
+fn joined(parts: impl Iterator<Item = String>, separator: &str) -> String {
+    parts.collect::<Vec<_>>().join(separator)
+}
+
+fn table(head: &str, lines: impl Iterator<Item = String>) -> Vec<u8> {
+    let lines = lines.map(|line| line + "\n");
+    (format!("{head}\n") + &joined(lines, "")).into()
+}
+
+fn session(user: usize) -> usize {
+    user * 65_536 + 1
+}
+
+fn user_line(user: usize, allowance: usize) -> String {
+    format!("user{user};{};key{user};{allowance}", ROLES[user % ROLES.len()])
+}
+
+fn engine_name(engine: usize) -> String {
+    format!("engine {engine}")
+}
+
+/// The engines of a user.
+fn own_engines(user: usize) -> impl Iterator<Item = usize> {
+    (0..OWN).map(move |place| (user + place * ENGINES / OWN) % ENGINES)
+}
+
+fn environment_lines(user: usize) -> impl Iterator<Item = String> {
+    own_engines(user).map(move |engine| format!("user{user};mine;{}", engine_name(engine)))
+}
+
+/// An engine's part of the record: a name, a note and six settings.
+fn engine(engine: usize) -> String {
+    let settings = joined((1..=6).map(|key| format!("\"{key}\":{}", engine * key)), ",");
+    let name = engine_name(engine);
+    format!("\"{name}\":{{\"name\":\"{name}\",\"note\":\"shelf {engine}\",\"cv\":{{{settings}}}}}")
+}
+
+/// Line after line goes to the next role; after all four, to the next kind.
+fn policy_line(place: usize) -> String {
+    let role = ROLES[place % ROLES.len()];
+    let turn = place / ROLES.len();
+    let [first, second] = [turn / 2 + 1, turn / 2 + 2];
+    let [one, other] = [engine_name(turn), engine_name(turn + 16)];
+    match turn % 4 {
+        0 => format!("{role};WRITE;$[in~mine].cv['{first}','{second}']"),
+        1 => format!("{role};READ;$['{one}','{other}'].name"),
+        2 => format!("{role};READ;$['{one}','{other}'].cv.*"),
+        _ if turn == 15 => "*;READ;$.*.name".into(),
+        _ => format!("{role};WRITE;$[=~mine].note"),
+    }
+}
+
+fn push(user: usize, engine: String, below: &str, value: &str) -> Line {
+    let path = format!("$['{engine}']['{}']", below.replace('.', "']['"));
+    format!("PUSH;{};{path};{value}", session(user)).into()
+}
+
+/// Two settings of each engine of the user that the record has.
+fn held_pushes(user: usize, engines: usize) -> Vec<Line> {
+    let held = own_engines(user).filter(|engine| *engine < engines);
+    held.flat_map(|engine| {
+        ["cv.1", "cv.2"].map(|below| push(user, engine_name(engine), below, "1234"))
+    })
+    .collect()
+}
+
+/// Two settings of the last engine of the user's four, which four users share.
+fn new_pushes(user: usize) -> [Line; 2] {
+    let quarter = ENGINES / OWN;
+    let engine = engine_name(ENGINES - quarter + user % quarter);
+    let first = 2 * (user / quarter) + 1;
+    [first, first + 1].map(|key| push(user, engine.clone(), &format!("cv.{key}"), "\"new\""))
+}

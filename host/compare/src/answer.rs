@@ -1,0 +1,44 @@
+//! Answers of both servers, in one form.
+
+use jesovanga::Fault;
+
+#[derive(Clone, Copy, Debug, PartialEq, Eq)]
+pub enum Answer {
+    Refused(usize),
+    Session(usize),
+    Length(usize),
+    Pushed(usize),
+}
+
+impl From<jesovanga::Reply> for Answer {
+    fn from(reply: jesovanga::Reply) -> Self {
+        match reply {
+            jesovanga::Reply::Refused(number) => Answer::Refused(number),
+            jesovanga::Reply::Session(number) => Answer::Session(number as usize),
+            jesovanga::Reply::Length(length) => Answer::Length(length),
+            jesovanga::Reply::Pushed(count) => Answer::Pushed(count),
+        }
+    }
+}
+
+impl From<second::Reply> for Answer {
+    fn from(reply: second::Reply) -> Self {
+        match reply {
+            second::Reply::Refused(number) => Answer::Refused(number as usize),
+            second::Reply::Session(number) => Answer::Session(number as usize),
+            second::Reply::Length(length) => Answer::Length(length),
+            second::Reply::Pushed(count) => Answer::Pushed(count),
+        }
+    }
+}
+
+pub type Opened = Result<(), Fault>;
+
+/// What the second implementation says of an opening, in the form of the first.
+pub fn opened(answer: Result<(), second::Fault>) -> Opened {
+    answer.map_err(|fault| Fault {
+        number: fault.number as usize,
+        text: fault.text as usize,
+        line: fault.line as usize,
+    })
+}

@@ -1,0 +1,192 @@
+//! Request lines for a hall.
+
+use crate::damage::damage_bytes;
+use crate::hall::{Hall, Path, Rule, User};
+use crate::rng::Rng;
+use crate::texts::field_path;
+use crate::words;
+
+/// Session numbers of one user lie within one such range.
+const RANGE: usize = 65_536;
+
+/// What is known when a line is made: a guide, which need not be right.
+pub struct Guide<'a> {
+    pub hall: &'a Hall,
+    pub sessions: &'a [usize],
+    /// Paths that were pushed.
+    pub pushed: &'a [Path],
+}
+
+/// A line, and the path that it pushes to, if it is a push.
+pub struct Line {
+    pub bytes: Vec<u8>,
+    pub path: Option<Path>,
+}
+
+impl From<Vec<u8>> for Line {
+    fn from(bytes: Vec<u8>) -> Self {
+        Line { bytes, path: None }
+    }
+}
+
+impl Guide<'_> {
+    pub fn line(&self, rng: &mut Rng) -> Line {
+        match rng.below(100) {
+            0..=9 => self.login(rng).into(),
+            10..=37 => self.get(rng).into(),
+            38..=87 => self.push(rng),
+            88..=94 => self.damaged(rng).into(),
+            95..=96 => random_bytes(rng).into(),
+            _ => self.of_any_length(rng).into(),
+        }
+    }
+
+    /// A login of a user, with the right key.
+    pub fn login_of(user: &User) -> Vec<u8> {
+        [b"LOGIN;", &user.name[..], b";", &user.key].concat()
+    }
+
+    fn login(&self, rng: &mut Rng) -> Vec<u8> {
+        if self.hall.users.is_empty() || rng.one_in(6) {
+            let (name, key) = (words::name(rng), words::name(rng));
+            return [b"LOGIN;", &name[..], b";", &key].concat();
+        }
+        let user = rng.pick(&self.hall.users);
+        match rng.below(4) {
+            0 => {
+                let key = rng.pick(&self.hall.names);
+                [b"LOGIN;", &user.name[..], b";", key].concat()
+            }
+            1 => {
+                let other = rng.pick(&self.hall.users);
+                [b"LOGIN;", &user.name[..], b";", &other.key].concat()
+            }
+            _ => Self::login_of(user),
+        }
+    }
+
+    fn get(&self, rng: &mut Rng) -> Vec<u8> {
+        format!("GET;{}", self.session(rng)).into()
+    }
+
+    fn push(&self, rng: &mut Rng) -> Line {
+        let mut session = self.session(rng);
+        for _ in 0..3 {
+            if self.writing_rules(session).next().is_none() {
+                session = self.session(rng);
+            }
+        }
+        let path = self.push_path(rng, session);
+        let value = if rng.one_in(12) { words::bad_value(rng) } else { words::value(rng) };
+        let head = format!("PUSH;{session};");
+        let bytes = [head.as_bytes(), &field_path(&path), b";", &value].concat();
+        Line { bytes, path: Some(path) }
+    }
+
+    /// Mostly the number of an open session.
+    fn session(&self, rng: &mut Rng) -> usize {
+        if !self.sessions.is_empty() && !rng.one_in(8) {
+            return *rng.pick(self.sessions);
+        }
+        let place = rng.between(0, 33);
+        match rng.below(8) {
+            0..=2 => place * RANGE + 1,
+            3 => place * RANGE,
+            4 => place * RANGE + 2,
+            5 => rng.below(200),
+            6 => *rng.pick(&[0xFFFF_FFFF, 0x1_0000_0000, 0x1_0000_0001, 0xFFFF, 32 * RANGE]),
+            _ => rng.below(1 << 33),
+        }
+    }
+
+    fn push_path(&self, rng: &mut Rng, session: usize) -> Path {
+        let hall = self.hall;
+        match rng.below(20) {
+            0..=2 if !hall.fields.is_empty() => rng.pick(&hall.fields).path.clone(),
+            3..=6 if !self.pushed.is_empty() => rng.pick(self.pushed).clone(),
+            7..=16 => self.writable_path(rng, session),
+            17 => (0..rng.between(5, 7)).map(|_| words::name_of(rng, 16)).collect(),
+            18 => self.neighbour(rng),
+            _ => hall.any_path(rng),
+        }
+    }
+
+    /// Mostly a path that the user of this session may write.
+    fn writable_path(&self, rng: &mut Rng, session: usize) -> Path {
+        let Some(user) = self.hall.users.get(session / RANGE) else {
+            return self.hall.any_path(rng);
+        };
+        let rules: Vec<&Rule> = if rng.one_in(8) {
+            self.hall.rules.iter().collect()
+        } else {
+            self.writing_rules(session).collect()
+        };
+        match &rules[..] {
+            [] => self.hall.any_path(rng),
+            rules => {
+                let rule = *rng.pick(rules);
+                self.hall.matching_path(rng, rule, user)
+            }
+        }
+    }
+
+    /// The WRITE lines for the user of this session.
+    fn writing_rules(&self, session: usize) -> impl Iterator<Item = &Rule> {
+        let user = self.hall.users.get(session / RANGE);
+        let rules = self.hall.rules.iter().filter(|rule| rule.writes);
+        rules.filter(move |rule| {
+            user.is_some_and(|user| rule.role == user.role || rule.role == b"*")
+        })
+    }
+
+    /// A path that is a field's but for a key more or less or another one.
+    fn neighbour(&self, rng: &mut Rng) -> Path {
+        if self.hall.fields.is_empty() {
+            return self.hall.any_path(rng);
+        }
+        let mut path = rng.pick(&self.hall.fields).path.clone();
+        let at = rng.below(path.len() + 1);
+        match rng.below(4) {
+            0 => path.insert(at, rng.pick(&self.hall.names).clone()),
+            1 if at < path.len() => path[at] = rng.pick(&self.hall.names).clone(),
+            2 if at < path.len() => path[at].extend_from_slice(b" "),
+            _ => {
+                path.pop();
+            }
+        }
+        path
+    }
+
+    fn damaged(&self, rng: &mut Rng) -> Vec<u8> {
+        let mut bytes = match rng.below(3) {
+            0 => self.login(rng),
+            1 => self.get(rng),
+            _ => self.push(rng).bytes,
+        };
+        damage_bytes(rng, &mut bytes);
+        bytes
+    }
+
+    /// A line filled up or cut to any length from 0 to 300.
+    fn of_any_length(&self, rng: &mut Rng) -> Vec<u8> {
+        let mut bytes = match rng.below(4) {
+            0 => self.login(rng),
+            1 => self.get(rng),
+            _ => self.push(rng).bytes,
+        };
+        let length = match rng.below(4) {
+            0 => rng.between(254, 258),
+            _ => rng.between(0, 300),
+        };
+        let filling = *rng.pick(b"0 1;a\"");
+        bytes.resize(length, filling);
+        bytes
+    }
+}
+
+fn random_bytes(rng: &mut Rng) -> Vec<u8> {
+    let words: [&[u8]; 5] = [b"", b"LOGIN;", b"GET;", b"PUSH;", b"PUSH;1;$['a'];"];
+    let length = rng.between(0, 300);
+    let random = rng.bytes(length);
+    [rng.pick(&words), &random[..]].concat()
+}

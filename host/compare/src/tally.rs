@@ -1,0 +1,77 @@
+//! What a run has done.
+
+use std::collections::BTreeMap;
+use std::fmt;
+
+use crate::answer::{Answer, Opened};
+
+#[derive(Default)]
+pub struct Tally {
+    accepted: usize,
+    refused: BTreeMap<usize, usize>,
+    requests: usize,
+    answers: BTreeMap<String, usize>,
+    copied: usize,
+    garbage: usize,
+}
+
+impl Tally {
+    /// Requests and saves that were compared.
+    pub fn requests(&self) -> usize {
+        self.requests
+    }
+
+    pub fn count_opening(&mut self, opened: Opened) {
+        match opened {
+            Ok(()) => self.accepted += 1,
+            Err(fault) => *self.refused.entry(fault.number).or_default() += 1,
+        }
+    }
+
+    pub fn count_request(&mut self, answer: Answer) {
+        match answer {
+            Answer::Refused(number) => self.count(format!("refused {number}")),
+            Answer::Session(_) => self.count("session".into()),
+            Answer::Length(length) => self.count_text("copy", length),
+            Answer::Pushed(_) => self.count("pushed".into()),
+        }
+    }
+
+    pub fn count_save(&mut self, answer: Answer) {
+        match answer {
+            Answer::Length(length) => self.count_text("saved", length),
+            _ => self.count("save refused".into()),
+        }
+    }
+
+    /// Calls on arrays of any content, where nothing is compared.
+    pub fn count_garbage(&mut self) {
+        self.garbage += 1;
+    }
+
+    fn count_text(&mut self, kind: &str, length: usize) {
+        self.copied += length;
+        self.count(kind.into());
+    }
+
+    fn count(&mut self, kind: String) {
+        self.requests += 1;
+        *self.answers.entry(kind).or_default() += 1;
+    }
+}
+
+impl fmt::Display for Tally {
+    fn fmt(&self, out: &mut fmt::Formatter) -> fmt::Result {
+        let openings = self.accepted + self.refused.values().sum::<usize>();
+        writeln!(out, "openings {openings}, accepted {}", self.accepted)?;
+        for (number, count) in &self.refused {
+            writeln!(out, "  refused {number}: {count}")?;
+        }
+        writeln!(out, "requests {}", self.requests)?;
+        for (kind, count) in &self.answers {
+            writeln!(out, "  {kind}: {count}")?;
+        }
+        writeln!(out, "bytes of copies and saved texts compared {}", self.copied)?;
+        write!(out, "calls on arrays of any content {}", self.garbage)
+    }
+}

@@ -1,0 +1,135 @@
+//! The afternoon of the scope document, and its further cases.
+
+use second::{printed, Fault, Reply, Server, COPY_LIMIT, LIST_LENGTH};
+
+const USERS: &str = "user;role;key;allowance\nann;repairer;k1;4\nbob;driver;k2;0\ncy;owner;k3;2\n";
+const ENVIRONMENTS: &str = "user;name;value\ncy;my-engine;e7\n";
+const POLICY: &str = "role;access;path\n*;READ;$.*.name\nrepairer;WRITE;$.*.cv.*\n\
+    driver;READ;$.*.cv['1','29']\nowner;WRITE;$[=~my-engine].note\n";
+const RECORD: &str = r#"{"e7":{"name":"Tank 7","cv":{"1":3,"29":6},"note":"shelf B"},
+    "e9":{"name":"Mail","cv":{"1":12}}}"#;
+
+fn try_open(server: &mut Server, policy: &str, record: &str) -> Result<(), Fault> {
+    server.open(USERS.as_bytes(), ENVIRONMENTS.as_bytes(), policy.as_bytes(), record.as_bytes())
+}
+
+fn hall() -> Server {
+    let mut server = Server::new();
+    try_open(&mut server, POLICY, RECORD).expect("the tables are sound");
+    server
+}
+
+fn ask(server: &mut Server, line: &str) -> Reply {
+    server.request(line.as_bytes(), &mut [0; COPY_LIMIT], &mut [0; LIST_LENGTH])
+}
+
+fn saved(server: &Server) -> String {
+    let mut buffer = vec![0; COPY_LIMIT];
+    let Reply::Length(length) = server.save(&mut buffer) else {
+        panic!("the buffer is long enough");
+    };
+    buffer.truncate(length);
+    String::from_utf8(buffer).expect("saved text is ASCII")
+}
+
+#[test]
+fn the_afternoon() {
+    let mut server = hall();
+    let mut out = Vec::new();
+    for line in [
+        "LOGIN;bob;k2",
+        "LOGIN;ann;k1",
+        "PUSH;1;$['e7']['cv']['29'];38",
+        "PUSH;1;$['e9']['cv']['3'];10",
+        "PUSH;65537;$['e7']['cv']['1'];4",
+        "GET;65537",
+    ] {
+        printed(&mut server, line.as_bytes(), &mut out);
+    }
+    let expected = r#"OK;65537
+OK;1
+OK
+TO;65537;$['e7']['cv']['29'];38
+OK
+NO;16
+OK;167
+role;access;path
+driver;READ;$[*]['name']
+driver;READ;$[*]['cv']['1','29']
+name;value
+{"e7":{"cv":{"1":3,"29":38},"name":"Tank 7"},"e9":{"cv":{"1":12},"name":"Mail"}}
+"#;
+    assert_eq!(String::from_utf8_lossy(&out), expected);
+    assert_eq!(server.fields(), 7);
+
+    let mut buffer = [7; 170];
+    let short = server.request(b"GET;65537", &mut buffer[..166], &mut []);
+    assert_eq!(short, Reply::Refused(15));
+    assert_eq!(buffer, [7; 170]);
+    let enough = server.request(b"GET;65537", &mut buffer, &mut []);
+    assert_eq!(enough, Reply::Length(167));
+    assert_eq!(buffer[166..], [b'\n', 7, 7, 7]);
+}
+
+#[test]
+fn logins_and_sessions() {
+    let mut server = hall();
+    assert_eq!(ask(&mut server, "LOGIN;bob;k1"), Reply::Refused(12));
+    assert_eq!(ask(&mut server, "LOGIN;dan;k1"), Reply::Refused(12));
+    assert_eq!(ask(&mut server, "LOGIN;cy;k3"), Reply::Session(131_073));
+    assert_eq!(ask(&mut server, "LOGIN;cy;k3"), Reply::Refused(13));
+    assert_eq!(ask(&mut server, "GET;2"), Reply::Refused(14));
+    assert_eq!(ask(&mut server, "GET;131072"), Reply::Refused(14));
+    assert_eq!(ask(&mut server, "GET;4294967295"), Reply::Refused(14));
+    assert_eq!(ask(&mut server, "GET;4294967296"), Reply::Refused(11));
+    let push = "PUSH;131073;$['e9']['note'];1";
+    assert_eq!(ask(&mut server, push), Reply::Refused(16));
+}
+
+#[test]
+fn pushes() {
+    let mut server = hall();
+    let short = server.request(b"PUSH;9;$['a'];1", &mut [], &mut [0; 31]);
+    assert_eq!(short, Reply::Refused(15));
+    ask(&mut server, "LOGIN;ann;k1");
+    let mut push = |rest: &str| ask(&mut server, &format!("PUSH;1;$['e7']['cv']{rest}"));
+    assert_eq!(push("['1'];-2147483648"), Reply::Pushed(0));
+    for value in ["-2147483649", "2147483648", "-0", "01", "1 ", " 1", "1-", "--1", "-", "+1", ""] {
+        assert_eq!(push(&format!("['1'];{value}")), Reply::Refused(11), "{value}");
+    }
+    for key in 3..7 {
+        assert_eq!(push(&format!("['{key}'];\"a; b\"")), Reply::Pushed(0));
+    }
+    assert_eq!(push("['7'];1"), Reply::Refused(17));
+    assert_eq!(push("['3'];true"), Reply::Pushed(0));
+    assert!(saved(&server).contains(r#"{"1":-2147483648,"29":6,"3":true,"4":"a; b","#));
+}
+
+#[test]
+fn openings() {
+    let mut server = hall();
+    let before = saved(&server);
+    let refused = |number, text, line| Err(Fault { number, text, line });
+    let head = "role;access;path\n";
+    let mut open = |lines: &str, record| try_open(&mut server, &format!("{head}{lines}"), record);
+    let tangled = "*;WRITE;$.*.cv\n*;WRITE;$.e7.cv.*\n";
+    assert_eq!(open(tangled, "{}"), refused(5, 3, 3));
+    assert_eq!(open("*;READ;$.29\n", "{}"), refused(3, 3, 2));
+    assert_eq!(open("", r#"{"a":1,"a":-0}"#), refused(8, 4, 0));
+    assert_eq!(open("", r#"{"a":1,"a":{"b":1}}"#), refused(6, 4, 0));
+    assert_eq!(open("*;WRITE;$.a\n", r#"{"a":{"b":1}}"#), refused(5, 4, 0));
+    assert_eq!(saved(&server), before);
+    try_open(&mut server, POLICY, &before).expect("a saved record opens again");
+    assert_eq!(saved(&server), before);
+}
+
+#[test]
+fn a_policy_path_ends_where_the_field_does() {
+    let mut server = Server::new();
+    let record = r#"{"a":0,"r":{"b":true}}"#;
+    try_open(&mut server, "role;access;path\n*;READ;$.*.b\n", record).expect("sound");
+    let mut out = Vec::new();
+    printed(&mut server, b"LOGIN;ann;k1", &mut out);
+    printed(&mut server, b"GET;1", &mut out);
+    assert!(out.ends_with(b"name;value\n{\"r\":{\"b\":true}}\n"));
+}
