@@ -20,6 +20,7 @@ use Rattle.model.proofs.Lists.{keep-yes, keep-no}
 use Rattle.paths.specs.Layout.{nameIn}
 use Rattle.steps.specs.Environments.{bindingIn, isEmptyRow, bindingsIn}
 use Rattle.tables.specs.Memory.{ruleIn, policyIn}
+use Rattle.copies.specs.Heads.{headOf}
 use Rattle.tables.proofs.Tabled.{counted-within, row-left, rows-over}
 use Rattle.tables.proofs.Policy.{rule-left, rules-over}
 
@@ -89,8 +90,13 @@ module _ (s : Bytes) {m : ℕ} (counted : m ≡ length (upTo isEmptyRow (rows 34
     unfolding joined bindingsIn
     bindings-end h = rw (rows-over isEmptyRow bindingIn 34 maxBindings s counted i h)
 
--- ── The copy: its six parts one behind the other ──
-pub copy-text : (rs : List Rule) (u : User) (fs : Fields) → copyOf rs u fs
-    ≡ text "role;access;path\n" ++ (joined (map (ruleLine u) (keep (isFor u) rs)) ++ (text "name;value\n" ++ (joined (map bindingLine (u .environment)) ++ (saved fs ++ text "\n"))))
-unfolding copyOf joined tableLine between text
-copy-text rs u fs = rw append-nil
+-- ── The copy: its parts one behind the other ──
+module _ (rs : List Rule) (u : User) where
+  pub head-text : headOf rs u
+      ≡ text "role;access;path\n" ++ (joined (map (ruleLine u) (keep (isFor u) rs)) ++ (text "name;value\n" ++ joined (map bindingLine (u .environment))))
+  unfolding headOf joined tableLine between text
+  head-text = rw append-nil
+
+  pub copy-text : (fs : Fields) → copyOf rs u fs ≡ headOf rs u ++ (saved fs ++ text "\n")
+  unfolding headOf copyOf joined
+  copy-text fs = simp (append-assoc, append-nil)

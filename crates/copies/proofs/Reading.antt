@@ -1,61 +1,74 @@
--- The fields that a user may read: what the bytes of a selection say while a loop sets them.
-use Prim.Native.Nat.{ℕ, _+_, _*_, _<_}
-use mathlib.Core.Path.{_≡_, refl, ap, _∙_}
+-- The fields that a user may read: what the bytes of a selection say while a loop over the policy lines marks the fields that each line gives.
+use Prim.Native.Nat.{ℕ, zero, suc, _+_, _*_, _-_, _≤_, _<_}
+use mathlib.Core.Path.{_≡_, refl, ap}
 use mathlib.Core.Bool.{Bool, true, false}
-use mathlib.Core.Option.{some}
-use mathlib.Core.List.{List, [], _∷_, _++_, append-assoc}
-use native.Mathlib.Numerals.{add-one}
-use lib.ListN.{length, take, drop, set, take-append-drop}
-use lib.Seq.{take-suc-set}
-use Rattle.model.specs.Base.{Bytes, if_then_else_, any, keep}
-use Rattle.model.specs.Limits.{maxFields}
+use mathlib.Core.List.{List, [], _∷_}
+use native.Mathlib.Omega.{arith}
+use lib.ListN.{length, take, drop, replicate}
+use Rattle.rows.specs.Rows.{rows, upTo}
+use Rattle.rows.specs.Marks.{marked}
+use Rattle.rows.proofs.Parts.{tail-part}
+use Rattle.rows.proofs.Marks.{marked-none, marked-or}
+use Rattle.model.specs.Base.{Bytes, any, keep}
+use Rattle.model.specs.Limits.{maxRules}
 use Rattle.model.specs.Fields.{Field, Fields}
 use Rattle.model.specs.Tables.{User, Rule}
-use Rattle.model.specs.Rights.{mayRead}
-use Rattle.model.specs.Serving.{readable, readsBy}
-use Rattle.paths.specs.Layout.{pathIn}
-use Rattle.record.specs.Slots.{fieldIn, isEmpty, fieldsIn}
-use Rattle.record.proofs.Search.{fieldsFrom, fields-start, fields-step}
-use Rattle.tables.specs.Grants.{gives, givenBy}
-use Rattle.tables.proofs.Given.{given-reads}
+use Rattle.model.specs.Rights.{isFor, matches, mayRead}
+use Rattle.model.specs.Serving.{readable}
+use Rattle.model.proofs.Lists.{by-cases}
+use Rattle.steps.specs.Steps.{stepsIn}
+use Rattle.steps.specs.Environments.{isEmptyRow, bindingsIn}
+use Rattle.tables.specs.Memory.{ruleIn, policyIn}
+use Rattle.tables.proofs.Policy.{rule-left, rules-over}
 use Rattle.writer.specs.Selected.{selected}
 
-module _ (rs : List Rule) (u : User) where
-  -- bytes are right of some fields: they show those that the user may read
-  abbrev pub Right : Bytes → Fields → Type 0
-  Right bs fs = selected bs fs ≡ readable rs u fs
+-- marks among zeros select the fields that pass
+selected-marked : (p : Field → Bool) (fs : Fields) (n : ℕ) → length fs ≤ n → selected (marked p fs (replicate n 0)) fs ≡ keep p fs
+unfolding selected marked keep
+selected-marked p [] zero h = refl
+selected-marked p [] (suc n) h = refl
+selected-marked p (f ∷ fs) zero h = absurd (omega arith)
+selected-marked p (f ∷ fs) (suc n) h = by-cases (p f)
+    (λ e. rw e (ap (f ∷_) (selected-marked p fs n (omega arith))))
+    (λ e. rw e (selected-marked p fs n (omega arith)))
 
-  -- of no fields any bytes are
-  right-none : (bs : Bytes) → Right bs []
-  unfolding selected readable keep
-  right-none [] = refl
-  right-none (b ∷ bs) = refl
+module _ (u : User) (fs : Fields) where
+  -- the bytes with a mark for each field that one of the lines gives
+  abbrev pub given : List Rule → Bytes → Bytes
+  given rs bs = marked (λ f. mayRead rs u (f .path)) fs bs
 
-  -- of one field more with one byte more
-  right-more : (r : Bool) (f : Field) (bs : Bytes) (fs : Fields) → r ≡ mayRead rs u (f .path) → Right bs fs
-      → Right ((if r then 1 else 0) ∷ bs) (f ∷ fs)
-  unfolding selected readable keep
-  right-more true f bs fs e h = rw (← e) (ap (λ (l : Fields). f ∷ l) h)
-  right-more false f bs fs e h = rw (← e) h
+  pub given-all : (rs : List Rule) (n : ℕ) → length fs ≤ n → selected (given rs (replicate n 0)) fs ≡ readable rs u fs
+  unfolding readable
+  given-all rs n h = selected-marked (λ f. mayRead rs u (f .path)) fs n h
 
-  -- of the fields of a table
-  module _ (s : Bytes) where
-    -- the first i bytes, and behind them any bytes that are right of the fields from i on, are right of all
-    abbrev pub Completes : ℕ → Bytes → Type 0
-    Completes i shown = (bs : Bytes) → Right bs (fieldsFrom i s) → Right (take i shown ++ bs) (fieldsIn s)
+  -- a loop over the lines, at the line r: those that follow remain
+  module _ (r : Rule) (rs : List Rule) (bs : Bytes) where
+    given-yes : isFor u r ≡ true → given (r ∷ rs) bs ≡ given rs (marked (λ f. matches (u .environment) (r .path) (f .path)) fs bs)
+    unfolding mayRead any
+    given-yes e = rw e (marked-or (λ f. matches (u .environment) (r .path) (f .path)) (λ f. mayRead rs u (f .path)) fs bs)
 
-    pub completes-start : (shown : Bytes) → Completes 0 shown
-    completes-start shown bs h = rw (fields-start s) h
+    given-no : isFor u r ≡ false → given (r ∷ rs) bs ≡ given rs bs
+    unfolding mayRead any
+    given-no e = rw e
 
-    module _ (i : ℕ) (shown : Bytes) (so-far : Completes i shown) where
-      -- the byte of the field in the slot at i was set
-      pub completes-step : {slot : Bytes} {r : Bool} → slot ≡ take 138 (drop (i * 138) s) → i < maxFields → isEmpty slot ≡ false
-          → r ≡ any (gives false u (pathIn slot)) rs → i < length shown → Completes (i + 1) (set shown i (if r then 1 else 0))
-      unfolding fieldIn givenBy readsBy
-      completes-step {slot} {r} here below full e l bs h =
-          let more = right-more r (fieldIn slot) bs (fieldsFrom (i + 1) s) (e ∙ given-reads rs (some u) (pathIn slot)) h in
-          rw (add-one, take-suc-set shown i (if r then 1 else 0) l, append-assoc) (so-far _ (rw (fields-step s i here below full) more))
+  given-none : (bs : Bytes) → given [] bs ≡ bs
+  unfolding mayRead any
+  given-none bs = marked-none fs bs
 
-      -- no field is left
-      pub completes-end : fieldsFrom i s ≡ [] → Right shown (fieldsIn s)
-      completes-end e = rw take-append-drop at (so-far (drop i shown) (rw e (right-none (drop i shown))))
+  -- the same of a policy in memory, of which m rows were counted
+  module _ (s : Bytes) {m : ℕ} (counted : m ≡ length (upTo isEmptyRow (rows 439 maxRules s))) (i : ℕ) (bs : Bytes) where
+    -- the line in the row at i is the user's, and the fields that its path matches were marked, or it is not
+    module _ (below : i < m) {row : Bytes} (is : row ≡ take 439 (drop (i * 439) s)) where
+      pub rule-yes : (lines marks : Bytes) → isFor u (ruleIn row) ≡ true → bindingsIn lines ≡ u .environment
+          → marks ≡ marked (λ f. matches (bindingsIn lines) (stepsIn (take (length row - 18) (drop 18 row))) (f .path)) fs bs
+          → given (drop i (policyIn s)) bs ≡ given (drop (i + 1) (policyIn s)) marks
+      unfolding ruleIn
+      rule-yes lines marks y e k =
+          rw (rule-left s counted i below is, k, e, tail-part 18 row) (given-yes (ruleIn row) (drop (i + 1) (policyIn s)) bs y)
+
+      pub rule-no : isFor u (ruleIn row) ≡ false → given (drop i (policyIn s)) bs ≡ given (drop (i + 1) (policyIn s)) bs
+      rule-no n = rw (rule-left s counted i below is) (given-no (ruleIn row) (drop (i + 1) (policyIn s)) bs n)
+
+    -- behind the last nothing is left
+    pub rules-done : m ≤ i → given (drop i (policyIn s)) bs ≡ bs
+    rules-done h = rw (rules-over s counted i h) (given-none bs)

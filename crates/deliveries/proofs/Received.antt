@@ -1,12 +1,12 @@
 -- Whom a push reaches: the test for one user, and how a loop over the users fills the list.
 use Prim.Native.Nat.{ℕ, zero, suc, _+_, _-_, _≤_, _<_}
 use mathlib.Core.Path.{_≡_, refl, sym, _∙_}
-use mathlib.Core.Bool.{Bool, true, false}
+use mathlib.Core.Bool.{Bool, true, false, not, _&&_}
 use mathlib.Core.List.{List, _∷_, map}
 use native.Mathlib.Nat.{zero-add, sub-zero}
 use native.Mathlib.Numerals.{add-one}
 use native.Mathlib.Omega.{arith}
-use borrow.Author.Tests.{eq-eqb, ne-eqb}
+use lib.Dec.{eqb}
 use lib.ListN.{length, getD, set, length-map}
 use lib.Seq.{sets-eq}
 use Rattle.rows.specs.Rows.{rows, upTo, written}
@@ -38,19 +38,11 @@ pub users-fit : (s : Bytes) {m : ℕ} → m ≡ length (upTo isEmptyRow (rows 59
 users-fit s counted = counted-within isEmptyRow userIn 597 maxUsers s counted
 
 module _ (t : Tables) (ls : List LoginState) (i : ℕ) (p : Keys) where
-  -- ── The user at j, whose login state is a: no session is open, it is the sender, or it is another ──
-  module _ (j : ℕ) {a : LoginState} (state : a ≡ getD ls j emptyLogin) where
-    pub receives-closed : a .isOpen ≡ false → receives t ls i p j ≡ false
-    unfolding receives
-    receives-closed h = rw (← state, h)
-
-    pub receives-sender : a .isOpen ≡ true → j ≡ i → receives t ls i p j ≡ false
-    unfolding receives
-    receives-sender h e = rw (← state, h, eq-eqb j i e)
-
-    pub receives-other : a .isOpen ≡ true → (j ≡ i → ⊥) → receives t ls i p j ≡ readsAt t j p
-    unfolding receives
-    receives-other h f = rw (← state, h, ne-eqb j i f)
+  -- the test for the user at j, whose login state is a, and m says whether it may read the path
+  pub received : (j : ℕ) {a : LoginState} {m b : Bool} → a ≡ getD ls j emptyLogin → m ≡ readsAt t j p → b ≡ (a .isOpen && not (eqb j i) && m)
+      → b ≡ receives t ls i p j
+  unfolding receives
+  received j state reads test = rw (← state, ← reads) test
 
   -- ── The loop over n users ──
   -- the numbers of the receivers from the user at j on

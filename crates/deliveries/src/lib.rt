@@ -1,16 +1,19 @@
 // Whom a push reaches, and the lines that are sent.
+use sessions::LoginState;
 use sessions::number;
 use sessions::state_at;
 use tables::layout::USER;
 use tables::layout::USERS;
 use tables::layout::row_count;
-use tables::rights::may_read;
+use tables::rights::readers;
 use values::write::put;
 use values::write::put_byte;
 use values::write::put_decimal;
 ghost use mathlib.Core.Path.{_≡_};
+ghost use mathlib.Core.Bool.{not, _&&_};
 ghost use mathlib.Core.List.{map};
 ghost use Prim.Native.Nat.{_+_, _≤_, _<_, _^_};
+ghost use lib.Dec.{eqb};
 ghost use lib.ListN.{length, take};
 ghost use Rattle.rows.specs.Rows.{Wrote};
 ghost use Rattle.model.specs.Base.{joined};
@@ -18,21 +21,19 @@ ghost use Rattle.model.specs.Serving.{over};
 ghost use Rattle.paths.specs.Layout.{pathIn};
 ghost use Rattle.sessions.specs.Logins.{loginsIn};
 ghost use Rattle.tables.specs.Memory.{tablesIn};
-ghost use Rattle.deliveries.specs.Receivers.{receives, receiversOf, deliveryOf};
+ghost use Rattle.deliveries.specs.Receivers.{receiversOf, deliveryOf};
 
-// Whether the user at j has an open session, may read the path, and is not the sender at i.
-fn receives(tables: &[u8], logins: &[u16], i: usize, path: &[u8], j: usize) -> bool
-    requires { ⌜ (length (now tables) ≡ 47200) × (length (now logins) ≡ 96) × (103 ≤ length (now path)) × (j < 32) ⌝ }
-    ensures { λ r. ⌜ r ≡ receives (tablesIn (now (tables .entry))) (loginsIn (now (logins .entry))) i (pathIn (now (path .entry))) j ⌝ }
+// Whether a push by the user at i reaches the one at j, who has this login state and may read the path or not.
+fn receives(i: usize, j: usize, state: LoginState, reads: bool) -> bool
+    ensures { λ r. ⌜ r ≡ (state .is_open && not (eqb j i) && reads) ⌝ }
 {
-    let state = state_at(logins, j);
     if !state.is_open {
         return false;
     }
     if j == i {
         return false;
     }
-    may_read(tables, j, path)
+    reads
 }
 
 // The session numbers that a push by the user at i reaches, ascending, at the start of the list; how many they are.
@@ -48,11 +49,13 @@ pub fn put_receivers(
     ensures { λ r. ⌜ r ≡ length (receiversOf (tablesIn (now (tables .entry))) (loginsIn (now (logins .entry))) i (pathIn (now (path .entry)))) ⌝ }
 {
     let n = row_count(tables, USER, USERS);
+    let marks = readers(tables, path);
     let mut told: usize = 0;
     let mut j: usize = 0;
     while j < n {
-        if receives(tables, logins, i, path, j) {
-            list[told] = number(j, state_at(logins, j));
+        let state = state_at(logins, j);
+        if receives(i, j, state, marks[j] != 0) {
+            list[told] = number(j, state);
             told += 1;
         }
         j += 1;

@@ -1,5 +1,5 @@
 -- Comparing texts from a position on: after two equal bytes what is left is the same comparison of what stands behind them.
-use Prim.Native.Nat.{ℕ, _+_, _≤_, _<_, compare, Ordering, Ordering·lt, Ordering·eq, Ordering·gt}
+use Prim.Native.Nat.{ℕ, _+_, _-_, _≤_, _<_, compare, Ordering, Ordering·lt, Ordering·eq, Ordering·gt}
 use mathlib.Core.Path.{_≡_, refl, sym, ap, _∙_}
 use mathlib.Core.Option.{Option, none, some}
 use mathlib.Core.Bool.{true, false}
@@ -13,7 +13,7 @@ use borrow.Author.Tests.{eq-eqb, ne-eqb, eqb-true, eqb-false, leb-true, leb-fals
 use Rattle.rows.proofs.Positions.{here, over}
 use Rattle.model.specs.Base.{Bytes, _==_, after, isSome}
 use Rattle.model.specs.Fields.{andThen, lex}
-use Rattle.model.proofs.Lists.{by-cases, never, bytes-eq}
+use Rattle.model.proofs.Lists.{by-cases, never, bytes-eq, bytes-refl}
 use Rattle.model.proofs.Order.{by-three}
 use Rattle.model.proofs.Reading.{after-some}
 use Rattle.lexical.specs.Orders.{orderOf}
@@ -25,18 +25,22 @@ module _ (a b : Bytes) where
   pub same-lengths : (length a ≡ length b → ⊥) → (a == b) ≡ false
   same-lengths h = by-cases (a == b) (λ e. absurd (h (ap length (bytes-eq a b e)))) (λ e. e)
 
+  pub same-not : (i : ℕ) → (getD a i 0 ≡ getD b i 0 → ⊥) → (a == b) ≡ false
+  same-not i h = by-cases (a == b) (λ e. absurd (h (ap (λ (l : Bytes). getD l i 0) (bytes-eq a b e)))) (λ e. e)
+
+  -- from the end back: nothing is left behind the last byte, one equal byte more before what is equal, and at the start all is
   module _ (i : ℕ) where
-    pub same-step : i < length a → i < length b → getD a i 0 ≡ getD b i 0 → (drop i a == drop i b) ≡ (drop (i + 1) a == drop (i + 1) b)
-    unfolding _==_
-    same-step p q h = rw (here 0 a i p, here 0 b i q, eq-eqb (getD a i 0) (getD b i 0) h)
+    pub same-end : length a ≤ i → length b ≤ i → drop i a ≡ drop i b
+    same-end p q = over a i p ∙ sym (over b i q)
 
-    pub same-stop : i < length a → i < length b → (getD a i 0 ≡ getD b i 0 → ⊥) → (drop i a == drop i b) ≡ false
-    unfolding _==_
-    same-stop p q h = rw (here 0 a i p, here 0 b i q, ne-eqb (getD a i 0) (getD b i 0) h)
+    pub same-back : 0 < i → i ≤ length a → i ≤ length b → getD a (i - 1) 0 ≡ getD b (i - 1) 0 → drop i a ≡ drop i b
+        → drop (i - 1) a ≡ drop (i - 1) b
+    same-back z p q h r =
+        let e : i - 1 + 1 ≡ i = omega arith in
+        rw (here 0 a (i - 1) (omega arith), here 0 b (i - 1) (omega arith), e, h, r)
 
-    pub same-end : length a ≤ i → length b ≤ i → (drop i a == drop i b) ≡ true
-    unfolding _==_
-    same-end p q = rw (over a i p, over b i q)
+    pub same-start : i ≤ 0 → drop i a ≡ drop i b → (a == b) ≡ true
+    same-start z r = let e : i ≡ 0 = omega arith in rw (rw e at r) (bytes-refl b)
 
 -- ── The order of two lists, by an order o of their elements ──
 module _ {A : Type 0} (o : A → A → Ordering) (z : A) (a b : List A) (i : ℕ) where

@@ -1,7 +1,7 @@
 // Decimal numbers.
 use crate::class::is_digit;
 ghost use mathlib.Core.Path.{_≡_};
-ghost use Prim.Native.Nat.{_≤_};
+ghost use Prim.Native.Nat.{_≤_, min};
 ghost use Rattle.model.specs.Base.{number};
 ghost use Rattle.lexical.specs.Numbers.{numberAnswer};
 
@@ -38,4 +38,14 @@ pub fn number(s: &[u8], most: u64) -> Natural
         i += 1;
     }
     Natural::Is(n)
+}
+
+// The smaller of two numbers.
+pub fn least(a: usize, b: usize) -> usize
+    ensures { λ r. ⌜ r ≡ min a b ⌝ }
+{
+    if a < b {
+        return a;
+    }
+    b
 }

@@ -1,4 +1,5 @@
 // Comparing slices.
+use crate::number::least;
 ghost use mathlib.Core.Path.{_≡_};
 ghost use mathlib.Core.List.{[], _∷_};
 ghost use Prim.Native.Nat.{_≤_};
@@ -13,18 +14,19 @@ pub enum Order {
     Greater,
 }
 
+// Names often begin alike, so the last bytes are compared first.
 pub fn same(a: &[u8], b: &[u8]) -> bool
     ensures { λ r. ⌜ r ≡ (now (a .entry) == now (b .entry)) ⌝ }
 {
     if a.len() != b.len() {
         return false;
     }
-    let mut i = 0;
-    while i < a.len() {
+    let mut i = a.len();
+    while 0 < i {
+        i -= 1;
         if a[i] != b[i] {
             return false;
         }
-        i += 1;
     }
     true
 }
@@ -33,23 +35,24 @@ pub fn same(a: &[u8], b: &[u8]) -> bool
 pub fn compare(a: &[u8], b: &[u8]) -> Order
     ensures { λ r. ⌜ r ≡ orderOf (orderKey (now (a .entry)) (now (b .entry))) ⌝ }
 {
+    let n = least(a.len(), b.len());
     let mut i = 0;
-    while i < a.len() {
-        if b.len() <= i {
-            return Order::Greater;
-        }
+    while i < n {
         let x = a[i];
         let y = b[i];
-        if x < y {
-            return Order::Less;
-        }
-        if y < x {
+        if x != y {
+            if x < y {
+                return Order::Less;
+            }
             return Order::Greater;
         }
         i += 1;
     }
     if i < b.len() {
         return Order::Less;
+    }
+    if i < a.len() {
+        return Order::Greater;
     }
     Order::Equal
 }

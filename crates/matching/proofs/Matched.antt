@@ -1,7 +1,7 @@
 -- Matching by loops: what is left of a test over rows, of a user's environment lines and of two paths at a place.
 use Prim.Native.Nat.{ℕ, suc, _+_, _*_, _-_, _≤_, _<_, min}
 use mathlib.Core.Path.{_≡_, refl, sym, ap, _∙_}
-use mathlib.Core.Bool.{Bool, true, false, _&&_, _||_}
+use mathlib.Core.Bool.{Bool, true, false, _&&_, _||_, and-true, and-false, and-assoc}
 use mathlib.Core.List.{List, [], _∷_}
 use native.Mathlib.Nat.{add-zero}
 use native.Mathlib.Omega.{arith}
@@ -14,19 +14,18 @@ use Rattle.rows.proofs.Table.{table-start, table-end, table-stop, table-step}
 use Rattle.model.specs.Base.{Bytes, any, among, keep, _==_}
 use Rattle.model.specs.Fields.{Keys}
 use Rattle.model.specs.Limits.{maxBindings}
-use Rattle.model.specs.Paths.{Steps}
+use Rattle.model.specs.Paths.{Step, Steps}
 use Rattle.model.specs.Paths as paths
 use Rattle.model.specs.Tables.{Binding}
 use Rattle.model.specs.Rights.{listed, firstIs, admits, matches}
-use Rattle.model.proofs.Lists.{by-cases, keep-yes, keep-no}
+use Rattle.model.proofs.Lists.{by-cases, never, and-both, keep-yes, keep-no}
 use Rattle.paths.specs.Layout.{nameIn, counted, pathIn}
-use Rattle.steps.specs.Steps.{operatorOf, namesIn, byKind, kindOf, stepIn, stepsIn}
+use Rattle.steps.specs.Steps.{namesIn, byKind, kindOf, stepIn, stepsIn}
 use Rattle.steps.specs.Environments.{bindingIn, isEmptyRow, bindingsIn}
-use Rattle.steps.specs.declared.step.Operator.{Operator}
-use Rattle.steps.specs.declared.step.Operator.the-variants.{Equals, In}
 use Rattle.steps.specs.declared.step.Kind.{Kind}
 use Rattle.steps.proofs.StepRows.{step-told}
 use Rattle.paths.proofs.Counted.{length-counted, counted-step, counted-over}
+use Rattle.matching.specs.Parts.{decides, mayAdmit, isMet, paired, mayMatch}
 
 -- ── Whether any row of a slot passes, from the row i on ──
 module _ {A : Type 0} (decode : Bytes → A) (k m : ℕ) (p : A → Bool) (s : Bytes) (i : ℕ) where
@@ -101,50 +100,89 @@ unfolding asked firstIs among any
 asked-none paths.equals k e = rw e
 asked-none paths.isIn k e = rw e
 
--- the key k was compared with the first of them
+-- the first of them is v, and r says whether it is the key k
 module _ (k v : Bytes) {vs ws : List Bytes} (e : vs ≡ v ∷ ws) {r : Bool} (t : r ≡ (k == v)) where
-  pub asked-yes : (o : paths.Operator) → r ≡ true → asked o k vs ≡ true
+  pub asked-decided : (o : paths.Operator) → decides o r ≡ true → asked o k vs ≡ r
   unfolding asked firstIs among any
-  asked-yes paths.equals y = rw (e, ← t, y)
-  asked-yes paths.isIn y = rw (e, ← t, y)
+  asked-decided paths.equals d = rw (e, ← t)
+  asked-decided paths.isIn d = rw (e, ← t, d)
 
-  module _ (o : Operator) (f : r ≡ false) where
-    pub asked-first : o ≡ Equals → asked (operatorOf o) k vs ≡ false
-    unfolding asked firstIs
-    asked-first i = rw (i, e, ← t, f)
+  asked-left : (o : paths.Operator) → decides o r ≡ false → asked o k vs ≡ asked o k ws
+  unfolding asked among any
+  asked-left paths.equals d = never d
+  asked-left paths.isIn d = rw (e, ← t, d)
 
-    pub asked-more : o ≡ In → asked (operatorOf o) k vs ≡ asked (operatorOf o) k ws
-    unfolding asked among any
-    asked-more i = rw (i, e, ← t, f)
+-- a line that does not decide, whether or not it has the name n, leaves the question for the lines behind it
+pub asked-later : (s n : Bytes) (i : ℕ) → i < maxBindings → (getD s (i * 34) 0 ≡ 0 → ⊥)
+    → (o : paths.Operator) (k : Bytes) {value : Bytes} {r : Bool} → value ≡ nameIn (take 17 (drop (i * 34 + 17) s)) → r ≡ (k == value)
+    → decides o r ≡ false → asked o k (listed (linesFrom s i) n) ≡ asked o k (listed (linesFrom s (i + 1)) n)
+asked-later s n i h f o k v t d =
+    by-cases (nameIn (take 17 (drop (i * 34) s)) == n)
+    (λ y. asked-left k _ (listed-yes s n i h f refl refl y v) t o d)
+    (λ y. ap (asked o k) (listed-no s n i h f refl refl y))
 
 -- ── What a step admits: its kind k was matched with v, and the names are the part of its row behind the first byte ──
-pub admits-told : (bs : List Binding) (row key : Bytes) {k v : Kind} → k ≡ kindOf (getD row 0 0) → k ≡ v
-    → admits bs (stepIn row) key ≡ admits bs (byKind v (namesIn (take (length row - 1) (drop 1 row)))) key
-admits-told bs row key h e = rw (step-told row h e)
+module _ (row key : Bytes) {k v : Kind} (h : k ≡ kindOf (getD row 0 0)) (e : k ≡ v) where
+  pub may-admit-told : mayAdmit (stepIn row) key ≡ mayAdmit (byKind v (namesIn (take (length row - 1) (drop 1 row)))) key
+  may-admit-told = rw (step-told row h e)
+
+  pub is-met-told : (bs : List Binding) → isMet bs (stepIn row) key ≡ isMet bs (byKind v (namesIn (take (length row - 1) (drop 1 row)))) key
+  is-met-told bs = rw (step-told row h e)
+
+-- a step admits a key where the key may be admitted and the lines let it be
+pub admits-parts : (bs : List Binding) (t : Step) (k : Bytes) → admits bs t k ≡ (mayAdmit t k && isMet bs t k)
+unfolding admits mayAdmit isMet
+admits-parts bs (paths.names ns) k = sym (and-true (among k ns))
+admits-parts bs paths.wildcard k = refl
+admits-parts bs (paths.environment o n) k = refl
 
 -- ── A policy path and a field's path, from the step i on ──
-module _ (bs : List Binding) where
-  matches-lengths : (ts : Steps) (ks : Keys) → (length ts ≡ length ks → ⊥) → matches bs ts ks ≡ false
-  unfolding matches
-  matches-lengths [] [] f = absurd (f refl)
-  matches-lengths [] (k ∷ ks) f = refl
-  matches-lengths (t ∷ ts) [] f = refl
-  matches-lengths (t ∷ ts) (k ∷ ks) f =
-      rw (matches-lengths ts ks (λ e. f (ap suc e))) (by-cases (admits bs t k) (λ e. rw e) (λ e. rw e))
+module _ (test : Step → Bytes → Bool) where
+  paired-lengths : (ts : Steps) (ks : Keys) → paired test ts ks ≡ true → length ts ≡ length ks
+  unfolding paired
+  paired-lengths [] [] h = refl
+  paired-lengths [] (k ∷ ks) h = never (sym h)
+  paired-lengths (t ∷ ts) [] h = never (sym h)
+  paired-lengths (t ∷ ts) (k ∷ ks) h = ap suc (paired-lengths ts ks (and-both (test t k) (paired test ts ks) h .1))
 
   module _ (s slot : Bytes) where
-    pub matches-unlike : (min (getD slot 0 0) 6 ≡ min (getD s 0 0) 6 → ⊥) → matches bs (stepsIn s) (pathIn slot) ≡ false
+    pub paired-counts : paired test (stepsIn s) (pathIn slot) ≡ true → min (getD slot 0 0) 6 ≡ min (getD s 0 0) 6
     unfolding stepsIn pathIn
-    matches-unlike f = matches-lengths (stepsIn s) (pathIn slot) (λ e. f (sym (length-counted nameIn 17 6 slot) ∙ sym e ∙ length-counted stepIn 70 6 s))
+    paired-counts h =
+        sym (length-counted nameIn 17 6 slot) ∙ sym (paired-lengths (stepsIn s) (pathIn slot) h) ∙ length-counted stepIn 70 6 s
+
+    pub paired-unlike : (min (getD slot 0 0) 6 ≡ min (getD s 0 0) 6 → ⊥) → paired test (stepsIn s) (pathIn slot) ≡ false
+    paired-unlike f = by-cases (paired test (stepsIn s) (pathIn slot)) (λ e. absurd (f (paired-counts e))) (λ e. e)
 
     module _ (i : ℕ) where
-      -- the step in the row at i admits the key at i, or not
-      pub matches-step : {row key : Bytes} {r : Bool} → i < min (getD s 0 0) 6 → i < min (getD slot 0 0) 6
-          → row ≡ take 70 (drop (i * 70 + 1) s) → key ≡ nameIn (take 17 (drop (i * 17 + 1) slot)) → r ≡ admits bs (stepIn row) key
-          → matches bs (drop i (stepsIn s)) (drop i (pathIn slot)) ≡ (r && matches bs (drop (i + 1) (stepsIn s)) (drop (i + 1) (pathIn slot)))
-      unfolding stepsIn pathIn matches
-      matches-step p q e k t = rw (counted-step stepIn 70 6 s i p, counted-step nameIn 17 6 slot i q, t, e, k)
+      -- the step in the row at i passes with the key at i, or not
+      pub paired-step : {row key : Bytes} {r : Bool} → i < min (getD s 0 0) 6 → i < min (getD slot 0 0) 6
+          → row ≡ take 70 (drop (i * 70 + 1) s) → key ≡ nameIn (take 17 (drop (i * 17 + 1) slot)) → r ≡ test (stepIn row) key
+          → paired test (drop i (stepsIn s)) (drop i (pathIn slot)) ≡ (r && paired test (drop (i + 1) (stepsIn s)) (drop (i + 1) (pathIn slot)))
+      unfolding stepsIn pathIn paired
+      paired-step p q e k t = rw (counted-step stepIn 70 6 s i p, counted-step nameIn 17 6 slot i q, t, e, k)
 
-      pub matches-end : min (getD s 0 0) 6 ≤ i → min (getD slot 0 0) 6 ≤ i → matches bs (drop i (stepsIn s)) (drop i (pathIn slot)) ≡ true
-      unfolding stepsIn pathIn matches
-      matches-end p q = rw (counted-over stepIn 70 6 s i p, counted-over nameIn 17 6 slot i q)
+      pub paired-end : min (getD s 0 0) 6 ≤ i → min (getD slot 0 0) 6 ≤ i → paired test (drop i (stepsIn s)) (drop i (pathIn slot)) ≡ true
+      unfolding stepsIn pathIn paired
+      paired-end p q = rw (counted-over stepIn 70 6 s i p, counted-over nameIn 17 6 slot i q)
+
+and-swap : (a b c d : Bool) → (a && b && (c && d)) ≡ (a && c && (b && d))
+and-swap a true c d = simp (and-true, and-assoc)
+and-swap a false c d = simp and-false
+
+-- a path matches where it may match and the lines meet each step
+pub matches-parts : (bs : List Binding) (ts : Steps) (ks : Keys) → matches bs ts ks ≡ (mayMatch ts ks && paired (isMet bs) ts ks)
+unfolding matches mayMatch paired
+matches-parts bs [] [] = refl
+matches-parts bs [] (k ∷ ks) = refl
+matches-parts bs (t ∷ ts) [] = refl
+matches-parts bs (t ∷ ts) (k ∷ ks) =
+    rw (matches-parts bs ts ks, admits-parts bs t k) (and-swap (mayAdmit t k) (isMet bs t k) (mayMatch ts ks) (paired (isMet bs) ts ks))
+
+-- where it may not match, it does not
+pub matches-not : (bs : List Binding) (ts : Steps) (ks : Keys) → mayMatch ts ks ≡ false → matches bs ts ks ≡ false
+matches-not bs ts ks h = matches-parts bs ts ks ∙ rw h
+
+-- where it may match, the lines decide
+pub matches-met : (bs : List Binding) (ts : Steps) (ks : Keys) → mayMatch ts ks ≡ true → matches bs ts ks ≡ paired (isMet bs) ts ks
+matches-met bs ts ks h = matches-parts bs ts ks ∙ rw h

@@ -9,6 +9,7 @@ use steps::policy::row;
 use steps::step::Kind;
 use steps::step::Operator;
 ghost use mathlib.Core.Path.{_≡_};
+ghost use mathlib.Core.Bool.{true};
 ghost use Prim.Native.Nat.{_≤_};
 ghost use lib.ListN.{length};
 ghost use Rattle.model.specs.Paths.{environment};
@@ -17,6 +18,8 @@ ghost use Rattle.model.specs.Rights.{admits, matches};
 ghost use Rattle.paths.specs.Layout.{pathIn};
 ghost use Rattle.steps.specs.Steps.{operatorOf, namesIn, stepIn, stepsIn};
 ghost use Rattle.steps.specs.Environments.{bindingsIn};
+ghost use Rattle.matching.specs.Parts.{decides, mayAdmit, isMet, mayMatch};
+ghost use Rattle.matching.specs.Admitted.{admitted};
 
 // Whether the key is one of the names.
 pub fn has_name(names: &[u8], key: &[u8]) -> bool
@@ -34,7 +37,17 @@ pub fn has_name(names: &[u8], key: &[u8]) -> bool
     false
 }
 
-// Whether the key is the first value listed under the name n, or any of them, as the operator says.
+// Whether a line of the name ends the search: the first one does, or the first that holds the key.
+fn decides(operator: Operator, holds: bool) -> bool
+    ensures { λ r. ⌜ r ≡ decides (operatorOf operator) holds ⌝ }
+{
+    match operator {
+        Operator::Equals => true,
+        Operator::In => holds,
+    }
+}
+
+// Whether the key is the first value listed under the name n, or any of them, as the operator says. The value is compared first: where it does not decide, the name need not be.
 fn is_listed(lines: &[u8], operator: Operator, n: &[u8], key: &[u8]) -> bool
     requires { ⌜ 544 ≤ length (now lines) ⌝ }
     ensures { λ r. ⌜ r ≡ admits (bindingsIn (now (lines .entry))) (environment (operatorOf operator) (now (n .entry))) (now (key .entry)) ⌝ }
@@ -45,13 +58,10 @@ fn is_listed(lines: &[u8], operator: Operator, n: &[u8], key: &[u8]) -> bool
         if lines[at] == 0 {
             return false;
         }
-        if same(name_from(lines, at), n) {
-            if same(key, name_from(lines, at + 17)) {
-                return true;
-            }
-            match operator {
-                Operator::Equals => return false,
-                Operator::In => {}
+        let holds = same(key, name_from(lines, at + 17));
+        if decides(operator, holds) {
+            if same(name_from(lines, at), n) {
+                return holds;
             }
         }
         i += 1;
@@ -59,23 +69,45 @@ fn is_listed(lines: &[u8], operator: Operator, n: &[u8], key: &[u8]) -> bool
     false
 }
 
+// Whether the step in a row admits the key, given the right environment lines.
+fn may_admit(step: &[u8], key: &[u8]) -> bool
+    requires { ⌜ length (now step) ≡ 70 ⌝ }
+    ensures { λ r. ⌜ r ≡ mayAdmit (stepIn (now (step .entry))) (now (key .entry)) ⌝ }
+{
+    match kind_of(step[0]) {
+        Kind::Names => has_name(&step[1..], key),
+        Kind::Wildcard => true,
+        Kind::Environment(_) => true,
+    }
+}
+
+// Whether the environment lines let the step in a row admit the key: only an environment step asks them.
+fn is_met(lines: &[u8], step: &[u8], key: &[u8]) -> bool
+    requires { ⌜ (544 ≤ length (now lines)) × (length (now step) ≡ 70) ⌝ }
+    ensures { λ r. ⌜ r ≡ isMet (bindingsIn (now (lines .entry))) (stepIn (now (step .entry))) (now (key .entry)) ⌝ }
+{
+    match kind_of(step[0]) {
+        Kind::Names => true,
+        Kind::Wildcard => true,
+        Kind::Environment(operator) => is_listed(lines, operator, first_name(&step[1..]), key),
+    }
+}
+
 // Whether the step in a row admits the key.
 pub fn admits(lines: &[u8], step: &[u8], key: &[u8]) -> bool
     requires { ⌜ (544 ≤ length (now lines)) × (length (now step) ≡ 70) ⌝ }
     ensures { λ r. ⌜ r ≡ admits (bindingsIn (now (lines .entry))) (stepIn (now (step .entry))) (now (key .entry)) ⌝ }
 {
-    let names = &step[1..];
-    match kind_of(step[0]) {
-        Kind::Wildcard => true,
-        Kind::Names => has_name(names, key),
-        Kind::Environment(operator) => is_listed(lines, operator, first_name(names), key),
+    if !may_admit(step, key) {
+        return false;
     }
+    is_met(lines, step, key)
 }
 
-// Whether the policy path in one slot matches the field's path in the other.
-pub fn matches(lines: &[u8], steps: &[u8], slot: &[u8]) -> bool
-    requires { ⌜ (544 ≤ length (now lines)) × (421 ≤ length (now steps)) × (103 ≤ length (now slot)) ⌝ }
-    ensures { λ r. ⌜ r ≡ matches (bindingsIn (now (lines .entry))) (stepsIn (now (steps .entry))) (pathIn (now (slot .entry))) ⌝ }
+// Whether the policy path in one slot matches the field's path in the other, given the right environment lines.
+pub fn may_match(steps: &[u8], slot: &[u8]) -> bool
+    requires { ⌜ (421 ≤ length (now steps)) × (103 ≤ length (now slot)) ⌝ }
+    ensures { λ r. ⌜ r ≡ mayMatch (stepsIn (now (steps .entry))) (pathIn (now (slot .entry))) ⌝ }
 {
     let n = count(steps, 6);
     if count(slot, 6) != n {
@@ -83,11 +115,55 @@ pub fn matches(lines: &[u8], steps: &[u8], slot: &[u8]) -> bool
     }
     let mut i = 0;
     while i < n {
-        if admits(lines, row(steps, i), name_at(slot, i)) {
-            i += 1;
-        } else {
+        if !may_admit(row(steps, i), name_at(slot, i)) {
             return false;
         }
+        i += 1;
     }
     true
+}
+
+// Whether a policy path that may match does so with these environment lines.
+pub fn lines_match(lines: &[u8], steps: &[u8], slot: &[u8]) -> bool
+    requires { ⌜ (544 ≤ length (now lines)) × (421 ≤ length (now steps)) × (103 ≤ length (now slot)) ⌝ }
+    requires { ⌜ mayMatch (stepsIn (now steps)) (pathIn (now slot)) ≡ true ⌝ }
+    ensures { λ r. ⌜ r ≡ matches (bindingsIn (now (lines .entry))) (stepsIn (now (steps .entry))) (pathIn (now (slot .entry))) ⌝ }
+{
+    let n = count(steps, 6);
+    let mut i = 0;
+    while i < n {
+        if !is_met(lines, row(steps, i), name_at(slot, i)) {
+            return false;
+        }
+        i += 1;
+    }
+    true
+}
+
+// Whether the policy path in one slot matches the field's path in the other.
+pub fn matches(lines: &[u8], steps: &[u8], slot: &[u8]) -> bool
+    requires { ⌜ (544 ≤ length (now lines)) × (421 ≤ length (now steps)) × (103 ≤ length (now slot)) ⌝ }
+    ensures { λ r. ⌜ r ≡ matches (bindingsIn (now (lines .entry))) (stepsIn (now (steps .entry))) (pathIn (now (slot .entry))) ⌝ }
+{
+    if !may_match(steps, slot) {
+        return false;
+    }
+    lines_match(lines, steps, slot)
+}
+
+// How many first steps admit the first keys, one each, where the first `from` do.
+pub fn admitted(lines: &[u8], steps: &[u8], slot: &[u8], from: usize) -> usize
+    requires { ⌜ (544 ≤ length (now lines)) × (421 ≤ length (now steps)) × (103 ≤ length (now slot)) ⌝ }
+    requires { ⌜ from ≤ admitted (bindingsIn (now lines)) (stepsIn (now steps)) (pathIn (now slot)) ⌝ }
+    ensures { λ r. ⌜ r ≡ admitted (bindingsIn (now (lines .entry))) (stepsIn (now (steps .entry))) (pathIn (now (slot .entry))) ⌝ }
+{
+    let n = count(slot, count(steps, 6));
+    let mut i = from;
+    while i < n {
+        if !admits(lines, row(steps, i), name_at(slot, i)) {
+            return i;
+        }
+        i += 1;
+    }
+    i
 }

@@ -1,6 +1,8 @@
 // Opening the four texts: all or nothing.
 use crate::answer::Opening;
 use crate::fields::open_record;
+use crate::store::copy_fields;
+use crate::store::copy_tables;
 use crate::texts::open_tables;
 ghost use mathlib.Core.Path.{_≡_};
 ghost use Rattle.model.specs.Opening.{opened, afterOpening};
@@ -63,8 +65,8 @@ pub fn open(
     let Opening::Done = loaded else {
         return loaded;
     };
-    *tables = memory;
-    *fields = table;
+    copy_tables(tables, &memory);
+    copy_fields(fields, &table);
     *logins = [0u16; LOGINS];
     Opening::Done
 }

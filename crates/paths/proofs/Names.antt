@@ -1,23 +1,14 @@
 -- A name in a row: how it is written, and how it is read back.
 use Prim.Native.Nat.{ℕ, _-_, _≤_, _<_, min}
-use mathlib.Core.Path.{_≡_, sym, _∙_}
+use mathlib.Core.Path.{_≡_}
 use mathlib.Core.List.{List, [], _∷_, _++_}
 use native.Mathlib.Omega.{arith}
-use lib.Dec.{leb}
 use lib.ListN.{length, take, length-take, length-append}
 use lib.Seq.{take-all, take-at}
-use borrow.Author.Tests.{leb-true, leb-false}
 use Rattle.rows.specs.Rows.{written}
 use Rattle.rows.proofs.Writing.{written-clipped}
 use Rattle.model.specs.Base.{Bytes}
-use Rattle.model.proofs.Lists.{by-cases}
 use Rattle.paths.specs.Layout.{nameIn}
-
--- at most k bytes of a name
-pub name-clipped : (k n : ℕ) (name : Bytes) → n ≡ min (length name) k → take n name ≡ take k name
-name-clipped k n name h = by-cases (leb (length name) k)
-    (λ e. let l = leb-true (length name) k e in take-all n name (omega arith) ∙ sym (take-all k name l))
-    (λ e. let m : n ≡ k = omega (arith, leb-false (length name) k e) in rw m)
 
 -- a name that was written into a row of 17 bytes is read back
 pub name-written : (name row : Bytes) → length row ≡ 17

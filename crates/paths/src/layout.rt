@@ -1,4 +1,5 @@
 // Names in rows of 17 bytes, how many and the bytes; rows behind a byte that says how many there are.
+use lexical::number::least;
 use values::write::put;
 ghost use mathlib.Core.Path.{_≡_};
 ghost use mathlib.Core.List.{[], _∷_, _++_};
@@ -6,15 +7,6 @@ ghost use Prim.Native.Nat.{_+_, _*_, _≤_, _<_, min};
 ghost use lib.ListN.{length, getD, take, drop};
 ghost use Rattle.rows.specs.Rows.{written};
 ghost use Rattle.paths.specs.Layout.{nameIn, counted};
-
-fn least(n: usize, most: usize) -> usize
-    ensures { λ r. ⌜ r ≡ min n most ⌝ }
-{
-    if n < most {
-        return n;
-    }
-    most
-}
 
 // How many rows a slot says it has, at most `most`.
 pub fn count(slot: &[u8], most: usize) -> usize

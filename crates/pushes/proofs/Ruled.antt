@@ -2,13 +2,12 @@
 use Prim.Native.Nat.{ℕ, _*_, _-_, _≤_, _<_}
 use mathlib.Core.Path.{_≡_, refl, sym, _∙_}
 use mathlib.Core.Bool.{Bool, true, false, not, _&&_}
-use mathlib.Core.Option.{some}
 use mathlib.Core.List.{List}
 use borrow.Author.Tests.{le-leb, lt-leb}
 use lib.Dec.{leb}
 use lib.ListN.{length, getD, take, drop}
 use Rattle.rows.proofs.Parts.{tail-part}
-use Rattle.model.specs.Base.{Bytes, any}
+use Rattle.model.specs.Base.{Bytes}
 use Rattle.model.specs.Values.{Value}
 use Rattle.model.specs.Fields.{Keys, Fields, holds}
 use Rattle.model.specs.Refusals.{Result, refused, done, _>>_, refuse_if_}
@@ -17,8 +16,6 @@ use Rattle.model.specs.Opening.{LoginState, emptyLogin}
 use Rattle.model.specs.Serving.{Change, stores, creating, indexIn, decidePush}
 use Rattle.tables.specs.Memory.{userIn, usersIn, policyIn, tablesIn}
 use Rattle.model.specs.Rights.{mayWrite}
-use Rattle.tables.specs.Grants.{gives, givenBy, writesBy}
-use Rattle.tables.proofs.Given.{given-writes}
 use Rattle.record.specs.declared.table.Place.{Place}
 use Rattle.record.specs.declared.table.Place.the-variants.{At, Before}
 use Rattle.record.specs.Search.{placeIn}
@@ -54,17 +51,17 @@ module _ (s : Bytes) (ls : List LoginState) (n : ℕ) {o : SessionAt} (found : o
         (is : row ≡ take 597 (drop (i * 597) s))
         (p : Keys)
         {r : Bool}
-        (may : r ≡ any (gives true (userIn row) p) (policyIn (take (length s - 19104) (drop 19104 s))))
+        (may : r ≡ mayWrite (policyIn (take (length s - 19104) (drop 19104 s))) (userIn row) p)
         (fs : Fields)
         (v : Value)
       where
         ruled : pushDecided (tablesIn s) ls fs n p v
             ≡ ((refuse 16 if not r) >> ((refuse 17 if not (holds p fs) && leb (userIn row .quota) (getD ls i emptyLogin .created))
             >> done (stores i (creating (getD ls i emptyLogin) (holds p fs)) (record { path = p; value = v }))))
-        unfolding ruling givenBy writesBy
+        unfolding ruling
         ruled =
             let (known, index) = session-known s ls n found at in
-            let writes = (rw (tail-part 19104 s) at may) ∙ given-writes (policyIn (drop 19104 s)) (some (userIn row)) p in
+            let writes = rw (tail-part 19104 s) at may in
             push-decides fs p v ∙ in-session (usersIn s) ls n _ (session-user s ls n found at is) known ∙ rw (← index, writes)
 
         pub no-right : r ≡ false → pushDecided (tablesIn s) ls fs n p v ≡ refused 16

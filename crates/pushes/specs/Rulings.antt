@@ -1,5 +1,6 @@
 -- What a push is decided to be, but for the list's length.
 use Prim.Native.Nat.{ℕ}
+use mathlib.Core.Path.{_≡_}
 use mathlib.Core.List.{List}
 use lib.ListN.{getD}
 use Rattle.model.specs.Values.{Value}
@@ -8,6 +9,7 @@ use Rattle.model.specs.Refusals.{Result, refused, done, _>>=_, _or_}
 use Rattle.model.specs.Tables.{Tables, userAt}
 use Rattle.model.specs.Opening.{LoginState, emptyLogin}
 use Rattle.model.specs.Serving.{Change, stores, indexIn, decidePush}
+use Rattle.record.specs.Search.{placeIn}
 use Rattle.sessions.specs.Logins.{stateOf}
 use Rattle.pushes.specs.declared.Ruling.{Ruling}
 use Rattle.pushes.specs.declared.Ruling.the-variants.{Refused, Stores}
@@ -15,7 +17,12 @@ use Rattle.pushes.specs.declared.Ruling.the-variants.{Refused, Stores}
 -- the refusal, or the change for a path and a value
 abbrev pub rulingAnswer : Ruling → Keys → Value → Result ℕ Change
 rulingAnswer (Refused e) p v = refused e
-rulingAnswer (Stores i a) p v = done (stores i (stateOf a) (record { path = p; value = v }))
+rulingAnswer (Stores i a l) p v = done (stores i (stateOf a) (record { path = p; value = v }))
+
+-- a field is stored where the search for its path ends
+abbrev pub PlaceFound : Ruling → Keys → Fields → Type 0
+PlaceFound (Refused e) p fs = Unit {0}
+PlaceFound (Stores i a l) p fs = l ≡ placeIn 0 p fs
 
 -- "14; 16 the user may not write the path; 17 the field is absent and the user has created as many as the allowance"
 unfoldable pub pushDecided : Tables → List LoginState → Fields → ℕ → Keys → Value → Result ℕ Change

@@ -18,11 +18,10 @@ use Rattle.model.specs.Limits.{maxDepth, maxFields}
 use Rattle.model.specs.Values.{Value, truth, readValue, valueText}
 use Rattle.model.proofs.Valid.{validValue}
 use Rattle.model.proofs.Spelling as spelling
-use Rattle.values.specs.declared.value.Scalar.{Scalar}
 use Rattle.values.specs.declared.value.ValueAt.{ValueAt}
-use Rattle.values.specs.declared.value.ValueAt.the-variants.{At, Bad}
+use Rattle.values.specs.declared.value.ValueAt.the-variants.{Bad}
 use Rattle.values.specs.Scalars as scalars
-use Rattle.values.proofs.Values.{value-reads, value-bad, value-inside}
+use Rattle.values.proofs.Values.{value-bad}
 use Rattle.paths.specs.Layout.{nameIn, counted, pathIn}
 use Rattle.record.specs.Slots.{textIn, valueIn, heldValue, fieldIn, isEmpty, fieldsIn, fieldAt}
 
@@ -40,10 +39,6 @@ module _ (s t : Bytes) (is : t ≡ textIn s) (r : ValueAt) (answer : scalars.val
   pub value-none : r ≡ Bad → truth false ≡ valueIn s
   unfolding valueIn
   value-none i = rw (← is, value-bad t 0 r answer i)
-
-  pub value-some : scalars.AnswerInText r t → (v : Scalar) (e : ℕ) → r ≡ At v e → (scalars.valueIn (textIn s) v ≡ valueIn s) × scalars.InText v (textIn s)
-  unfolding valueIn
-  value-some k v e i = rw (← is) (rw (value-reads t 0 r answer (omega arith) v e i .is), value-inside t r k v e i)
 
 -- ── The path is in the first 103 bytes ──
 counted-part : {A : Type 0} (decode : Bytes → A) (k m p : ℕ) (s : Bytes) → m * k + 1 ≤ p → counted decode k m (take p s) ≡ counted decode k m s

@@ -1,18 +1,19 @@
 // A slot of 138 bytes: a path (103 bytes), how long the value's text is (one byte), and room for the text (34 bytes).
+use crate::table::Place;
 use crate::table::store;
+use crate::table::store_at;
 use paths::layout::count;
 use values::value::Scalar;
-use values::value::ValueAt;
 use values::value::put_value;
-use values::value::value_at;
 use values::write::copy;
 ghost use mathlib.Core.Path.{_≡_};
+ghost use mathlib.Core.Bool.{false};
 ghost use Prim.Native.Nat.{_≤_, min};
 ghost use lib.ListN.{length};
 ghost use Rattle.values.specs.Scalars as scalars;
 ghost use Rattle.paths.specs.Layout.{pathIn};
-ghost use Rattle.record.specs.Slots.{textIn, valueIn, heldValue, fieldIn, isEmpty, fieldsIn};
-ghost use Rattle.record.specs.Search.{storedAt};
+ghost use Rattle.record.specs.Slots.{textIn, heldValue, fieldIn, isEmpty, fieldsIn};
+ghost use Rattle.record.specs.Search.{placeIn, storedAt};
 
 // The text of a slot's value.
 pub fn value_text(slot: &[u8]) -> &[u8]
@@ -22,19 +23,6 @@ pub fn value_text(slot: &[u8]) -> &[u8]
 {
     let end = 104 + count(&slot[103..], 34);
     &slot[104..end]
-}
-
-// The value that a slot holds; a string is a part of the value's text.
-pub fn value_of(slot: &[u8]) -> Scalar
-    requires { ⌜ length (now slot) ≡ 138 ⌝ }
-    ensures { λ r. ⌜ scalars.valueIn (textIn (now (slot .entry))) r ≡ valueIn (now (slot .entry)) ⌝ }
-    ensures { λ r. ⌜ scalars.InText r (textIn (now (slot .entry))) ⌝ }
-{
-    let text = value_text(slot);
-    let ValueAt::At(v, _) = value_at(text, 0) else {
-        return Scalar::False;
-    };
-    v
 }
 
 // The length of a value's text as the byte that says it: at most 34.
@@ -66,4 +54,15 @@ pub fn store_value(table: &mut [u8], path: &[u8], v: Scalar, text: &[u8])
     let mut slot = [0u8; 138];
     fill(&mut slot, path, v, text);
     store(table, &slot);
+}
+
+// The same where the path has keys and its place is known.
+pub fn store_value_at(table: &mut [u8], place: Place, path: &[u8], v: Scalar, text: &[u8])
+    requires { ⌜ (length (now table) ≡ 35328) × (103 ≤ length (now path)) × (length (now text) ≤ 65536) × scalars.InText v (now text) ⌝ }
+    requires { ⌜ (isEmpty (now path) ≡ false) × (place ≡ placeIn 0 (pathIn (now path)) (fieldsIn (now table))) ⌝ }
+    ensures { λ _. ⌜ fieldsIn (now (table .exit)) ≡ storedAt (now (path .entry)) (scalars.valueIn (now (text .entry)) v) (fieldsIn (now (table .entry))) ⌝ }
+{
+    let mut slot = [0u8; 138];
+    fill(&mut slot, path, v, text);
+    store_at(table, place, &slot);
 }

@@ -1,11 +1,12 @@
 // A table of 256 slots of 138 bytes, sorted by path: the slots before the first empty one are in use.
+use lexical::number::least;
 use lexical::slice::Order;
 use paths::field::compare_paths;
 use values::write::copy;
 ghost use mathlib.Core.Path.{_≡_};
 ghost use mathlib.Core.Bool.{false};
 ghost use mathlib.Core.List.{_++_};
-ghost use Prim.Native.Nat.{_+_, _*_, _-_, _≤_, _<_};
+ghost use Prim.Native.Nat.{_+_, _*_, _-_, _≤_, _<_, min};
 ghost use lib.ListN.{length, take, drop, set};
 ghost use Rattle.rows.specs.Rows.{insertAt};
 ghost use Rattle.rows.specs.Moves.{movedLater};
@@ -101,14 +102,23 @@ fn put_before(tail: &mut [u8], slot: &[u8])
     copy(tail, slot);
 }
 
-// The field of `slot` at the place `at`, before what stood there.
+// Where the slots in use and two more end, or all slots: what stands behind is no field, nor is it after one more is put in.
+fn used(table: &[u8]) -> usize
+    requires { ⌜ length (now table) ≡ 35328 ⌝ }
+    ensures { λ r. ⌜ r ≡ min (length (fieldsIn (now (table .entry))) + 2) 256 * 138 ⌝ }
+{
+    least(count(table) + 2, SLOTS) * SLOT
+}
+
+// The field of `slot` at the place `at`, before what stood there: only slots in use move, and the empty one behind them.
 fn insert(table: &mut [u8], at: usize, slot: &[u8])
     requires { ⌜ (length (now table) ≡ 35328) × (at < 256) × (length (now slot) ≡ 138) ⌝ }
     requires { ⌜ (at ≤ length (fieldsIn (now table))) × (isEmpty (now slot) ≡ false) ⌝ }
     ensures { λ _. ⌜ fieldsIn (now (table .exit)) ≡ take maxFields (insertAt at (fieldIn (now (slot .entry))) (fieldsIn (now (table .entry)))) ⌝ }
 {
     let start = at * SLOT;
-    put_before(&mut table[start..], slot);
+    let end = used(table);
+    put_before(&mut table[start..end], slot);
 }
 
 // The field of `slot` in the place of the one at `at`.
@@ -121,6 +131,22 @@ fn replace(table: &mut [u8], at: usize, slot: &[u8])
     copy(&mut table[start..], slot);
 }
 
+// The field of a slot, in the place of the one of its path or where it belongs, which a search has found.
+pub fn store_at(table: &mut [u8], place: Place, slot: &[u8])
+    requires { ⌜ (length (now table) ≡ 35328) × (length (now slot) ≡ 138) × (isEmpty (now slot) ≡ false) ⌝ }
+    requires { ⌜ place ≡ placeIn 0 (pathIn (now slot)) (fieldsIn (now table)) ⌝ }
+    ensures { λ _. ⌜ fieldsIn (now (table .exit)) ≡ storedIn (now (slot .entry)) (fieldsIn (now (table .entry))) ⌝ }
+{
+    match place {
+        Place::At(at) => replace(table, at, slot),
+        Place::Before(at) => {
+            if at < SLOTS {
+                insert(table, at, slot);
+            }
+        }
+    }
+}
+
 // The field of a slot, in the place of the one of its path or where it belongs: an empty slot changes nothing.
 pub fn store(table: &mut [u8], slot: &[u8])
     requires { ⌜ (length (now table) ≡ 35328) × (length (now slot) ≡ 138) ⌝ }
@@ -129,12 +155,6 @@ pub fn store(table: &mut [u8], slot: &[u8])
     if is_empty(slot) {
         return;
     }
-    match find(table, slot) {
-        Place::At(at) => replace(table, at, slot),
-        Place::Before(at) => {
-            if at < SLOTS {
-                insert(table, at, slot);
-            }
-        }
-    }
+    let place = find(table, slot);
+    store_at(table, place, slot);
 }

@@ -5,3 +5,4 @@ pub mod Moves
 pub mod Writing
 pub mod Parts
 pub mod Positions
+pub mod Marks

@@ -1,16 +1,16 @@
 -- A table of rows in a flat list: how a loop reads it, and what it means where a row is put in, written or taken out.
-use Prim.Native.Nat.{ℕ, suc, _+_, _*_, _-_, _≤_, _<_}
-use mathlib.Core.Path.{_≡_, refl, ap, _∙_}
+use Prim.Native.Nat.{ℕ, suc, _+_, _*_, _-_, _≤_, _<_, min}
+use mathlib.Core.Path.{_≡_, refl, sym, ap, _∙_}
 use mathlib.Core.Bool.{Bool, true, false}
 use mathlib.Core.List.{List, [], _∷_, _++_, map, map-append}
 use native.Mathlib.Nat.{zero-mul, sub-zero}
 use native.Mathlib.Numerals.{add-one}
 use native.Mathlib.Omega.{arith}
-use lib.ListN.{length, getD, take, drop, set, length-map}
-use lib.Seq.{getD-take}
+use lib.ListN.{length, getD, take, drop, set, length-map, length-take}
+use lib.Seq.{take-all, getD-take}
 use Rattle.rows.specs.Rows.{rows, upTo, insertAt, removeAt, replaced, table}
 use Rattle.rows.proofs.Rows.{map-take, map-drop, map-set, getD-map}
-use Rattle.rows.proofs.Rows.{length-rows, row-at, rows-step, drop-rows, rows-insert, rows-set, rows-remove}
+use Rattle.rows.proofs.Rows.{length-rows, row-at, rows-step, rows-take, take-rows, drop-rows, rows-insert, rows-set, rows-remove}
 use Rattle.rows.proofs.Rows.{upTo-prefix, length-upTo, upTo-take, upTo-stop}
 use Rattle.rows.proofs.Rows.{upTo-insert, upTo-set, upTo-push, upTo-remove}
 
@@ -24,6 +24,25 @@ module _ {ℓ κ} {A : Type ℓ} {B : Type κ} (stop : List A → Bool) (decode 
   pub length-table : (n : ℕ) (xs : List A) → length (table stop decode k n xs) ≤ n
   unfolding table
   length-table n xs = rw length-map (omega (arith, length-upTo stop (rows k n xs), length-rows k n xs))
+
+  -- what the first m of n rows mean
+  table-take : (m n : ℕ) (xs : List A) → m ≤ n → take m (table stop decode k n xs) ≡ table stop decode k m xs
+  unfolding table
+  table-take m n xs h = rw (← map-take, ← upTo-take, take-rows)
+
+  -- the same first e elements, in which stand all rows or a stop: what stands behind does not count
+  pub table-same : (m n e : ℕ) (xs ys : List A) → m * k ≤ e → m ≤ n → min (length (table stop decode k n xs) + 1) n ≤ m
+      → take e ys ≡ take e xs → table stop decode k n ys ≡ table stop decode k n xs
+  unfolding table
+  table-same m n e xs ys inside h u same =
+      let now = table stop decode k n ys in
+      let was = table stop decode k n xs in
+      let r : rows k m ys ≡ rows k m xs = sym (rows-take k m e ys inside) ∙ rw same (rows-take k m e xs inside) in
+      let t : take m now ≡ take m was = table-take m n ys h ∙ rw r (sym (table-take m n xs h)) in
+      let l : min m (length now) ≡ min m (length was) = sym (length-take m now) ∙ ap length t ∙ length-take m was in
+      let a : length now ≤ m = omega (arith, length-table n ys) in
+      let b : length was ≤ m = omega (arith, length-table n xs) in
+      sym (take-all m now a) ∙ t ∙ take-all m was b
 
   -- what the row at i means
   pub table-at : (i n : ℕ) (xs : List A) (z : B) → i < length (table stop decode k n xs)

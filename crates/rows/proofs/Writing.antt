@@ -1,14 +1,15 @@
 -- A text written into a buffer: what is left to write, and what the buffer holds after it.
-use Prim.Native.Nat.{ℕ, zero, suc, _+_, _-_, _≤_, _<_}
+use Prim.Native.Nat.{ℕ, zero, suc, _+_, _-_, _≤_, min}
 use mathlib.Core.Path.{_≡_, refl, sym, ap, _∙_}
-use mathlib.Core.List.{List, [], _∷_, _++_}
-use native.Mathlib.Nat.{add-zero, add-suc, suc-add, zero-add, zero-sub, sub-zero, suc-sub-suc}
+use mathlib.Core.List.{List, [], _∷_, _++_, append-nil}
+use native.Mathlib.Nat.{add-zero, add-suc, suc-add, zero-add, zero-sub, sub-zero, suc-sub-suc, zero-min, min-zero, suc-min-suc}
 use native.Mathlib.Numerals.{add-one}
 use native.Mathlib.Omega.{arith}
-use lib.ListN.{length, getD, take, drop, set, drop-of-length-le}
+use lib.ListN.{length, take, drop, set, length-take, length-drop, drop-of-length-le}
 use lib.Seq.{sets, length-sets, take-set-le, drop-set-lt, take-nil, drop-nil}
-use lib.Seq.{take-all, take-append-seam, length-take-le, drop-cons, drop-at}
-use Rattle.rows.specs.Rows.{written}
+use lib.Seq.{take-all, take-append-seam, length-take-le, drop-at, drop-drop}
+use Rattle.rows.specs.Rows.{replaced, written}
+use Rattle.rows.proofs.Parts.{tail-part, tail-replaced}
 
 module _ {ℓ} {A : Type ℓ} where
   -- the library's run of stores: of two texts, in no buffer, past a first element
@@ -36,16 +37,6 @@ module _ {ℓ} {A : Type ℓ} where
   pub written-append : (i : ℕ) (xs ys l : List A) → written (i + length xs) ys (written i xs l) ≡ written i (xs ++ ys) l
   unfolding written
   written-append i xs ys l = sym (sets-append xs ys l i)
-
-  -- a loop that writes s from the place `at` on: a turn at the element i, and the end
-  pub write-step : (z : A) (at i : ℕ) (s l : List A) → i < length s
-      → written (at + (i + 1)) (drop (i + 1) s) (set l (at + i) (getD s i z)) ≡ written (at + i) (drop i s) l
-  unfolding written
-  write-step z at i s l h = rw (drop-cons s i z h, add-one, add-suc)
-
-  pub write-end : (at i : ℕ) (s l : List A) → length s ≤ i → written (at + i) (drop i s) l ≡ l
-  unfolding written
-  write-end at i s l h = rw (drop-of-length-le s {i = i} h)
 
   -- what the buffer holds: what stood before the text, as much of the text as falls inside, what stood behind it
   pub written-clipped : (i : ℕ) (xs l : List A)
@@ -81,3 +72,31 @@ module _ {ℓ} {A : Type ℓ} where
       let all = take-all (length l - i) xs (omega arith) in
       let past = drop-at (take i l) (xs ++ rest) i (length-take-le i l (omega arith)) in
       rw (written-clipped i xs l, all, past) (take-append-seam xs rest)
+
+  -- a count cut to the length of a list takes, and drops, what the whole count does
+  pub take-clipped : (k n : ℕ) (xs : List A) → n ≡ min (length xs) k → take n xs ≡ take k xs
+  take-clipped k n xs h = rw h (go k xs)
+    where
+      go : (k : ℕ) (xs : List A) → take (min (length xs) k) xs ≡ take k xs
+      go k [] = take-nil (min 0 k) ∙ sym (take-nil k)
+      go zero (x ∷ xs) = rw min-zero
+      go (suc k) (x ∷ xs) = rw suc-min-suc (ap (λ (r : List A). x ∷ r) (go k xs))
+
+  drop-clipped : (k : ℕ) (l : List A) → drop (min k (length l)) l ≡ drop k l
+  drop-clipped k [] = drop-nil (min k 0) ∙ sym (drop-nil k)
+  drop-clipped zero (x ∷ l) = rw zero-min
+  drop-clipped (suc k) (x ∷ l) = rw suc-min-suc (drop-clipped k l)
+
+  -- a text from the end of the buffer on is not stored
+  pub written-outside : (i : ℕ) (xs l : List A) → length l ≤ i → written i xs l ≡ l
+  written-outside i xs l h =
+      let none : length l - i ≡ 0 = omega arith in
+      rw (written-clipped i xs l, take-all i l h, none, drop-of-length-le l {i = i + length xs} (omega arith), append-nil)
+
+  -- as much of a text as falls inside, copied into the part of the buffer from the place i on, is the text written there
+  pub written-copied : (i n : ℕ) (xs l ys : List A) → n ≡ min (length xs) (length l - i)
+      → ys ≡ take n xs ++ drop (length (take n xs)) (take (length l - i) (drop i l))
+      → replaced i (length l - i) ys l ≡ written i xs l
+  written-copied i n xs l ys h e =
+      let size : length (take n xs) ≡ min (length xs) (length (drop i l)) = simp (length-take, length-drop) (omega arith) in
+      rw (written-clipped, tail-replaced, e, tail-part, size, drop-clipped, drop-drop, take-clipped (length l - i) n xs h)

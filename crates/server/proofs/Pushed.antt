@@ -28,13 +28,14 @@ use Rattle.steps.specs.Environments.{isEmptyRow}
 use Rattle.tables.specs.Memory.{userIn, usersIn, tablesIn}
 use Rattle.tables.proofs.Tabled.{length-decoded, counted-within}
 use Rattle.record.specs.Slots.{heldValue, isEmpty, fieldsIn}
-use Rattle.record.specs.Search.{storedAt}
+use Rattle.record.specs.declared.table.Place.{Place}
+use Rattle.record.specs.Search.{placeIn, storedAt}
 use Rattle.record.proofs.Slots.{held-valid}
 use Rattle.sessions.specs.declared.LoginState as code
 use Rattle.sessions.specs.Logins.{loginsIn, stateOf}
 use Rattle.pushes.specs.declared.Ruling.{Ruling}
 use Rattle.pushes.specs.declared.Ruling.the-variants as ruling
-use Rattle.pushes.specs.Rulings.{rulingAnswer, pushDecided}
+use Rattle.pushes.specs.Rulings.{rulingAnswer, PlaceFound, pushDecided}
 use Rattle.deliveries.specs.Receivers.{receiversOf}
 use Rattle.deliveries.proofs.Received.{receivers-of}
 use Rattle.requests.specs.declared.Request.{Request}
@@ -120,7 +121,11 @@ module _ (tables : Bytes) (logins : List ℕ) (fields : Bytes) (n : ℕ) (path :
     unfolding roomFor
     push-refused is b l h v = request-refused _ b l (model.push n p v) (push-ruled is (length l) h v)
 
-    module _ {i : ℕ} {a : code.LoginState} (is : o ≡ ruling.Stores i a) where
+    module _ {i : ℕ} {a : code.LoginState} {l : Place} (is : o ≡ ruling.Stores i a l) where
+      -- the field is stored where the search for its path ended
+      pub push-place : PlaceFound o p (fieldsIn fields) → l ≡ placeIn 0 p (fieldsIn fields)
+      push-place found = rw is at found
+
       -- the index is a user's
       pub push-below : i < 32
       unfolding stateIn tablesIn usersIn userAt

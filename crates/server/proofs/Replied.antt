@@ -86,29 +86,29 @@ module _ (tables : Bytes) (logins : List ℕ) (n k : Bytes) where
     pub login-kept : LoginKept answer logins after → LoginsKept (loginReply r) logins after
     login-kept h = reply-kept r logins after (rw is at h)
 
--- ── A text shown: it was measured on no bytes, and then written if it fits ──
-measured : (c : Bytes) {n : ℕ} {o : Bytes} → Wrote 0 c [] n o → (n ≡ length c) × (o ≡ [])
-measured c (is, left) = (is ∙ zero-add (length c), left ∙ written-clipped 0 c [] ∙ rw drop-nil)
+-- ── A text shown: it is written if it fits ──
+-- measuring a text, which is writing it into no bytes, leaves the buffer as it was
+pub unwritten : (c b : Bytes) {n : ℕ} {o : Bytes} → Wrote 0 c [] n o → o ++ b ≡ b
+unwritten c b {o = o} (_, left) = let empty : o ≡ [] = left ∙ written-clipped 0 c [] ∙ rw drop-nil in rw empty
 
 -- a text that fits stands over the start of the buffer
 written-over : (c b : Bytes) → length c ≤ length b → written 0 c b ≡ over c b
 unfolding over
 written-over c b h = written-clipped 0 c b ∙ rw (sub-zero, take-all (length b) c h, zero-add)
 
-module _ (s : State) (b : Bytes) (l : List ℕ) (c : Bytes) {n : ℕ} {o : Bytes} (first : Wrote 0 c [] n o) where
-  pub shown-refused : length (o ++ b) < n → outcomeIn (Refused 15) s (o ++ b) l ≡ conclude s b l (decideShow c (length b))
+-- p is still the buffer b that was lent
+module _ (s : State) (b : Bytes) (l : List ℕ) (c : Bytes) {p : Bytes} (kept : p ≡ b) where
+  pub shown-refused : {n : ℕ} {o : Bytes} → Wrote 0 c [] n o → length p < n → outcomeIn (Refused 15) s p l ≡ conclude s b l (decideShow c (length b))
   unfolding outcomeIn conclude unchanged decideShow _>>_ refuse_if_
-  shown-refused h =
-      let (is, empty) = measured c first in
-      let short : length b < length c = rw (empty, is) at h in
-      rw (empty, lt-ltb (length b) (length c) short)
+  shown-refused (is, _) h =
+      let short : length b < length c = omega (arith, ap length kept) in
+      rw (kept, lt-ltb (length b) (length c) short)
 
-  pub shown-done : {m : ℕ} {p : Bytes} → Wrote 0 c (o ++ b) m p → n ≤ length (o ++ b) → outcomeIn (Length n) s p l ≡ conclude s b l (decideShow c (length b))
+  pub shown-done : {m : ℕ} {q : Bytes} → Wrote 0 c p m q → m ≤ length b → outcomeIn (Length m) s q l ≡ conclude s b l (decideShow c (length b))
   unfolding outcomeIn conclude decideShow _>>_ refuse_if_ answerOf apply shown notified over
-  shown-done (_, stands) h =
-      let (is, empty) = measured c first in
-      let fits : length c ≤ length b = rw (empty, is) at h in
-      rw (stands, empty, is, le-ltb (length b) (length c) fits, written-over c b fits)
+  shown-done (is, stands) h =
+      let fits : length c ≤ length b = omega arith in
+      rw (stands, kept, is, zero-add, le-ltb (length b) (length c) fits, written-over c b fits)
 
 -- ── GET: the copy is shown ──
 module _ (tables : Bytes) (logins : List ℕ) (fields : Bytes) (n : ℕ) {o : SessionAt}
@@ -139,14 +139,14 @@ module _ (tables : Bytes) (logins : List ℕ) (fields : Bytes) (n : ℕ) {o : Se
         let user = session-user tables _ n answer is at in
         rw (selects, policy-is, get-decides (length b), in-session _ _ n (copied (length b)) user (session-known tables _ n answer is .0))
 
-    module _ {k : ℕ} {e : Bytes} (first : Wrote 0 copy [] k e) where
-      pub get-refused : length (e ++ b) < k
-          → outcomeIn (Refused 15) (stateIn tables logins fields) (e ++ b) l ≡ served (stateIn tables logins fields) b l (some (get n))
-      get-refused h = shown-refused _ b l copy first h ∙ get-shows
+    module _ {p : Bytes} (kept : p ≡ b) where
+      pub get-refused : {k : ℕ} {e : Bytes} → Wrote 0 copy [] k e → length p < k
+          → outcomeIn (Refused 15) (stateIn tables logins fields) p l ≡ served (stateIn tables logins fields) b l (some (get n))
+      get-refused first h = shown-refused _ b l copy kept first h ∙ get-shows
 
-      pub get-done : {m : ℕ} {p : Bytes} → Wrote 0 copy (e ++ b) m p → k ≤ length (e ++ b)
-          → outcomeIn (Length k) (stateIn tables logins fields) p l ≡ served (stateIn tables logins fields) b l (some (get n))
-      get-done second h = shown-done _ b l copy first second h ∙ get-shows
+      pub get-done : {m : ℕ} {q : Bytes} → Wrote 0 copy p m q → m ≤ length b
+          → outcomeIn (Length m) (stateIn tables logins fields) q l ≡ served (stateIn tables logins fields) b l (some (get n))
+      get-done second h = shown-done _ b l copy kept second h ∙ get-shows
 
 -- ── Save: the saved text of all fields is shown ──
 -- a selection without 0 shows all

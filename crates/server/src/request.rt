@@ -4,11 +4,12 @@ use crate::open::LOGINS;
 use crate::open::RECORD;
 use crate::open::TABLES;
 use copies::put_copy;
+use copies::put_head;
 use copies::select;
 use deliveries::put_receivers;
 use pushes::Ruling;
 use pushes::decide;
-use record::slot::store_value;
+use record::slot::store_value_at;
 use requests::Parsed;
 use requests::Request;
 use requests::parse;
@@ -20,6 +21,7 @@ use tables::layout::POLICY;
 use tables::layout::USER;
 use tables::layout::row_at;
 use values::value::Scalar;
+use writer::saved::MOST;
 ghost use mathlib.Core.Path.{_≡_};
 ghost use mathlib.Core.Bool.{false};
 ghost use mathlib.Core.List.{List};
@@ -48,7 +50,7 @@ fn login(tables: &[u8], logins: &mut [u16], line: &[u8], cut: usize) -> Reply
     }
 }
 
-// GET: the copy is measured, and written if it fits.
+// GET: the copy is written if it fits, which is measured where room for the longest record does not show it.
 fn get(tables: &[u8], logins: &[u16], fields: &[u8; RECORD], n: u32, buffer: &mut [u8]) -> Reply
     requires { ⌜ (length (now tables) ≡ 47200) × (length (now logins) ≡ 96) ⌝ }
     ensures { λ r. ⌜ ((l : List ℕ) → outcomeIn r (stateIn (now (tables .entry)) (now (logins .entry)) (now (fields .entry))) (now (buffer .exit)) l ≡ serving.served (stateIn (now (tables .entry)) (now (logins .entry)) (now (fields .entry))) (now (buffer .entry)) l (some (model.get n))) ⌝ }
@@ -58,13 +60,15 @@ fn get(tables: &[u8], logins: &[u16], fields: &[u8; RECORD], n: u32, buffer: &mu
     };
     let user = row_at(tables, i, USER);
     let policy = &tables[POLICY..];
-    let mut shown = [0u8; 256];
-    select(&mut shown, policy, user, fields);
-    let length = put_copy(&mut buffer[..0], 0, policy, user, fields, &shown);
-    if buffer.len() < length {
-        return Reply::Refused(15);
+    let shown = select(policy, user, fields);
+    let head = put_head(&mut buffer[..0], 0, policy, user);
+    if buffer.len() <= head + MOST {
+        let length = put_copy(&mut buffer[..0], 0, policy, user, fields, &shown);
+        if buffer.len() < length {
+            return Reply::Refused(15);
+        }
     }
-    put_copy(buffer, 0, policy, user, fields, &shown);
+    let length = put_copy(buffer, 0, policy, user, fields, &shown);
     Reply::Length(length)
 }
 
@@ -90,10 +94,10 @@ fn push(
     let ruling = decide(tables, logins, fields, n, path);
     match ruling {
         Ruling::Refused(e) => Reply::Refused(e),
-        Ruling::Stores(i, state) => {
+        Ruling::Stores(i, state, place) => {
             let told = put_receivers(list, tables, logins, i, path);
             put_state(logins, i, state);
-            store_value(fields, path, value, line);
+            store_value_at(fields, place, path, value, line);
             Reply::Pushed(told)
         }
     }

@@ -1,6 +1,7 @@
 // The saved text of the whole record.
 use crate::answer::Reply;
 use crate::open::RECORD;
+use writer::saved::MOST;
 use writer::saved::put_saved;
 ghost use mathlib.Core.Path.{_≡_};
 ghost use mathlib.Core.List.{List, []};
@@ -10,15 +11,17 @@ ghost use Rattle.model.specs.Serving.{save, outcome};
 ghost use Rattle.opening.specs.Memory.{stateIn};
 ghost use Rattle.server.specs.Replies.{outcomeIn};
 
-// Save, with any buffer: the text is measured, and written if it fits.
+// Save, with any buffer: the text is written if it fits, which is measured where the longest would not.
 pub fn save(fields: &[u8; RECORD], buffer: &mut [u8]) -> Reply
     ensures { λ r. ⌜ ((tables : Bytes) (logins : List ℕ) → outcomeIn r (stateIn tables logins (now (fields .entry))) (now (buffer .exit)) [] ≡ outcome (stateIn tables logins (now (fields .entry))) (save (now (buffer .entry)))) ⌝ }
 {
     let all = [1u8; 256];
-    let length = put_saved(&mut buffer[..0], 0, fields, &all);
-    if buffer.len() < length {
-        return Reply::Refused(15);
+    if buffer.len() < MOST {
+        let length = put_saved(&mut buffer[..0], 0, fields, &all);
+        if buffer.len() < length {
+            return Reply::Refused(15);
+        }
     }
-    put_saved(buffer, 0, fields, &all);
+    let length = put_saved(buffer, 0, fields, &all);
     Reply::Length(length)
 }

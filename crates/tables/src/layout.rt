@@ -75,10 +75,13 @@ pub fn find_user(users: &[u8], name: &[u8]) -> UserAt
     requires { ⌜ (19104 ≤ length (now users)) × (length (now users) ≤ 65536) ⌝ }
     ensures { λ r. ⌜ r ≡ userAnswer (userNamed (now (name .entry)) (usersIn (now (users .entry)))) ⌝ }
 {
-    let n = row_count(users, USER, USERS);
     let mut i: usize = 0;
-    while i < n {
-        if same(name_from(users, i * USER), name) {
+    while i < USERS {
+        let at = i * USER;
+        if users[at] == 0 {
+            return UserAt::Unknown;
+        }
+        if same(name_from(users, at), name) {
             return UserAt::At(i);
         }
         i += 1;

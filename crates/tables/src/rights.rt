@@ -9,41 +9,46 @@ use crate::layout::is_for;
 use crate::layout::is_write;
 use crate::layout::row_at;
 use crate::layout::row_count;
+use matching::path::lines_match;
 use matching::path::matches;
+use matching::path::may_match;
 ghost use mathlib.Core.Path.{_≡_};
-ghost use Prim.Native.Nat.{_≤_};
+ghost use mathlib.Core.Bool.{true};
+ghost use Prim.Native.Nat.{ℕ, _≤_};
 ghost use lib.ListN.{length};
-ghost use Rattle.model.specs.Base.{any};
+ghost use Rattle.rows.specs.Rows.{rows, upTo};
+ghost use Rattle.rows.specs.Marks.{marked};
+ghost use Rattle.model.specs.Rights.{mayWrite};
 ghost use Rattle.model.specs.Serving.{readsAt};
 ghost use Rattle.paths.specs.Layout.{pathIn};
-ghost use Rattle.tables.specs.Memory.{userIn, ruleIn, policyIn, tablesIn};
-ghost use Rattle.tables.specs.Grants.{gives, givenAt, writesAt};
+ghost use Rattle.steps.specs.Environments.{isEmptyRow};
+ghost use Rattle.matching.specs.Parts.{mayMatch};
+ghost use Rattle.tables.specs.Memory.{userIn, usersIn, ruleIn, policyIn, tablesIn};
+ghost use Rattle.tables.specs.Grants.{givesRead, givesWrite, isMarked};
 
-// Whether a line gives a user the right to a path.
-fn gives(rule: &[u8], user: &[u8], path: &[u8], writing: bool) -> bool
+// Whether a line gives a user the right to write a path.
+fn gives_write(rule: &[u8], user: &[u8], path: &[u8]) -> bool
     requires { ⌜ (length (now rule) ≡ 439) × (length (now user) ≡ 597) × (103 ≤ length (now path)) ⌝ }
-    ensures { λ r. ⌜ r ≡ gives writing (userIn (now (user .entry))) (pathIn (now (path .entry))) (ruleIn (now (rule .entry))) ⌝ }
+    ensures { λ r. ⌜ r ≡ givesWrite (userIn (now (user .entry))) (pathIn (now (path .entry))) (ruleIn (now (rule .entry))) ⌝ }
 {
-    if !is_for(rule, user) {
+    if !is_write(rule) {
         return false;
     }
-    if writing {
-        if !is_write(rule) {
-            return false;
-        }
+    if !is_for(rule, user) {
+        return false;
     }
     matches(bindings(user), &rule[18..], path)
 }
 
-// Whether a line of the policy gives a user the right to a path.
-pub fn may(policy: &[u8], user: &[u8], path: &[u8], writing: bool) -> bool
+// Whether a user may write a path.
+pub fn may_write(policy: &[u8], user: &[u8], path: &[u8]) -> bool
     requires { ⌜ (length (now policy) ≡ 28096) × (length (now user) ≡ 597) × (103 ≤ length (now path)) ⌝ }
-    ensures { λ r. ⌜ r ≡ any (gives writing (userIn (now (user .entry))) (pathIn (now (path .entry)))) (policyIn (now (policy .entry))) ⌝ }
+    ensures { λ r. ⌜ r ≡ mayWrite (policyIn (now (policy .entry))) (userIn (now (user .entry))) (pathIn (now (path .entry))) ⌝ }
 {
     let n = row_count(policy, RULE, RULES);
     let mut i: usize = 0;
     while i < n {
-        if gives(row_at(policy, i, RULE), user, path, writing) {
+        if gives_write(row_at(policy, i, RULE), user, path) {
             return true;
         }
         i += 1;
@@ -51,29 +56,50 @@ pub fn may(policy: &[u8], user: &[u8], path: &[u8], writing: bool) -> bool
     false
 }
 
-// The same for the user at an index: nobody stands behind the last user.
-fn may_at(tables: &[u8], i: usize, path: &[u8], writing: bool) -> bool
-    requires { ⌜ (length (now tables) ≡ 47200) × (103 ≤ length (now path)) ⌝ }
-    ensures { λ r. ⌜ r ≡ givenAt writing (tablesIn (now (tables .entry))) i (pathIn (now (path .entry))) ⌝ }
+// Whether a line that may match a path gives a user the right to read it.
+fn gives_read(rule: &[u8], user: &[u8], path: &[u8]) -> bool
+    requires { ⌜ (length (now rule) ≡ 439) × (length (now user) ≡ 597) × (103 ≤ length (now path)) ⌝ }
+    requires { ⌜ mayMatch (ruleIn (now rule) .path) (pathIn (now path)) ≡ true ⌝ }
+    ensures { λ r. ⌜ r ≡ givesRead (pathIn (now (path .entry))) (ruleIn (now (rule .entry))) (userIn (now (user .entry))) ⌝ }
 {
-    if row_count(tables, USER, USERS) <= i {
+    if !is_for(rule, user) {
         return false;
     }
-    may(&tables[POLICY..], row_at(tables, i, USER), path, writing)
+    lines_match(bindings(user), &rule[18..], path)
 }
 
-// Whether the user at an index may read a path.
-pub fn may_read(tables: &[u8], i: usize, path: &[u8]) -> bool
-    requires { ⌜ (length (now tables) ≡ 47200) × (103 ≤ length (now path)) ⌝ }
-    ensures { λ r. ⌜ r ≡ readsAt (tablesIn (now (tables .entry))) i (pathIn (now (path .entry))) ⌝ }
+// Marks those of the n users to whom a line that may match the path gives the right to read it.
+fn mark_readers(marks: &mut [u8; 32], tables: &[u8], n: usize, rule: &[u8], path: &[u8])
+    requires { ⌜ (length (now tables) ≡ 47200) × (length (now rule) ≡ 439) × (103 ≤ length (now path)) ⌝ }
+    requires { ⌜ n ≡ length (upTo isEmptyRow (rows 597 32 (now tables))) ⌝ }
+    requires { ⌜ mayMatch (ruleIn (now rule) .path) (pathIn (now path)) ≡ true ⌝ }
+    ensures { λ _. ⌜ now (marks .exit) ≡ marked (givesRead (pathIn (now (path .entry))) (ruleIn (now (rule .entry)))) (usersIn (now (tables .entry))) (now (marks .entry)) ⌝ }
 {
-    may_at(tables, i, path, false)
+    let mut j: usize = 0;
+    while j < n {
+        if gives_read(rule, row_at(tables, j, USER), path) {
+            marks[j] = 1;
+        }
+        j += 1;
+    }
 }
 
-// Whether the user at an index may write a path.
-pub fn may_write(tables: &[u8], i: usize, path: &[u8]) -> bool
+// Who may read a path: a byte for each user index, not 0 where the user may. Lines that match for nobody are passed over once, not for each user.
+pub fn readers(tables: &[u8], path: &[u8]) -> [u8; 32]
     requires { ⌜ (length (now tables) ≡ 47200) × (103 ≤ length (now path)) ⌝ }
-    ensures { λ r. ⌜ r ≡ writesAt (tablesIn (now (tables .entry))) i (pathIn (now (path .entry))) ⌝ }
+    ensures { λ r. ⌜ ((j : ℕ) → isMarked r j ≡ readsAt (tablesIn (now (tables .entry))) j (pathIn (now (path .entry)))) ⌝ }
 {
-    may_at(tables, i, path, true)
+    let users = row_count(tables, USER, USERS);
+    let policy = &tables[POLICY..];
+    let n = row_count(policy, RULE, RULES);
+    let mut marks = [0u8; 32];
+    let mut i: usize = 0;
+    while i < n {
+        let rule = row_at(policy, i, RULE);
+        if may_match(&rule[18..], path) {
+            mark_readers(&mut marks, tables, users, rule, path);
+        }
+        i += 1;
+    }
+    marks
 }

@@ -1,4 +1,5 @@
 // Writers: each stores what falls inside the buffer from `at` on, and answers where the text ends; and a copy of a slice.
+use lexical::number::least;
 ghost use mathlib.Core.Path.{_≡_};
 ghost use mathlib.Core.List.{[], _∷_, _++_};
 ghost use Prim.Native.Nat.{_+_, _≤_, _<_, _^_};
@@ -18,16 +19,18 @@ pub fn put_byte(out: &mut [u8], at: usize, b: u8) -> usize
     at + 1
 }
 
+// What falls inside the buffer is one copy.
 pub fn put(out: &mut [u8], at: usize, bytes: &[u8]) -> usize
     requires { ⌜ at + length (now bytes) < 2 ^ 64 ⌝ }
     ensures { λ r. ⌜ Wrote at (now (bytes .entry)) (now (out .entry)) r (now (out .exit)) ⌝ }
 {
-    let mut i = 0;
-    while i < bytes.len() {
-        put_byte(out, at + i, bytes[i]);
-        i += 1;
+    let end = at + bytes.len();
+    if out.len() <= at {
+        return end;
     }
-    at + bytes.len()
+    let n = least(bytes.len(), out.len() - at);
+    copy(&mut out[at..], &bytes[..n]);
+    end
 }
 
 // A text between two of the same quote.

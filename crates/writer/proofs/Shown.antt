@@ -1,6 +1,6 @@
 -- The fields that a selection shows, from a place on: the steps of a loop over the slots, and what the place of the first of them says.
 use Prim.Native.Nat.{ℕ, suc, _+_, _*_, _-_, _≤_, _<_}
-use mathlib.Core.Path.{_≡_, refl, sym, _∙_}
+use mathlib.Core.Path.{_≡_, refl, sym, ap, _∙_}
 use mathlib.Core.Bool.{true, false}
 use mathlib.Core.Option.{Option, none, some}
 use mathlib.Core.List.{[], _∷_}
@@ -9,19 +9,26 @@ use native.Mathlib.Numerals.{add-one}
 use native.Mathlib.Omega.{arith}
 use borrow.Author.Tests.{ne-eqb}
 use lib.Dec.{eqb}
-use lib.ListN.{length, getD, take, drop, length-map, length-drop}
-use lib.Seq.{getD-drop, drop-drop}
+use lib.ListN.{length, getD, take, drop, length-map, length-take, length-drop, length-append}
+use lib.Seq.{take-at, getD-drop, drop-drop}
 use Rattle.rows.specs.Rows.{rows, table}
+use Rattle.rows.specs.Positions.{Reads, placed}
 use Rattle.rows.proofs.Rows.{map-drop, upTo-drop, drop-rows}
 use Rattle.rows.proofs.Table.{table-at}
-use Rattle.model.specs.Base.{Bytes}
+use Rattle.model.specs.Base.{Bytes, text}
 use Rattle.model.specs.Limits.{maxFields}
 use Rattle.model.specs.Values.{Value, readValue, valueText}
 use Rattle.model.specs.Fields.{Field, Fields}
 use Rattle.model.proofs.Valid.{validValue}
-use Rattle.model.proofs.Spelling.{value-valid, value-length}
+use Rattle.model.proofs.Spelling.{value-spells, value-valid, value-length}
 use Rattle.model.proofs.Lists.{by-cases}
+use Rattle.values.specs.declared.value.Scalar.{Scalar}
+use Rattle.values.specs.declared.value.ValueAt.{ValueAt}
+use Rattle.values.specs.declared.value.ValueAt.the-variants.{At, Bad}
+use Rattle.values.specs.Scalars as scalars
+use Rattle.values.proofs.Values.{value-reads}
 use Rattle.record.specs.Slots.{textIn, valueOr, valueIn, fieldIn, isEmpty, fieldsIn}
+use Rattle.record.proofs.Slots.{value-none}
 use Rattle.record.proofs.Stores.{fields-fit}
 use Rattle.record.proofs.Search.{fieldsFrom, fields-end, fields-stop, fields-step}
 use Rattle.writer.specs.Selected.{selected, shownFrom}
@@ -34,6 +41,27 @@ held-short s = go (readValue (textIn s)) refl
     go : (o : Option (Value × Bytes)) → readValue (textIn s) ≡ o → length (valueText (valueOr o)) ≤ 34
     go none e = value-length _ (unfold validValue in refl)
     go (some t) e = value-length (t .0) (value-valid (textIn s) (t .1) (t .0) e)
+
+-- what is read at the start of the text t of the slot s is how the slot's value is written
+module _ (s t : Bytes) (is : t ≡ textIn s) (r : ValueAt) (answer : scalars.valueAnswer t r ≡ placed readValue t 0) where
+  pub held-none : r ≡ Bad → text "false" ≡ valueText (valueIn s)
+  unfolding valueText
+  held-none i = rw (← value-none s t is r answer i)
+
+  module _ (v : Scalar) (e : ℕ) (i : r ≡ At v e) where
+    abbrev reads : Reads readValue t 0 (scalars.valueIn t v) e
+    reads = value-reads t 0 r answer (omega arith) v e i
+
+    pub held-end : e ≡ length (take e t)
+    held-end = rw length-take (omega (arith, reads .to))
+
+    pub held-some : take e t ≡ valueText (valueIn s)
+    unfolding valueIn
+    held-some =
+        let x = valueText (scalars.valueIn t v) in
+        let w = value-spells t _ (reads .is) .1 in
+        let n : length x ≡ e = omega (arith, ap length w, length-append x (drop e t), length-drop e t, reads .to) in
+        rw (← is, reads .is) (ap (take e) w ∙ take-at x (drop e t) e n)
 
 -- ── Fields by their places ──
 -- those from i on, where there are i fields at least

@@ -81,23 +81,23 @@ module _ (a b : Bytes) (m n i : ℕ) (p : m ≡ min (getD a 0 0) 6) (q : n ≡ m
   slots-within h = turn-none (pathIn a) (pathIn b) (omega (arith, path-count a, path-count b))
 
 -- ── Down to the field at a path ──
-descend-two : (k l : Bytes) (p : Keys) → descend (k ∷ (l ∷ p)) ≡ text "\"" ++ (k ++ (text "\":" ++ (text "{" ++ descend (l ∷ p))))
+descend-two : (k l : Bytes) (p : Keys) → descend (k ∷ (l ∷ p)) ≡ text "\"" ++ (k ++ (text "\"" ++ (text ":" ++ (text "{" ++ descend (l ∷ p)))))
 unfolding descend quoted text
 descend-two k l p = rw (append-assoc k)
 
-descend-one : (k : Bytes) → descend (k ∷ []) ≡ text "\"" ++ (k ++ (text "\":" ++ []))
+descend-one : (k : Bytes) → descend (k ∷ []) ≡ text "\"" ++ (k ++ (text "\"" ++ (text ":" ++ [])))
 unfolding descend quoted text
 descend-one k = rw (append-assoc k)
 
 -- the same of a slot, from the key i on: k is that key
 module _ (s : Bytes) (i : ℕ) {k : Bytes} (is : k ≡ nameIn (take 17 (drop (i * 17 + 1) s))) (h : i < min (getD s 0 0) 6) where
   pub descend-more : i + 1 < min (getD s 0 0) 6
-      → descend (drop i (pathIn s)) ≡ text "\"" ++ (k ++ (text "\":" ++ (text "{" ++ descend (drop (i + 1) (pathIn s)))))
+      → descend (drop i (pathIn s)) ≡ text "\"" ++ (k ++ (text "\"" ++ (text ":" ++ (text "{" ++ descend (drop (i + 1) (pathIn s))))))
   unfolding pathIn
   descend-more o = rw (counted-step nameIn 17 6 s i h, counted-step nameIn 17 6 s (i + 1) o, ← is) (descend-two k _ _)
 
   pub descend-last : min (getD s 0 0) 6 ≤ i + 1
-      → descend (drop i (pathIn s)) ≡ text "\"" ++ (k ++ (text "\":" ++ descend (drop (i + 1) (pathIn s))))
+      → descend (drop i (pathIn s)) ≡ text "\"" ++ (k ++ (text "\"" ++ (text ":" ++ descend (drop (i + 1) (pathIn s)))))
   unfolding pathIn
   descend-last o =
       let none : descend [] ≡ [] = unfold descend in refl in

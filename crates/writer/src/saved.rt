@@ -3,12 +3,12 @@ use crate::turn::put_braces;
 use crate::turn::put_descent;
 use crate::turn::put_turn;
 use paths::layout::count;
-use record::slot::value_of;
 use record::slot::value_text;
 use record::table::SLOTS;
 use record::table::is_empty;
 use record::table::slot_at;
-use values::value::put_value;
+use values::value::ValueAt;
+use values::value::value_at;
 use values::write::put;
 use values::write::put_byte;
 ghost use mathlib.Core.Path.{_≡_};
@@ -19,6 +19,9 @@ ghost use Rattle.model.specs.Values.{valueText};
 ghost use Rattle.model.specs.SavedText.{saved};
 ghost use Rattle.record.specs.Slots.{valueIn, fieldsIn};
 ghost use Rattle.writer.specs.Selected.{selected, shownFrom};
+
+// No saved text is longer.
+pub const MOST: usize = 41216;
 
 // The place of the first field from i on that the selection shows, or 256.
 fn next_shown(table: &[u8; 35328], shown: &[u8; 256], i: usize) -> usize
@@ -38,21 +41,24 @@ fn next_shown(table: &[u8; 35328], shown: &[u8; 256], i: usize) -> usize
     SLOTS
 }
 
-// The value of a slot.
+// The value of a slot: what is read of its text is how the value is written.
 fn put_held(out: &mut [u8], at: usize, slot: &[u8]) -> usize
     requires { ⌜ (length (now slot) ≡ 138) × (at + 47 < 2 ^ 64) ⌝ }
     ensures { λ r. ⌜ Wrote at (valueText (valueIn (now (slot .entry)))) (now (out .entry)) r (now (out .exit)) ⌝ }
     ensures { λ r. ⌜ r ≤ at + 34 ⌝ }
 {
-    let v = value_of(slot);
-    put_value(out, at, v, value_text(slot))
+    let text = value_text(slot);
+    let ValueAt::At(_, end) = value_at(text, 0) else {
+        return put(out, at, b"false");
+    };
+    put(out, at, &text[..end])
 }
 
 // The saved text of the fields that the selection shows: those whose byte in it is not 0.
 pub fn put_saved(out: &mut [u8], at: usize, table: &[u8; 35328], shown: &[u8; 256]) -> usize
     requires { ⌜ at + 65536 < 2 ^ 64 ⌝ }
     ensures { λ r. ⌜ Wrote at (saved (selected (now (shown .entry)) (fieldsIn (now (table .entry))))) (now (out .entry)) r (now (out .exit)) ⌝ }
-    ensures { λ r. ⌜ r ≤ at + 65536 ⌝ }
+    ensures { λ r. ⌜ r ≤ at + 41216 ⌝ }
 {
     let mut i = next_shown(table, shown, 0);
     if i == SLOTS {

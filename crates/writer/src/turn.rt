@@ -13,7 +13,7 @@ ghost use Rattle.paths.specs.Layout.{pathIn};
 ghost use Rattle.writer.specs.Selected.{shared};
 
 // How many first keys two paths share.
-fn shared_keys(a: &[u8], b: &[u8]) -> usize
+pub fn shared_keys(a: &[u8], b: &[u8]) -> usize
     requires { ⌜ (103 ≤ length (now a)) × (103 ≤ length (now b)) ⌝ }
     ensures { λ r. ⌜ r ≡ shared (pathIn (now (a .entry))) (pathIn (now (b .entry))) ⌝ }
 {
@@ -44,7 +44,8 @@ pub fn put_descent(out: &mut [u8], at: usize, path: &[u8], from: usize) -> usize
     while i < n {
         to = put_byte(out, to, b'"');
         to = put(out, to, name_at(path, i));
-        to = put(out, to, b"\":");
+        to = put_byte(out, to, b'"');
+        to = put_byte(out, to, b':');
         i += 1;
         if i < n {
             to = put_byte(out, to, b'{');

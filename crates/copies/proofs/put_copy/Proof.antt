@@ -1,4 +1,4 @@
--- The parts of the copy are written one behind the other.
+-- The head, the fields and the end of the line are written one behind the other.
 use borrow.Author.Needs.{needs}
 use Rattle.model.specs.Base.{text}
 use Rattle.values.proofs.Writers.{wrote-both}
@@ -6,26 +6,8 @@ use Rattle.copies.proofs.Lines.{copy-text}
 use Rattle.copies.proofs.put_copy.Statement.{statement}
 use Rattle.copies.proofs.put_copy.Tie as tie
 
-slice-aggregate-put : tie.Need-slice-aggregate-put
-slice-aggregate-put c = search needs
-
-put-requires : tie.Need-put-requires
-put-requires c κs = search needs
-
-put-rules-requires : tie.Need-put-rules-requires
-put-rules-requires c κs = search needs
-
-slice-aggregate-put-2 : tie.Need-slice-aggregate-put-2
-slice-aggregate-put-2 c = search needs
-
-put-requires-2 : tie.Need-put-requires-2
-put-requires-2 c κs = search needs
-
-bindings-requires : tie.Need-bindings-requires
-bindings-requires c κs = search needs
-
-put-bindings-requires : tie.Need-put-bindings-requires
-put-bindings-requires c κs = search needs
+put-head-requires : tie.Need-put-head-requires
+put-head-requires c κs = search needs
 
 put-saved-requires : tie.Need-put-saved-requires
 put-saved-requires c κs = search needs
@@ -40,28 +22,9 @@ returns : tie.Need-returns
 unfolding text
 returns c =
     let s = c .before .before .before .before .before .before in
-    let b = s .before .before .before .before in
-    let n = b .before .before .before .before .before in
-    let r = n .before .before .before .before .before in
     let fields = wrote-both _ _ _ _ _ _ _ _ (s .put-saved .ensures .0) (c .before .before .put-byte .ensures) in
-    let lines = rw (b .before .bindings .ensures .0) at (b .put-bindings .ensures .0) in
-    let environment = wrote-both _ _ _ _ _ _ _ _ lines fields in
-    let named = wrote-both _ _ _ _ _ _ _ _ (n .put2 .ensures) environment in
-    let policy = wrote-both _ _ _ _ _ _ _ _ (r .put-rules .ensures .0) named in
-    rw copy-text (wrote-both _ _ _ _ _ _ _ _ (r .before .before .before .before .put .ensures) policy)
+    (rw copy-text (wrote-both _ _ _ _ _ _ _ _ (s .before .before .before .before .put-head .ensures .0) fields), search needs)
 
 pub put-copy-spec : {M : Type 1} → statement M
 put-copy-spec =
-    tie.close
-    (tie.spec
-    slice-aggregate-put
-    put-requires
-    put-rules-requires
-    slice-aggregate-put-2
-    put-requires-2
-    bindings-requires
-    put-bindings-requires
-    put-saved-requires
-    put-byte-requires
-    same-length
-    returns)
+    tie.close (tie.spec put-head-requires put-saved-requires put-byte-requires same-length returns)

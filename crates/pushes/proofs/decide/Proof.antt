@@ -1,4 +1,4 @@
--- The answers in the order of the refusals: of the session, of the right, of the quota; else the field is stored.
+-- The answers in the order of the refusals: of the session, of the right, of the quota; else the field is stored where the search ended.
 use Prim.Native.Nat.{_+_, _*_}
 use mathlib.Core.Path.{sym}
 use native.Mathlib.Omega.{arith}
@@ -25,7 +25,7 @@ returns : tie.Need-returns
 returns c =
     let f = c .before .before in
     let a = f .before .before .before .before .before .args in
-    λ v. sym (unknown-session _ (loginsIn (a .logins .now)) (a .n) (f .session .ensures) (fieldsIn (a .fields .now)) _ v (c .enum-told .given .1))
+    (λ v. sym (unknown-session _ (loginsIn (a .logins .now)) (a .n) (f .session .ensures) (fieldsIn (a .fields .now)) _ v (c .enum-told .given .1)), tt)
 
 row-at-requires : tie.Need-row-at-requires
 row-at-requires c κs =
@@ -33,26 +33,28 @@ row-at-requires c κs =
     let a = f .before .before .before .before .before .args in
     (session-inside _ (loginsIn (a .logins .now)) (a .n) (f .session .ensures) (c .before .i .given .1) (search needs), search needs)
 
-sub-may : tie.Need-sub-may
-sub-may c = search needs
+sub-may-write : tie.Need-sub-may-write
+sub-may-write c = search needs
 
-part-may-start : tie.Need-part-may-start
-part-may-start c = search needs
+part-may-write-start : tie.Need-part-may-write-start
+part-may-write-start c = search needs
 
-part-may-end : tie.Need-part-may-end
-part-may-end c = search needs
+part-may-write-end : tie.Need-part-may-write-end
+part-may-write-end c = search needs
 
-may-requires : tie.Need-may-requires
-may-requires c κs = search needs
+may-write-requires : tie.Need-may-write-requires
+may-write-requires c κs = search needs
 
 returns-2 : tie.Need-returns-2
 returns-2 c =
     let m = c .before in
     let k = m .before .before .before in
     let f = k .before .before .before in
-    let a = f .before .before .before .before .before .args in
-    λ v. sym (no-right _ (loginsIn (a .logins .now)) (a .n) (f .session .ensures) (k .before .i .given .1) (m .before .before .row-at .ensures .0) _
-    (m .may .ensures) (fieldsIn (a .fields .now)) v (not-true _ (c .if1 .taken)))
+    let a = f .before .before .before .before .before .args in (
+      λ v. sym (no-right _ (loginsIn (a .logins .now)) (a .n) (f .session .ensures) (k .before .i .given .1) (m .before .before .row-at .ensures .0) _
+          (m .may-write .ensures) (fieldsIn (a .fields .now)) v (not-true _ (c .if1 .taken))),
+      tt,
+    )
 
 state-at-requires : tie.Need-state-at-requires
 state-at-requires c κs =
@@ -77,10 +79,12 @@ returns-3 c =
     let m = w .before in
     let k = m .before .before .before in
     let f = k .before .before .before in
-    let a = f .before .before .before .before .before .args in
-    λ v. sym (stored-held _ (loginsIn (a .logins .now)) (a .n) (f .session .ensures) (k .before .i .given .1) (m .before .before .row-at .ensures .0) _
-    (m .may .ensures) (fieldsIn (a .fields .now)) v (not-false _ (w .if1 .left)) (l .before .state-at .ensures) (l .find .ensures)
-    (c .enum-told3 .given .1))
+    let a = f .before .before .before .before .before .args in (
+      λ v. sym (stored-held _ (loginsIn (a .logins .now)) (a .n) (f .session .ensures) (k .before .i .given .1) (m .before .before .row-at .ensures .0) _
+          (m .may-write .ensures) (fieldsIn (a .fields .now)) v (not-false _ (w .if1 .left)) (l .before .state-at .ensures) (l .find .ensures)
+          (c .enum-told3 .given .1)),
+      l .find .ensures,
+    )
 
 quota-requires : tie.Need-quota-requires
 quota-requires c κs = search needs
@@ -97,10 +101,12 @@ returns-4 c =
     let m = w .before in
     let k = m .before .before .before in
     let f = k .before .before .before in
-    let a = f .before .before .before .before .before .args in
-    λ v. sym (quota-reached _ (loginsIn (a .logins .now)) (a .n) (f .session .ensures) (k .before .i .given .1) (m .before .before .row-at .ensures .0) _
-    (m .may .ensures) (fieldsIn (a .fields .now)) v (not-false _ (w .if1 .left)) (l .before .state-at .ensures) (l .find .ensures)
-    (q .before .enum-told2 .given .1) (q .quota .ensures) (search needs))
+    let a = f .before .before .before .before .before .args in (
+      λ v. sym (quota-reached _ (loginsIn (a .logins .now)) (a .n) (f .session .ensures) (k .before .i .given .1) (m .before .before .row-at .ensures .0) _
+          (m .may-write .ensures) (fieldsIn (a .fields .now)) v (not-false _ (w .if1 .left)) (l .before .state-at .ensures) (l .find .ensures)
+          (q .before .enum-told2 .given .1) (q .quota .ensures) (search needs)),
+      tt,
+    )
 
 creating-requires : tie.Need-creating-requires
 creating-requires c κs =
@@ -121,10 +127,12 @@ returns-5 c =
     let m = w .before in
     let k = m .before .before .before in
     let f = k .before .before .before in
-    let a = f .before .before .before .before .before .args in
-    λ v. sym (stored-new _ (loginsIn (a .logins .now)) (a .n) (f .session .ensures) (k .before .i .given .1) (m .before .before .row-at .ensures .0) _
-    (m .may .ensures) (fieldsIn (a .fields .now)) v (not-false _ (w .if1 .left)) (l .before .state-at .ensures) (l .find .ensures)
-    (q .before .enum-told2 .given .1) (q .quota .ensures) (search needs) (c .creating .ensures))
+    let a = f .before .before .before .before .before .args in (
+      λ v. sym (stored-new _ (loginsIn (a .logins .now)) (a .n) (f .session .ensures) (k .before .i .given .1) (m .before .before .row-at .ensures .0) _
+          (m .may-write .ensures) (fieldsIn (a .fields .now)) v (not-false _ (w .if1 .left)) (l .before .state-at .ensures) (l .find .ensures)
+          (q .before .enum-told2 .given .1) (q .quota .ensures) (search needs) (c .creating .ensures)),
+      l .find .ensures,
+    )
 
 pub decide-spec : {M : Type 1} → statement M
 decide-spec =
@@ -135,10 +143,10 @@ decide-spec =
     enum-told
     returns
     row-at-requires
-    sub-may
-    part-may-start
-    part-may-end
-    may-requires
+    sub-may-write
+    part-may-write-start
+    part-may-write-end
+    may-write-requires
     returns-2
     state-at-requires
     find-requires

@@ -1,24 +1,28 @@
--- Texts of different lengths differ; of equal lengths, each turn leaves the comparison of what stands behind two equal bytes.
-use Prim.Native.Nat.{_≤_, _-_}
-use mathlib.Core.Path.{_≡_, sym, _∙_}
+-- Texts of different lengths differ; of equal lengths, each turn finds one byte more that is equal, from the end back.
+use Prim.Native.Nat.{_≤_}
+use mathlib.Core.Path.{_≡_, sym}
 use borrow.Author.Needs.{needs}
 use lib.ListN.{length, drop}
-use Rattle.model.specs.Base.{_==_}
-use Rattle.lexical.proofs.Slices.{same-lengths, same-step, same-stop, same-end}
+use Rattle.lexical.proofs.Slices.{same-lengths, same-not, same-end, same-back, same-start}
 use Rattle.lexical.proofs.slice.same.Statement.{statement}
 use Rattle.lexical.proofs.slice.same.Tie as tie
 
 abbrev Inv-loop : tie.InvT-loop
-Inv-loop a b i₀ i = (i ≤ length a) × (length a ≡ length b) × ((a == b) ≡ (drop i a == drop i b))
+Inv-loop a b i₀ i = (i ≤ length a) × (length a ≡ length b) × (drop i a ≡ drop i b)
 
 abbrev μ-loop : tie.MeasureT-loop
-μ-loop a b i₀ i = length a - i
+μ-loop a b i₀ i = i
 
 returns : tie.Need-returns Inv-loop μ-loop
 returns c = sym (same-lengths _ _ (c .if1 .taken))
 
 loop-holds : tie.Need-loop-holds Inv-loop μ-loop
-loop-holds c = search needs
+loop-holds c =
+    let a = c .before .args in
+    (search needs, search needs, same-end (a .a .now) (a .b .now) (length (a .a .now)) (search needs) (search needs))
+
+sub-i : tie.Need-sub-i Inv-loop μ-loop
+sub-i c = search needs
 
 shared-slice-read-if2 : tie.Need-shared-slice-read-if2 Inv-loop μ-loop
 shared-slice-read-if2 c = search needs
@@ -27,12 +31,7 @@ shared-slice-read-if2-2 : tie.Need-shared-slice-read-if2-2 Inv-loop μ-loop
 shared-slice-read-if2-2 c = search needs
 
 returns-2 : tie.Need-returns-2 Inv-loop μ-loop
-returns-2 c =
-    let l = c .before .before .before .before .loop in
-    sym (l .inv .2 ∙ same-stop _ _ (l .i) (search needs) (search needs) (c .if2 .taken))
-
-add-i : tie.Need-add-i Inv-loop μ-loop
-add-i c = search needs
+returns-2 c = sym (same-not _ _ _ (c .if2 .taken))
 
 loop-less : tie.Need-loop-less Inv-loop μ-loop
 loop-less c = search needs
@@ -40,10 +39,10 @@ loop-less c = search needs
 loop-again : tie.Need-loop-again Inv-loop μ-loop
 loop-again c =
     let l = c .before .before .before .before .loop in
-    (search needs, search needs, l .inv .2 ∙ same-step _ _ (l .i) (search needs) (search needs) (c .if2 .left))
+    (search needs, search needs, same-back _ _ (l .i) (search needs) (search needs) (search needs) (c .if2 .left) (l .inv .2))
 
 returns-3 : tie.Need-returns-3 Inv-loop μ-loop
-returns-3 c = let l = c .before .loop in sym (l .inv .2 ∙ same-end _ _ (l .i) (search needs) (search needs))
+returns-3 c = let l = c .before .loop in sym (same-start _ _ (l .i) (search needs) (l .inv .2))
 
 pub same-spec : {M : Type 1} → statement M
 same-spec =
@@ -53,10 +52,10 @@ same-spec =
     μ-loop
     returns
     loop-holds
+    sub-i
     shared-slice-read-if2
     shared-slice-read-if2-2
     returns-2
-    add-i
     loop-less
     loop-again
     returns-3)

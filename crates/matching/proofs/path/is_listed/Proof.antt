@@ -6,7 +6,7 @@ use Rattle.model.specs.Paths.{environment}
 use Rattle.model.specs.Rights.{listed, admits}
 use Rattle.steps.specs.Steps.{operatorOf}
 use Rattle.steps.specs.Environments.{bindingsIn}
-use Rattle.matching.proofs.Matched.{linesFrom, lines-start, listed-end, listed-stop, listed-yes, listed-no, asked, admits-listed, asked-none, asked-yes, asked-first, asked-more}
+use Rattle.matching.proofs.Matched.{linesFrom, lines-start, listed-end, listed-stop, listed-yes, listed-no, asked, admits-listed, asked-none, asked-decided, asked-later}
 use borrow.Author.Needs.{needs}
 use Rattle.matching.proofs.path.is_listed.Statement.{statement}
 use Rattle.matching.proofs.path.is_listed.Tie as tie
@@ -32,14 +32,17 @@ returns c =
     let l = c .before .before .before .loop in
     sym (l .inv .1 ∙ asked-none _ _ (listed-stop _ _ (l .i) (c .before .before .loop-test .taken) (c .if1 .taken)))
 
+add-name-from : tie.Need-add-name-from Inv-loop μ-loop
+add-name-from c = search needs
+
 name-from-requires : tie.Need-name-from-requires Inv-loop μ-loop
 name-from-requires c κs = search needs
 
 same-requires : tie.Need-same-requires Inv-loop μ-loop
 same-requires c κs = search needs
 
-add-name-from : tie.Need-add-name-from Inv-loop μ-loop
-add-name-from c = search needs
+decides-requires : tie.Need-decides-requires Inv-loop μ-loop
+decides-requires c κs = search needs
 
 name-from-requires-2 : tie.Need-name-from-requires-2 Inv-loop μ-loop
 name-from-requires-2 c κs = search needs
@@ -49,24 +52,12 @@ same-requires-2 c κs = search needs
 
 returns-2 : tie.Need-returns-2 Inv-loop μ-loop
 returns-2 c =
-    let k = c .before .before .before .before .before in
-    let l = k .before .before .before .before .loop in
-    let first = listed-yes _ _ (l .i) (k .before .before .before .loop-test .taken) (k .before .if1 .left) (k .name-from .ensures) (c .before .before .before .before .same .ensures) (c .before .before .before .if2 .taken) (c .before .before .name-from2 .ensures) in
-    sym (l .inv .1 ∙ asked-yes _ _ first (c .before .same2 .ensures) _ (c .if3 .taken))
-
-enum-told : tie.Need-enum-told Inv-loop μ-loop
-enum-told c = search needs
-
-returns-3 : tie.Need-returns-3 Inv-loop μ-loop
-returns-3 c =
     let q = c .before .before in
-    let k = q .before .before .before .before .before in
-    let l = k .before .before .before .before .loop in
-    let first = listed-yes _ _ (l .i) (k .before .before .before .loop-test .taken) (k .before .if1 .left) (k .name-from .ensures) (q .before .before .before .before .same .ensures) (q .before .before .before .if2 .taken) (q .before .before .name-from2 .ensures) in
-    sym (l .inv .1 ∙ asked-first _ _ first (q .before .same2 .ensures) _ (q .if3 .left) (c .enum-told .given .1))
-
-enum-told-2 : tie.Need-enum-told-2 Inv-loop μ-loop
-enum-told-2 c = search needs
+    let k = q .before .before in
+    let m = k .before .before .before in
+    let l = m .before .before .before .loop in
+    let first = listed-yes _ _ (l .i) (m .before .before .loop-test .taken) (m .if1 .left) (q .name-from2 .ensures) (c .before .same2 .ensures) (c .if3 .taken) (k .before .before .name-from .ensures) in
+    sym (l .inv .1 ∙ asked-decided _ _ first (k .before .same .ensures) _ (sym (k .decides .ensures) ∙ q .before .if2 .taken))
 
 add-i : tie.Need-add-i Inv-loop μ-loop
 add-i c = search needs
@@ -77,29 +68,29 @@ loop-less c = search needs
 -- where the ways meet, the question is left for the values from the next row on
 Left : tie.Joined2 Inv-loop μ-loop → Type 0
 Left c =
-    let a = c .before .before .before .before .before .before .before .before .before .before .args in
-    let i = c .before .before .before .before .before .before .loop .i in
+    let a = c .before .before .before .before .before .before .before .before .before .before .before .args in
+    let i = c .before .before .before .before .before .before .before .loop .i in
     asked (operatorOf (a .operator)) (a .key .now) (listed (linesFrom (a .lines .now) i) (a .n .now))
     ≡ asked (operatorOf (a .operator)) (a .key .now) (listed (linesFrom (a .lines .now) (i + 1)) (a .n .now))
 
 met : (c : tie.Joined2 Inv-loop μ-loop) → Left c
 unfolding Left
 met c =
-    let k = c .before .before in
-    let l = k .before .before .before .before .loop in
-    let test = k .before .before .before .loop-test .taken in
-    let full = k .before .if1 .left in
+    let k = c .before .before .before .before in
+    let l = k .before .before .before .loop in
+    let test = k .before .before .loop-test .taken in
+    let full = k .if1 .left in
     ⊎-elim {C = Left c}
-    (λ w. asked-more _ _ (listed-yes _ _ (l .i) test full (k .name-from .ensures) (c .before .same .ensures) (w .0 .taken) (w .1 .ensures)) (w .2 .ensures) _ (w .3 .left) (w .5 .given .1))
-    (λ w. ap (asked _ _) (listed-no _ _ (l .i) test full (k .name-from .ensures) (c .before .same .ensures) (w .left)))
+    (λ w. ap (asked _ _) (listed-no _ _ (l .i) test full (w .1 .ensures) (w .2 .ensures) (w .3 .left)))
+    (λ w. asked-later _ _ (l .i) test full _ _ (c .before .before .before .name-from .ensures) (c .before .before .same .ensures) (sym (c .before .decides .ensures) ∙ w .left))
     (c .if2 .came)
 
 loop-again : tie.Need-loop-again Inv-loop μ-loop
 unfolding Left
-loop-again c = (search needs, c .before .before .before .before .before .before .loop .inv .1 ∙ met c)
+loop-again c = (search needs, c .before .before .before .before .before .before .before .loop .inv .1 ∙ met c)
 
-returns-4 : tie.Need-returns-4 Inv-loop μ-loop
-returns-4 c = let l = c .before .loop in sym (l .inv .1 ∙ asked-none _ _ (listed-end _ _ (l .i) (search needs)))
+returns-3 : tie.Need-returns-3 Inv-loop μ-loop
+returns-3 c = let l = c .before .loop in sym (l .inv .1 ∙ asked-none _ _ (listed-end _ _ (l .i) (search needs)))
 
 pub is-listed-spec : {M : Type 1} → statement M
 is-listed-spec =
@@ -111,16 +102,14 @@ is-listed-spec =
     mul-at
     shared-slice-read-if1
     returns
+    add-name-from
     name-from-requires
     same-requires
-    add-name-from
+    decides-requires
     name-from-requires-2
     same-requires-2
     returns-2
-    enum-told
-    returns-3
-    enum-told-2
     add-i
     loop-less
     loop-again
-    returns-4)
+    returns-3)

@@ -1,85 +1,22 @@
--- Paths of different lengths do not match; of equal lengths, each turn leaves the question for what stands behind a step that admits its key.
-use Prim.Native.Nat.{_-_, _≤_}
-use mathlib.Core.Path.{_≡_, refl, sym, _∙_}
-use lib.ListN.{drop}
-use Rattle.model.specs.Rights.{matches}
-use Rattle.paths.specs.Layout.{pathIn}
-use Rattle.steps.specs.Steps.{stepsIn}
-use Rattle.steps.specs.Environments.{bindingsIn}
-use Rattle.steps.proofs.StepRows.{row-length}
-use Rattle.matching.proofs.Matched.{matches-unlike, matches-step, matches-end}
+-- A path that may not match does not; of one that may, the lines decide.
+use mathlib.Core.Path.{sym, _∙_}
+use borrow.Author.Tests.{not-true, not-false}
 use borrow.Author.Needs.{needs}
+use Rattle.matching.proofs.Matched.{matches-not}
 use Rattle.matching.proofs.path.matches.Statement.{statement}
 use Rattle.matching.proofs.path.matches.Tie as tie
 
-abbrev Inv-loop : tie.InvT-loop
-Inv-loop lines steps slot n i₀ i =
-    (i ≤ n) × (matches (bindingsIn lines) (stepsIn steps) (pathIn slot) ≡ matches (bindingsIn lines) (drop i (stepsIn steps)) (drop i (pathIn slot)))
+may-match-requires : tie.Need-may-match-requires
+may-match-requires c κs = search needs
 
-abbrev μ-loop : tie.MeasureT-loop
-μ-loop lines steps slot n i₀ i = n - i
+returns : tie.Need-returns
+returns c = sym (matches-not _ _ _ (sym (c .before .may-match .ensures) ∙ not-true _ (c .if1 .taken)))
 
-count-requires : tie.Need-count-requires Inv-loop μ-loop
-count-requires c κs = search needs
+lines-match-requires : tie.Need-lines-match-requires
+lines-match-requires c κs = (search needs, sym (c .before .may-match .ensures) ∙ not-false _ (c .if1 .left))
 
-count-requires-2 : tie.Need-count-requires-2 Inv-loop μ-loop
-count-requires-2 c κs = search needs
-
-returns : tie.Need-returns Inv-loop μ-loop
-returns c = sym (matches-unlike _ _ _ (rw (c .before .count2 .ensures, c .before .before .count .ensures) at (c .if1 .taken)))
-
-loop-holds : tie.Need-loop-holds Inv-loop μ-loop
-loop-holds c = (search needs, refl)
-
-row-requires : tie.Need-row-requires Inv-loop μ-loop
-row-requires c κs = search needs
-
-name-at-requires : tie.Need-name-at-requires Inv-loop μ-loop
-name-at-requires c κs = search needs
-
-admits-requires : tie.Need-admits-requires Inv-loop μ-loop
-admits-requires c κs = (search needs, row-length _ (c .before .before .before .loop .i) (search needs) (c .before .row .ensures))
-
-add-i : tie.Need-add-i Inv-loop μ-loop
-add-i c = search needs
-
-loop-less : tie.Need-loop-less Inv-loop μ-loop
-loop-less c = search needs
-
-loop-again : tie.Need-loop-again Inv-loop μ-loop
-loop-again c =
-    let k = c .before in
-    let l = k .before .before .before .before .loop in (
-      search needs,
-      l .inv .1 ∙ matches-step _ _ _ (l .i) (search needs) (search needs) (k .before .before .row .ensures) (k .before .name-at .ensures) (k .admits .ensures)
-          ∙ rw (c .if2 .taken),
-    )
-
-returns-2 : tie.Need-returns-2 Inv-loop μ-loop
-returns-2 c =
-    let k = c .before in
-    let l = k .before .before .before .before .loop in
-    sym (l .inv .1 ∙ matches-step _ _ _ (l .i) (search needs) (search needs) (k .before .before .row .ensures) (k .before .name-at .ensures) (k .admits .ensures)
-    ∙ rw (c .if2 .left))
-
-returns-3 : tie.Need-returns-3 Inv-loop μ-loop
-returns-3 c = let l = c .before .loop in sym (l .inv .1 ∙ matches-end _ _ _ (l .i) (search needs) (search needs))
+returns-2 : tie.Need-returns-2
+returns-2 c = search needs
 
 pub matches-spec : {M : Type 1} → statement M
-matches-spec =
-    tie.close
-    (tie.spec
-    Inv-loop
-    μ-loop
-    count-requires
-    count-requires-2
-    returns
-    loop-holds
-    row-requires
-    name-at-requires
-    admits-requires
-    add-i
-    loop-less
-    loop-again
-    returns-2
-    returns-3)
+matches-spec = tie.close (tie.spec may-match-requires returns lines-match-requires returns-2)

@@ -62,14 +62,25 @@ returns-3 c =
     refusal _ (a .tables .now) (a .logins .now) (a .fields .now) is
     (record-refused _ _ _ _ (t .too-long .ensures) (omega arith) _ (k .open-tables .ensures) accepted _ (l .open-record .ensures) is)
 
+slice-aggregate-copy-tables : tie.Need-slice-aggregate-copy-tables
+slice-aggregate-copy-tables c = search needs
+
+copy-tables-requires : tie.Need-copy-tables-requires
+copy-tables-requires c κs = search needs
+
+copy-fields-requires : tie.Need-copy-fields-requires
+copy-fields-requires c κs = search needs
+
 returns-4 : tie.Need-returns-4
 returns-4 c =
-    let l = c .before .before .before in
+    let kept = c .before .before .before .before in
+    let l = kept .before .before .before .before .before in
     let k = l .before .before .before .before .before .before in
     let t = k .before .before .before in
     let accepted = l .before .before .before .enum-told .given .1 in
-    acceptance _ _ (k .open-tables .last .0) (l .open-record .last .1 .0)
-    (opened-done _ _ _ _ (t .too-long .ensures) (omega arith) _ (k .open-tables .ensures) accepted _ (l .open-record .ensures) (c .before .enum-told3 .given .1))
+    let done = opened-done _ _ _ _ (t .too-long .ensures) (omega arith) _ (k .open-tables .ensures) accepted _ (l .open-record .ensures) (kept .before .before .before .enum-told3 .given .1) in
+    acceptance _ _ (kept .copy-tables .last .0) (c .before .copy-fields .last .0)
+    (rw (← kept .copy-tables .ensures, ← c .before .copy-fields .ensures) at done)
 
 pub open-spec : {M : Type 1} → statement M
 open-spec =
@@ -87,4 +98,7 @@ open-spec =
     enum-told-3
     enum-told-4
     returns-3
+    slice-aggregate-copy-tables
+    copy-tables-requires
+    copy-fields-requires
     returns-4)

@@ -2,8 +2,7 @@
 use mathlib.Core.Path.{_∙_}
 use native.Mathlib.Omega.{arith}
 use lib.ListN.{length-take, length-set}
-use Rattle.rows.proofs.Writing.{written-cons}
-use Rattle.paths.proofs.Names.{name-clipped}
+use Rattle.rows.proofs.Writing.{written-cons, take-clipped}
 use borrow.Author.Needs.{needs}
 use Rattle.paths.proofs.layout.put_name.Statement.{statement}
 use Rattle.paths.proofs.layout.put_name.Tie as tie
@@ -30,7 +29,7 @@ returns : tie.Need-returns
 returns c =
     let n = c .before .before .before .before .before .least in
     let name = c .before .before .before .before .before .before .before .before .args .name .now in
-    rw (← name-clipped 16 (n .result) name (n .ensures), ← n .ensures) (c .before .before .put .ensures .1 ∙ written-cons 0 _ _ _)
+    rw (← take-clipped 16 (n .result) name (n .ensures), ← n .ensures) (c .before .before .put .ensures .1 ∙ written-cons 0 _ _ _)
 
 pub put-name-spec : {M : Type 1} → statement M
 put-name-spec =

@@ -1,4 +1,4 @@
--- The slots from the place on move one place later, and the slot stands before them.
+-- The slots in use from the place on move one place later, and the slot stands before them.
 use borrow.Author.Needs.{needs}
 use Rattle.record.proofs.Changes.{inserted}
 use Rattle.record.proofs.table.insert.Statement.{statement}
@@ -6,6 +6,9 @@ use Rattle.record.proofs.table.insert.Tie as tie
 
 mul-start : tie.Need-mul-start
 mul-start c = search needs
+
+used-requires : tie.Need-used-requires
+used-requires c κs = search needs
 
 sub-put-before : tie.Need-sub-put-before
 sub-put-before c = search needs
@@ -24,14 +27,17 @@ same-length c = search needs
 
 returns : tie.Need-returns
 returns c =
-    let h = c .before .before .before .before .before .before .pre in
-    inserted _ _ _ (h .0 .0) (h .0 .1) (h .0 .2) (h .1 .1) _ (h .1 .0) (c .before .before .put-before .ensures)
+    let p = c .before .before in
+    let f = p .before .before in
+    let h = f .before .before .before .before .pre in
+    inserted _ _ _ (h .0 .0) (h .0 .1) (h .0 .2) (h .1 .1) _ (f .used .ensures) (h .1 .0) _ (p .put-before .ensures)
 
 pub insert-spec : {M : Type 1} → statement M
 insert-spec =
     tie.close
     (tie.spec
     mul-start
+    used-requires
     sub-put-before
     part-put-before-start
     part-put-before-end

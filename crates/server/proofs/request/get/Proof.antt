@@ -1,10 +1,27 @@
--- No session of the number: 14. Else the copy of the session's user is measured, and written if it fits.
-use mathlib.Core.Path.{refl}
+-- No session of the number: 14. Else the copy of the session's user is written if it fits: there is room for the longest record, or it was measured.
+use Prim.Native.Nat.{_≤_}
+use mathlib.Core.Path.{_≡_, refl, ap, _∙_}
+use mathlib.Core.Logic.{⊎-elim}
+use native.Mathlib.Omega.{arith}
+use lib.ListN.{length}
 use borrow.Author.Needs.{needs}
 use Rattle.sessions.proofs.Known.{session-inside}
-use Rattle.server.proofs.Replied.{get-unknown, get-refused, get-done}
+use Rattle.server.proofs.Replied.{unwritten, get-unknown, get-refused, get-done}
 use Rattle.server.proofs.request.get.Statement.{statement}
 use Rattle.server.proofs.request.get.Tie as tie
+
+-- where the ways meet, the buffer is as it was lent, and the copy that is then written fits
+met : (c : tie.After-slice-known4)
+    → let lent = c .before .before .before .before .before .before .before .before .before .before .before .before .before .before .before .before .before .before .before .before .args .buffer .now in
+    (c .before .before .before .before .before .if1 .buffer ≡ lent) × (c .before .before .put-copy2 .result ≤ length lent)
+met c =
+    let copy = c .before .before .put-copy2 .ensures in
+    let head = c .before .before .before .before .before .before .before .before .put-head .ensures .0 in
+    let same = unwritten _ _ head in
+    ⊎-elim
+    (λ w. let kept = w .7 ∙ unwritten _ _ (w .3 .ensures .0) ∙ same in (kept, omega (arith, ap length kept, w .3 .ensures .0 .0, copy .0 .0, w .6 .left)))
+    (λ w. (w .1 ∙ same, omega (arith, ap length same, w .0 .left, head .0, copy .1)))
+    (c .before .before .before .before .before .if1 .came)
 
 session-requires : tie.Need-session-requires
 session-requires c κs = search needs
@@ -36,6 +53,18 @@ part-policy-end c = search needs
 select-requires : tie.Need-select-requires
 select-requires c κs = search needs
 
+slice-relend-prefix-put-head : tie.Need-slice-relend-prefix-put-head
+slice-relend-prefix-put-head c = search needs
+
+slice-aggregate-put-head : tie.Need-slice-aggregate-put-head
+slice-aggregate-put-head c = search needs
+
+put-head-requires : tie.Need-put-head-requires
+put-head-requires c κs = search needs
+
+add-if1 : tie.Need-add-if1
+add-if1 c = search needs
+
 slice-relend-prefix-put-copy : tie.Need-slice-relend-prefix-put-copy
 slice-relend-prefix-put-copy c = search needs
 
@@ -51,27 +80,29 @@ same-length c = search needs
 returns-2 : tie.Need-returns-2
 returns-2 c l =
     let m = c .before .before .before in
-    let r = m .before .before .before .before .before .before in
+    let h = m .before .before .before .before .before .before in
+    let r = h .before .before .before .before in
     let k = r .before .before .before .before in
     let a = k .before .before .before .before .args in
-    get-refused (a .tables .now) (a .logins .now) (a .fields .now) (a .n) (k .session .ensures) (a .buffer .now) l (m .before .before .before .select .last .0)
-    (r .before .before .i .given .1) (r .row-at .ensures .0) refl (m .before .before .before .select .ensures) (m .put-copy .ensures) (c .if1 .taken)
+    let select = h .before .before .select in
+    let kept = unwritten _ _ (m .put-copy .ensures .0) ∙ unwritten _ _ (h .put-head .ensures .0) in
+    get-refused (a .tables .now) (a .logins .now) (a .fields .now) (a .n) (k .session .ensures) (a .buffer .now) l (select .result)
+    (r .before .before .i .given .1) (r .row-at .ensures .0) refl (select .ensures) kept (m .put-copy .ensures .0) (c .if2 .taken)
 
 put-copy-requires-2 : tie.Need-put-copy-requires-2
 put-copy-requires-2 c κs = search needs
 
 same-length-2 : tie.Need-same-length-2
-same-length-2 c = search needs
+same-length-2 c = c .before .before .put-copy2 .kept .0 ∙ ap length (met c .0)
 
 returns-3 : tie.Need-returns-3
 returns-3 c l =
-    let m = c .before .before .before .before .before .before .before .before in
-    let r = m .before .before .before .before .before .before in
+    let r = c .before .before .before .before .before .before .before .before .before .before .before .before in
     let k = r .before .before .before .before in
     let a = k .before .before .before .before .args in
-    get-done (a .tables .now) (a .logins .now) (a .fields .now) (a .n) (k .session .ensures) (a .buffer .now) l (m .before .before .before .select .last .0)
-    (r .before .before .i .given .1) (r .row-at .ensures .0) refl (m .before .before .before .select .ensures) (m .put-copy .ensures)
-    (c .before .before .put-copy2 .ensures) (c .before .before .before .before .before .if1 .left)
+    let select = c .before .before .before .before .before .before .before .before .before .before .select in
+    get-done (a .tables .now) (a .logins .now) (a .fields .now) (a .n) (k .session .ensures) (a .buffer .now) l (select .result)
+    (r .before .before .i .given .1) (r .row-at .ensures .0) refl (select .ensures) (met c .0) (c .before .before .put-copy2 .ensures .0) (met c .1)
 
 pub get-spec : {M : Type 1} → statement M
 get-spec =
@@ -86,6 +117,10 @@ get-spec =
     part-policy-start
     part-policy-end
     select-requires
+    slice-relend-prefix-put-head
+    slice-aggregate-put-head
+    put-head-requires
+    add-if1
     slice-relend-prefix-put-copy
     slice-aggregate-put-copy
     put-copy-requires

@@ -3,7 +3,7 @@ use mathlib.Core.Path.{refl}
 use native.Mathlib.Omega.{arith}
 use borrow.Author.Needs.{needs}
 use Rattle.values.specs.Scalars.{valueIn}
-use Rattle.server.proofs.Pushed.{push-short, push-refused, push-below, push-done}
+use Rattle.server.proofs.Pushed.{push-short, push-refused, push-below, push-place, push-done}
 use Rattle.server.proofs.request.push.Statement.{statement}
 use Rattle.server.proofs.request.push.Tie as tie
 
@@ -30,10 +30,15 @@ put-state-requires c κs =
     let r = c .before .before .before .before .before .before .before .before in
     let d = r .before .before in
     let k = d .before .before .before .before .before .before .before .before .before .before in
-    (k .pre .0 .1, omega (arith, push-below _ _ _ _ _ (d .decide .ensures) (r .ruling2 .given .1)))
+    (k .pre .0 .1, omega (arith, push-below _ _ _ _ _ (d .decide .ensures .0) (r .ruling2 .given .1)))
 
-store-value-requires : tie.Need-store-value-requires
-store-value-requires c κs = (search needs, search needs, search needs, search needs)
+store-value-at-requires : tie.Need-store-value-at-requires
+store-value-at-requires c κs =
+    let r = c .before .before .before .before .before .before .before .before .before .before .before .before .before in
+    let d = r .before .before in
+    let k = d .before .before .before .before .before .before .before .before .before .before in
+    let place = push-place _ _ _ _ _ (d .decide .ensures .0) (r .ruling2 .given .1) (d .decide .ensures .1) in
+    ((search needs, search needs, search needs, search needs), (k .pre .1 .0, place))
 
 same-length : tie.Need-same-length
 same-length c = search needs
@@ -45,7 +50,7 @@ returns-2 : tie.Need-returns-2
 returns-2 c =
     let d = c .before .before .before in
     let long = d .before .before .before .before .if1 .left in
-    (λ b. push-refused _ _ _ _ _ (d .decide .ensures) (c .before .ruling .given .1) b _ long _, (refl, refl))
+    (λ b. push-refused _ _ _ _ _ (d .decide .ensures .0) (c .before .ruling .given .1) b _ long _, (refl, refl))
 
 same-length-3 : tie.Need-same-length-3
 same-length-3 c = search needs
@@ -66,7 +71,7 @@ returns-3 c =
     let k = d .before .before .before .before .before .before .before .before .before .before in
     let long = d .before .before .before .before .if1 .left in
     let (listed, counted) = l .put-receivers .ensures in (
-      λ b. push-done _ _ _ _ _ (d .decide .ensures) (r .ruling2 .given .1) b _ long _ _ listed counted (p .put-state .ensures) _ (s .store-value .ensures)
+      λ b. push-done _ _ _ _ _ (d .decide .ensures .0) (r .ruling2 .given .1) b _ long _ _ listed counted (p .put-state .ensures) _ (s .store-value-at .ensures)
           (k .pre .1),
       (tt, tt),
     )
@@ -81,7 +86,7 @@ push-spec =
     enum-known-ruling-2
     put-receivers-requires
     put-state-requires
-    store-value-requires
+    store-value-at-requires
     same-length
     same-length-2
     returns-2

@@ -1,9 +1,24 @@
--- The saved text of all fields is measured, and written if it fits.
-use mathlib.Core.Path.{_∙_}
+-- The saved text of all fields is written if it fits: no text is longer than the buffer, or it was measured.
+use Prim.Native.Nat.{_≤_}
+use mathlib.Core.Path.{_≡_, ap, _∙_}
+use mathlib.Core.Logic.{⊎-elim}
+use native.Mathlib.Omega.{arith}
+use lib.ListN.{length}
 use borrow.Author.Needs.{needs}
-use Rattle.server.proofs.Replied.{shown-refused, shown-done, save-shows}
+use Rattle.server.proofs.Replied.{unwritten, shown-refused, shown-done, save-shows}
 use Rattle.server.proofs.save.save.Statement.{statement}
 use Rattle.server.proofs.save.save.Tie as tie
+
+-- where the ways meet, the buffer is as it was lent, and the text that is then written fits
+met : (c : tie.After-slice-known3)
+    → let lent = c .before .before .before .before .before .before .before .args .buffer .now in
+    (c .before .before .before .before .before .if1 .buffer ≡ lent) × (c .before .before .put-saved2 .result ≤ length lent)
+met c =
+    let text = c .before .before .put-saved2 .ensures in
+    ⊎-elim
+    (λ w. let kept = w .7 ∙ unwritten _ _ (w .3 .ensures .0) in (kept, omega (arith, ap length kept, w .3 .ensures .0 .0, text .0 .0, w .6 .left)))
+    (λ w. (w .1, omega (arith, w .0 .left, text .1)))
+    (c .before .before .before .before .before .if1 .came)
 
 slice-relend-prefix-put-saved : tie.Need-slice-relend-prefix-put-saved
 slice-relend-prefix-put-saved c = search needs
@@ -20,21 +35,21 @@ same-length c = search needs
 returns : tie.Need-returns
 returns c tables logins =
     let m = c .before .before .before in
-    let a = m .before .before .before .before .args in
-    shown-refused _ (a .buffer .now) _ _ (m .put-saved .ensures .0) (c .if1 .taken) ∙ save-shows tables logins (a .fields .now) (a .buffer .now)
+    let a = m .before .before .before .before .before .args in
+    shown-refused _ (a .buffer .now) _ _ (unwritten _ _ (m .put-saved .ensures .0)) (m .put-saved .ensures .0) (c .if2 .taken)
+    ∙ save-shows tables logins (a .fields .now) (a .buffer .now)
 
 put-saved-requires-2 : tie.Need-put-saved-requires-2
 put-saved-requires-2 c κs = search needs
 
 same-length-2 : tie.Need-same-length-2
-same-length-2 c = search needs
+same-length-2 c = c .before .before .put-saved2 .kept .0 ∙ ap length (met c .0)
 
 returns-2 : tie.Need-returns-2
 returns-2 c tables logins =
-    let m = c .before .before .before .before .before .before .before .before in
-    let a = m .before .before .before .before .args in
-    shown-done _ (a .buffer .now) _ _ (m .put-saved .ensures .0) (c .before .before .put-saved2 .ensures .0)
-    (c .before .before .before .before .before .if1 .left) ∙ save-shows tables logins (a .fields .now) (a .buffer .now)
+    let a = c .before .before .before .before .before .before .before .args in
+    shown-done _ (a .buffer .now) _ _ (met c .0) (c .before .before .put-saved2 .ensures .0) (met c .1)
+    ∙ save-shows tables logins (a .fields .now) (a .buffer .now)
 
 pub save-spec : {M : Type 1} → statement M
 save-spec =

@@ -1,68 +1,59 @@
--- The bytes left, written from where the loop stands, give the buffer that all of them give from the start.
-use Prim.Native.Nat.{_+_, _-_, _≤_}
-use mathlib.Core.Path.{_≡_, refl, sym, _∙_}
-use mathlib.Core.List.{[]}
-use native.Mathlib.Nat.{add-zero}
+-- What falls inside the buffer is copied into its part from `at` on; from its end on there is nothing to store.
+use mathlib.Core.Path.{refl, sym}
+use native.Mathlib.Omega.{arith}
+use lib.ListN.{length-take, length-drop}
 use borrow.Author.Needs.{needs}
-use lib.ListN.{length, drop}
-use Rattle.rows.specs.Rows.{written}
-use Rattle.rows.proofs.Writing.{written-none, written-cons, write-step, write-end}
+use Rattle.rows.proofs.Writing.{written-outside, written-copied}
 use Rattle.values.proofs.write.put.Statement.{statement}
 use Rattle.values.proofs.write.put.Tie as tie
 
-abbrev Inv-loop : tie.InvT-loop
-Inv-loop out₀ at bytes i₀ out i =
-    (i ≤ length bytes) × (length out ≡ length out₀) × (written (at + i) (drop i bytes) out ≡ written at bytes out₀)
+add-end : tie.Need-add-end
+add-end c = search needs
 
-abbrev μ-loop : tie.MeasureT-loop
-μ-loop out₀ at bytes i₀ out i = length bytes - i
+returns : tie.Need-returns
+returns c = (refl, sym (written-outside _ _ _ (c .if1 .taken)))
 
-loop-holds : tie.Need-loop-holds Inv-loop μ-loop
-loop-holds c = (search needs, refl, rw add-zero)
+sub-least : tie.Need-sub-least
+sub-least c = search needs
 
-add-put-byte : tie.Need-add-put-byte Inv-loop μ-loop
-add-put-byte c = search needs
+least-requires : tie.Need-least-requires
+least-requires c κs = search needs
 
-shared-slice-read-put-byte : tie.Need-shared-slice-read-put-byte Inv-loop μ-loop
-shared-slice-read-put-byte c = search needs
+sub-copy : tie.Need-sub-copy
+sub-copy c = search needs
 
-put-byte-requires : tie.Need-put-byte-requires Inv-loop μ-loop
-put-byte-requires c κs = search needs
+part-copy-start : tie.Need-part-copy-start
+part-copy-start c = search needs
 
-add-i : tie.Need-add-i Inv-loop μ-loop
-add-i c = search needs
+part-copy-end : tie.Need-part-copy-end
+part-copy-end c = search needs
 
-loop-less : tie.Need-loop-less Inv-loop μ-loop
-loop-less c = search needs
+slice-aggregate-copy : tie.Need-slice-aggregate-copy
+slice-aggregate-copy c = simp length-take (omega arith)
 
-loop-again : tie.Need-loop-again Inv-loop μ-loop
-loop-again c =
-    let l = c .before .before .before .before .before .before .loop in
-    let e = c .before .before .put-byte .ensures .1 ∙ sym (written-cons _ _ [] _) ∙ written-none _ _ in
-    (search needs, search needs, rw e (write-step 0 _ (l .i) _ _ (search needs) ∙ l .inv .2))
+copy-requires : tie.Need-copy-requires
+copy-requires c κs = simp (length-take, length-drop) (omega arith)
 
-add-result : tie.Need-add-result Inv-loop μ-loop
-add-result c = search needs
-
-same-length : tie.Need-same-length Inv-loop μ-loop
+same-length : tie.Need-same-length
 same-length c = search needs
 
-returns : tie.Need-returns Inv-loop μ-loop
-returns c = let l = c .before .loop in (refl, sym (write-end _ (l .i) _ _ (search needs)) ∙ l .inv .2)
+returns-2 : tie.Need-returns-2
+returns-2 c =
+    let n = c .before .before .before .before .before .least in
+    (refl, written-copied _ _ _ _ _ (n .ensures) (c .before .before .copy .ensures))
 
 pub put-spec : {M : Type 1} → statement M
 put-spec =
     tie.close
     (tie.spec
-    Inv-loop
-    μ-loop
-    loop-holds
-    add-put-byte
-    shared-slice-read-put-byte
-    put-byte-requires
-    add-i
-    loop-less
-    loop-again
-    add-result
+    add-end
+    returns
+    sub-least
+    least-requires
+    sub-copy
+    part-copy-start
+    part-copy-end
+    slice-aggregate-copy
+    copy-requires
     same-length
-    returns)
+    returns-2)

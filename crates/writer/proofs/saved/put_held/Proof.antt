@@ -1,28 +1,74 @@
--- The value's text is written, of a string as it stands in the slot: at most 34 bytes, since it was read from the slot.
+-- What is read at the start of the slot's text is how the value is written, and false is written where nothing is: at most 34 bytes.
 use native.Mathlib.Omega.{arith}
 use borrow.Author.Needs.{needs}
-use Rattle.writer.proofs.Shown.{held-short}
+use lib.ListN.{length-take}
+use Rattle.model.specs.Base.{text}
+use Rattle.writer.proofs.Shown.{held-short, held-none, held-end, held-some}
 use Rattle.writer.proofs.saved.put_held.Statement.{statement}
 use Rattle.writer.proofs.saved.put_held.Tie as tie
-
-value-of-requires : tie.Need-value-of-requires
-value-of-requires c κs = search needs
 
 value-text-requires : tie.Need-value-text-requires
 value-text-requires c κs = search needs
 
-put-value-requires : tie.Need-put-value-requires
-put-value-requires c κs = (search needs, rw (c .value-text .ensures .0) (c .before .before .value-of .ensures .1))
+value-at-requires : tie.Need-value-at-requires
+value-at-requires c κs = search needs
+
+enum-known-end : tie.Need-enum-known-end
+enum-known-end c = search needs
+
+enum-told : tie.Need-enum-told
+enum-told c = search needs
+
+slice-aggregate-put : tie.Need-slice-aggregate-put
+slice-aggregate-put c = search needs
+
+put-requires : tie.Need-put-requires
+put-requires c κs = search needs
 
 same-length : tie.Need-same-length
 same-length c = search needs
 
 returns : tie.Need-returns
+unfolding text
 returns c =
-    let w = rw (c .before .before .before .value-text .ensures .0, c .before .before .before .before .before .value-of .ensures .0) at (c .before .before .put-value .ensures) in
-    (w, omega (arith, held-short (c .before .before .before .before .before .before .before .before .args .slot .now)))
+    let f = c .before .before .before .before .before .before .before in
+    let e = held-none _ _ (f .before .value-text .ensures .0) _ (f .value-at .ensures .0) (c .before .before .before .before .before .enum-told .given .1) in
+    (rw (← e) (c .before .before .put .ensures), search needs)
+
+slice-aggregate-put-2 : tie.Need-slice-aggregate-put-2
+slice-aggregate-put-2 c =
+    let f = c .before .before .before .before .before in
+    let a = c .before .before .before .end .given in
+    held-end _ _ (f .before .value-text .ensures .0) _ (f .value-at .ensures .0) (a .0 .0) (a .0 .1 .0) (a .1)
+
+put-requires-2 : tie.Need-put-requires-2
+put-requires-2 c κs = rw length-take (search needs)
+
+same-length-2 : tie.Need-same-length-2
+same-length-2 c = search needs
+
+returns-2 : tie.Need-returns-2
+returns-2 c =
+    let f = c .before .before .before .before .before .before .before .before in
+    let a = c .before .before .before .before .before .before .end .given in
+    let s = c .before .before .before .before .before .before .before .before .before .before .before .before .args .slot .now in
+    let e = held-some s _ (f .before .value-text .ensures .0) _ (f .value-at .ensures .0) (a .0 .0) (a .0 .1 .0) (a .1) in
+    let w = rw e at (c .before .before .put2 .ensures) in
+    (w, omega (arith, held-short s))
 
 pub put-held-spec : {M : Type 1} → statement M
 put-held-spec =
     tie.close
-    (tie.spec value-of-requires value-text-requires put-value-requires same-length returns)
+    (tie.spec
+    value-text-requires
+    value-at-requires
+    enum-known-end
+    enum-told
+    slice-aggregate-put
+    put-requires
+    same-length
+    returns
+    slice-aggregate-put-2
+    put-requires-2
+    same-length-2
+    returns-2)

@@ -14,12 +14,12 @@ use Rattle.writer.proofs.turn.put_descent.Statement.{statement}
 use Rattle.writer.proofs.turn.put_descent.Tie as tie
 
 abbrev Inv-loop : tie.InvT-loop
-Inv-loop out₀ at path from n to₀ i₀ t8 out to i =
+Inv-loop out₀ at path from n to₀ i₀ out to i =
     (to + 20 * (n - i) ≤ at + 20 * (n - from)) × (length out ≡ length out₀)
     × Remains at (descend (drop from (pathIn path))) out₀ to (descend (drop i (pathIn path))) out
 
 abbrev μ-loop : tie.MeasureT-loop
-μ-loop out₀ at path from n to₀ i₀ t8 out to i = n - i
+μ-loop out₀ at path from n to₀ i₀ out to i = n - i
 
 count-requires : tie.Need-count-requires Inv-loop μ-loop
 count-requires c κs = search needs
@@ -36,17 +36,17 @@ name-at-requires c κs = search needs
 put-requires : tie.Need-put-requires Inv-loop μ-loop
 put-requires c κs = let k = name-length _ _ (c .name-at .ensures) in omega arith
 
-slice-aggregate-put : tie.Need-slice-aggregate-put Inv-loop μ-loop
-slice-aggregate-put c = search needs
+put-byte-requires-2 : tie.Need-put-byte-requires-2 Inv-loop μ-loop
+put-byte-requires-2 c κs = let k = name-length _ _ (c .before .before .before .before .name-at .ensures) in omega arith
 
-put-requires-2 : tie.Need-put-requires-2 Inv-loop μ-loop
-put-requires-2 c κs = let k = name-length _ _ (c .before .before .before .before .before .name-at .ensures) in omega arith
+put-byte-requires-3 : tie.Need-put-byte-requires-3 Inv-loop μ-loop
+put-byte-requires-3 c κs = let k = name-length _ _ (c .before .before .before .before .before .before .before .before .name-at .ensures) in omega arith
 
 add-i : tie.Need-add-i Inv-loop μ-loop
 add-i c = search needs
 
-put-byte-requires-2 : tie.Need-put-byte-requires-2 Inv-loop μ-loop
-put-byte-requires-2 c κs = let k = name-length _ _ (c .before .before .before .before .before .before .before .before .before .before .name-at .ensures) in omega arith
+put-byte-requires-4 : tie.Need-put-byte-requires-4 Inv-loop μ-loop
+put-byte-requires-4 c κs = let k = name-length _ _ (c .before .before .before .before .before .before .before .before .before .before .before .before .before .name-at .ensures) in omega arith
 
 loop-less : tie.Need-loop-less Inv-loop μ-loop
 loop-less c = search needs
@@ -54,15 +54,17 @@ loop-less c = search needs
 loop-again : tie.Need-loop-again Inv-loop μ-loop
 unfolding text
 loop-again c =
-    let n = c .before .before .before .before .before .before .before .before .before .before .before .before .before in
+    let p = c .before .before .before .before .before .before .before in
+    let n = p .before .before .before .before .before .before .before .before .before in
     let l = n .before .before .before .before .before .before .before .loop in
     let name = n .name-at .ensures in
     let k = name-length _ _ name in
     let e = descend-more (n .before .before .before .before .before .before .before .before .before .before .before .args .path .now) (l .i) name (search needs) (search needs) in
-    let quote = remains-step _ _ _ _ _ _ _ _ _ (rw e at (l .inv .2)) (n .before .before .before .before .put-byte .ensures) in
-    let key = remains-step _ _ _ _ _ _ _ _ _ quote (c .before .before .before .before .before .before .before .before .before .before .before .before .put .ensures) in
-    let colon = remains-step _ _ _ _ _ _ _ _ _ key (c .before .before .before .before .before .before .before .put2 .ensures) in
-    (omega arith, search needs, remains-step _ _ _ _ _ _ _ _ _ colon (c .before .before .put-byte2 .ensures))
+    let opened = remains-step _ _ _ _ _ _ _ _ _ (rw e at (l .inv .2)) (n .before .before .before .before .put-byte .ensures) in
+    let key = remains-step _ _ _ _ _ _ _ _ _ opened (p .before .before .before .before .before .before .before .before .put .ensures) in
+    let closed = remains-step _ _ _ _ _ _ _ _ _ key (p .before .before .before .before .put-byte2 .ensures) in
+    let colon = remains-step _ _ _ _ _ _ _ _ _ closed (p .put-byte3 .ensures) in
+    (omega arith, search needs, remains-step _ _ _ _ _ _ _ _ _ colon (c .before .before .put-byte4 .ensures))
 
 loop-less-2 : tie.Need-loop-less-2 Inv-loop μ-loop
 loop-less-2 c = search needs
@@ -70,14 +72,16 @@ loop-less-2 c = search needs
 loop-again-2 : tie.Need-loop-again-2 Inv-loop μ-loop
 unfolding text
 loop-again-2 c =
-    let n = c .before .before .before .before .before .before .before .before .before in
+    let p = c .before .before .before in
+    let n = p .before .before .before .before .before .before .before .before .before in
     let l = n .before .before .before .before .before .before .before .loop in
     let name = n .name-at .ensures in
     let k = name-length _ _ name in
     let e = descend-last (n .before .before .before .before .before .before .before .before .before .before .before .args .path .now) (l .i) name (search needs) (search needs) in
-    let quote = remains-step _ _ _ _ _ _ _ _ _ (rw e at (l .inv .2)) (n .before .before .before .before .put-byte .ensures) in
-    let key = remains-step _ _ _ _ _ _ _ _ _ quote (c .before .before .before .before .before .before .before .before .put .ensures) in
-    (omega arith, search needs, remains-step _ _ _ _ _ _ _ _ _ key (c .before .before .before .put2 .ensures))
+    let opened = remains-step _ _ _ _ _ _ _ _ _ (rw e at (l .inv .2)) (n .before .before .before .before .put-byte .ensures) in
+    let key = remains-step _ _ _ _ _ _ _ _ _ opened (p .before .before .before .before .before .before .before .before .put .ensures) in
+    let closed = remains-step _ _ _ _ _ _ _ _ _ key (p .before .before .before .before .put-byte2 .ensures) in
+    (omega arith, search needs, remains-step _ _ _ _ _ _ _ _ _ closed (p .put-byte3 .ensures))
 
 same-length : tie.Need-same-length Inv-loop μ-loop
 same-length c = search needs
@@ -99,10 +103,10 @@ put-descent-spec =
     put-byte-requires
     name-at-requires
     put-requires
-    slice-aggregate-put
-    put-requires-2
-    add-i
     put-byte-requires-2
+    put-byte-requires-3
+    add-i
+    put-byte-requires-4
     loop-less
     loop-again
     loop-less-2

@@ -1,0 +1,14 @@
+-- The rows of fields.
+use borrow.Author.Needs.{needs}
+use Rattle.opening.proofs.Stored.{stored-fields}
+use Rattle.opening.proofs.store.copy_fields.Statement.{statement}
+use Rattle.opening.proofs.store.copy_fields.Tie as tie
+
+copy-rows-requires : tie.Need-copy-rows-requires
+copy-rows-requires c κs = search needs
+
+returns : tie.Need-returns
+returns c = stored-fields _ _ (c .copy-rows .ensures)
+
+pub copy-fields-spec : {M : Type 1} → statement M
+copy-fields-spec = tie.close (tie.spec copy-rows-requires returns)

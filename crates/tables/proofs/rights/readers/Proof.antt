@@ -1,0 +1,102 @@
+-- Each turn leaves, for the users who are not marked, the question for the lines behind the one that it asked.
+use Prim.Native.Nat.{_-_, _≤_}
+use mathlib.Core.Path.{sym, _∙_}
+use mathlib.Core.Logic.{⊎-elim}
+use borrow.Author.Needs.{needs}
+use Rattle.rows.proofs.Parts.{tail-part}
+use Rattle.paths.specs.Layout.{pathIn}
+use Rattle.tables.specs.Memory.{ruleIn}
+use Rattle.tables.proofs.Policy.{rule-inside}
+use Rattle.tables.proofs.Given.{ReadersLeft, readers-start, readers-end, readers-same, readers-more}
+use Rattle.tables.proofs.rights.readers.Statement.{statement}
+use Rattle.tables.proofs.rights.readers.Tie as tie
+
+abbrev Inv-loop : tie.InvT-loop
+Inv-loop tables path users policy n marks₀ i₀ marks i = (i ≤ n) × ReadersLeft tables policy (pathIn path) i marks
+
+abbrev μ-loop : tie.MeasureT-loop
+μ-loop tables path users policy n marks₀ i₀ marks i = n - i
+
+row-count-requires : tie.Need-row-count-requires Inv-loop μ-loop
+row-count-requires c κs = search needs
+
+sub-policy : tie.Need-sub-policy Inv-loop μ-loop
+sub-policy c = search needs
+
+part-policy-start : tie.Need-part-policy-start Inv-loop μ-loop
+part-policy-start c = search needs
+
+part-policy-end : tie.Need-part-policy-end Inv-loop μ-loop
+part-policy-end c = search needs
+
+row-count-requires-2 : tie.Need-row-count-requires-2 Inv-loop μ-loop
+row-count-requires-2 c κs = search needs
+
+loop-holds : tie.Need-loop-holds Inv-loop μ-loop
+loop-holds c = let s = c .before .before .before .before .before .args .tables .now in (search needs, readers-start s _ _ (tail-part 19104 s))
+
+row-at-requires : tie.Need-row-at-requires Inv-loop μ-loop
+row-at-requires c κs = (rule-inside _ (c .before .before .row-count2 .ensures) (c .before .loop .i) (c .loop-test .taken) (search needs), search needs)
+
+sub-may-match : tie.Need-sub-may-match Inv-loop μ-loop
+sub-may-match c = search needs
+
+part-may-match-start : tie.Need-part-may-match-start Inv-loop μ-loop
+part-may-match-start c = search needs
+
+part-may-match-end : tie.Need-part-may-match-end Inv-loop μ-loop
+part-may-match-end c = search needs
+
+may-match-requires : tie.Need-may-match-requires Inv-loop μ-loop
+may-match-requires c κs = search needs
+
+mark-readers-requires : tie.Need-mark-readers-requires Inv-loop μ-loop
+unfolding ruleIn
+mark-readers-requires c κs =
+    let k = c .before .before in
+    let may = rw (tail-part 18 _) at (sym (k .may-match .ensures) ∙ c .before .if1 .taken) in
+    (search needs, (k .before .before .before .before .before .before .before .row-count .ensures, may))
+
+add-i : tie.Need-add-i Inv-loop μ-loop
+add-i c = search needs
+
+loop-less : tie.Need-loop-less Inv-loop μ-loop
+loop-less c = search needs
+
+loop-again : tie.Need-loop-again Inv-loop μ-loop
+loop-again c =
+    let k = c .before .before .before in
+    let l = k .before .before .loop in
+    let count = k .before .before .before .row-count2 .ensures in
+    let test = k .before .loop-test .taken in
+    let row = k .row-at .ensures .0 in
+    ⊎-elim
+    (λ w. (search needs, readers-more _ _ _ count (l .i) (l .marks) (l .inv .1) test row (w .3 ∙ w .2 .ensures)))
+    (λ w. (search needs, rw (w .1) (readers-same _ _ _ count (l .i) (l .marks) (l .inv .1) test row (sym (c .before .may-match .ensures) ∙ w .0 .left))))
+    (c .if1 .came)
+
+returns : tie.Need-returns Inv-loop μ-loop
+returns c = let l = c .before .loop in readers-end _ _ _ (c .before .before .row-count2 .ensures) (l .i) (l .marks) (l .inv .1) (search needs)
+
+pub readers-spec : {M : Type 1} → statement M
+readers-spec =
+    tie.close
+    (tie.spec
+    Inv-loop
+    μ-loop
+    row-count-requires
+    sub-policy
+    part-policy-start
+    part-policy-end
+    row-count-requires-2
+    loop-holds
+    row-at-requires
+    sub-may-match
+    part-may-match-start
+    part-may-match-end
+    may-match-requires
+    mark-readers-requires
+    add-i
+    loop-less
+    loop-again
+    returns)
