@@ -104,7 +104,7 @@ fn shares(table: &[u8; 35328], n: usize) -> [u8; 256]
     shares
 }
 
-// Marks the field in the slot of the place i where a policy path matches; how many first keys it admits, where the first `from` are.
+// Marks the field at the place i, which stands in `slot`, if the policy path matches it; answers how many of its first keys the path admits. The first `from` are known to be.
 fn mark_field(
     shown: &mut [u8; 256],
     i: usize,

@@ -3,5 +3,6 @@ pub mod Classes
 pub mod Runs
 pub mod Between
 pub mod Slices
+pub mod Words
 pub mod Readers
 pub mod Decimals

@@ -1,4 +1,4 @@
-// Decimal numbers.
+// Decimal numbers, and the smaller of two numbers.
 use crate::class::is_digit;
 ghost use mathlib.Core.Path.{_≡_};
 ghost use Prim.Native.Nat.{_≤_, min};

@@ -2,11 +2,11 @@
 use crate::number::least;
 ghost use mathlib.Core.Path.{_≡_};
 ghost use mathlib.Core.List.{[], _∷_};
-ghost use Prim.Native.Nat.{_≤_};
+ghost use Prim.Native.Nat.{_≤_, compare};
 ghost use lib.ListN.{length, drop};
 ghost use Rattle.model.specs.Base.{_==_, after, isSome};
-ghost use Rattle.model.specs.Fields.{orderKey};
-ghost use Rattle.lexical.specs.Orders.{orderOf};
+ghost use Rattle.model.specs.Fields.{lex, orderKey};
+ghost use Rattle.lexical.specs.Orders.{orderOf, bigEndian};
 
 pub enum Order {
     Less,
@@ -31,12 +31,25 @@ pub fn same(a: &[u8], b: &[u8]) -> bool
     true
 }
 
-// By byte value, a shorter slice before a longer one that it begins.
-pub fn compare(a: &[u8], b: &[u8]) -> Order
-    ensures { λ r. ⌜ r ≡ orderOf (orderKey (now (a .entry)) (now (b .entry))) ⌝ }
+// The first eight bytes as one number, in which the first counts most: sums of products, which the compiler turns into one load.
+fn word(a: &[u8]) -> u64
+    requires { ⌜ 8 ≤ length (now a) ⌝ }
+    ensures { λ r. ⌜ r ≡ bigEndian 8 (now (a .entry)) ⌝ }
+{
+    let p = 72057594037927936 * (a[0] as u64) + 281474976710656 * (a[1] as u64);
+    let q = 1099511627776 * (a[2] as u64) + 4294967296 * (a[3] as u64);
+    let r = 16777216 * (a[4] as u64) + 65536 * (a[5] as u64);
+    let s = 256 * (a[6] as u64) + (a[7] as u64);
+    (p + q) + (r + s)
+}
+
+// The order of what stands from a position on, byte by byte.
+fn compare_from(a: &[u8], b: &[u8], from: usize) -> Order
+    requires { ⌜ (from ≤ length (now a)) × (from ≤ length (now b)) ⌝ }
+    ensures { λ r. ⌜ r ≡ orderOf (lex compare (drop from (now (a .entry))) (drop from (now (b .entry)))) ⌝ }
 {
     let n = least(a.len(), b.len());
-    let mut i = 0;
+    let mut i = from;
     while i < n {
         let x = a[i];
         let y = b[i];
@@ -55,6 +68,24 @@ pub fn compare(a: &[u8], b: &[u8]) -> Order
         return Order::Greater;
     }
     Order::Equal
+}
+
+// By byte value, a shorter slice before a longer one that it begins. Where both have eight bytes, these are compared as two numbers.
+pub fn compare(a: &[u8], b: &[u8]) -> Order
+    ensures { λ r. ⌜ r ≡ orderOf (orderKey (now (a .entry)) (now (b .entry))) ⌝ }
+{
+    if least(a.len(), b.len()) < 8 {
+        return compare_from(a, b, 0);
+    }
+    let x = word(a);
+    let y = word(b);
+    if x < y {
+        return Order::Less;
+    }
+    if y < x {
+        return Order::Greater;
+    }
+    compare_from(a, b, 8)
 }
 
 // Whether the word w stands at the position.

@@ -1,4 +1,4 @@
--- Matching in two parts: what the keys decide, and what a user's environment lines decide after that.
+-- Matching in two parts: what the path alone decides, and what a user's environment lines decide after that.
 use mathlib.Core.List.{List, [], _∷_}
 use mathlib.Core.Bool.{Bool, true, false, _&&_}
 use Rattle.model.specs.Base.{Bytes, among}

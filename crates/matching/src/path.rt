@@ -37,7 +37,7 @@ pub fn has_name(names: &[u8], key: &[u8]) -> bool
     false
 }
 
-// Whether a line of the name ends the search: the first one does, or the first that holds the key.
+// Whether a line of the name decides: for `=~n` the first does, for `in~n` only one that holds the key.
 fn decides(operator: Operator, holds: bool) -> bool
     ensures { λ r. ⌜ r ≡ decides (operatorOf operator) holds ⌝ }
 {

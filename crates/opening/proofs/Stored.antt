@@ -8,13 +8,14 @@ use lib.ListN.{length, take, drop}
 use lib.Seq.{length-take-le, take-all, take-at, drop-at}
 use Rattle.rows.specs.Rows.{rows, upTo, replaced, table}
 use Rattle.rows.proofs.Parts.{tail-part, tail-replaced}
-use Rattle.rows.proofs.Rows.{length-rows, length-upTo, rows-keep}
+use Rattle.rows.proofs.Rows.{length-rows, rows-keep}
 use Rattle.rows.proofs.Table.{table-same}
 use Rattle.model.specs.Base.{Bytes}
 use Rattle.model.specs.Limits.{maxUsers, maxRules, maxFields}
 use Rattle.steps.specs.Environments.{isEmptyRow}
-use Rattle.tables.specs.Memory.{userIn, usersIn, ruleIn, policyIn, tablesIn}
-use Rattle.record.specs.Slots.{isEmpty, fieldIn, fieldsIn}
+use Rattle.tables.specs.Memory.{usersIn, policyIn, tablesIn}
+use Rattle.tables.proofs.Tabled.{counted-within}
+use Rattle.record.specs.Slots.{isEmpty, fieldsIn}
 
 -- what a table of rows holds before the first empty one
 abbrev pub rowsIn : ℕ → ℕ → Bytes → List Bytes
@@ -22,7 +23,7 @@ rowsIn size most s = upTo isEmptyRow (rows size most s)
 
 module _ (size most : ℕ) (s : Bytes) {c : ℕ} (counted : c ≡ length (rowsIn size most s)) where
   pub counted-few : c ≤ most
-  counted-few = omega (arith, length-upTo isEmptyRow (rows size most s), length-rows size most s)
+  counted-few = counted-within isEmptyRow (λ (row : Bytes). row) size most s counted
 
   module _ {n : ℕ} (least : n ≡ min (c + 1) most) where
     pub end-inside : n * size ≤ most * size

@@ -11,7 +11,7 @@ use tables::layout::row_count;
 use values::write::copy;
 ghost use mathlib.Core.Path.{_≡_};
 ghost use Prim.Native.Nat.{_*_, _≤_, _<_};
-ghost use lib.ListN.{length, drop};
+ghost use lib.ListN.{length};
 ghost use Rattle.rows.specs.Rows.{rows, upTo};
 ghost use Rattle.steps.specs.Environments.{isEmptyRow};
 ghost use Rattle.record.specs.Slots.{fieldsIn};
@@ -27,7 +27,7 @@ fn copy_rows(to: &mut [u8], from: &[u8], size: usize, most: usize)
     copy(to, &from[..end]);
 }
 
-// Users and policy.
+// The tables: users, and behind their rows the policy.
 pub fn copy_tables(to: &mut [u8], from: &[u8])
     requires { ⌜ (length (now to) ≡ 47200) × (length (now from) ≡ 47200) ⌝ }
     ensures { λ _. ⌜ tablesIn (now (to .exit)) ≡ tablesIn (now (from .entry)) ⌝ }
@@ -36,6 +36,7 @@ pub fn copy_tables(to: &mut [u8], from: &[u8])
     copy_rows(&mut to[POLICY..], &from[POLICY..], RULE, RULES);
 }
 
+// The fields.
 pub fn copy_fields(to: &mut [u8; 35328], from: &[u8; 35328])
     ensures { λ _. ⌜ fieldsIn (now (to .exit)) ≡ fieldsIn (now (from .entry)) ⌝ }
 {

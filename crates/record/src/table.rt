@@ -102,8 +102,8 @@ fn put_before(tail: &mut [u8], slot: &[u8])
     copy(tail, slot);
 }
 
-// Where the slots in use and two more end, or all slots: what stands behind is no field, nor is it after one more is put in.
-fn used(table: &[u8]) -> usize
+// Where what a new field moves ends: the slots in use, one more for the field, and the empty slot behind them; at most all slots.
+fn moved_end(table: &[u8]) -> usize
     requires { ⌜ length (now table) ≡ 35328 ⌝ }
     ensures { λ r. ⌜ r ≡ min (length (fieldsIn (now (table .entry))) + 2) 256 * 138 ⌝ }
 {
@@ -117,7 +117,7 @@ fn insert(table: &mut [u8], at: usize, slot: &[u8])
     ensures { λ _. ⌜ fieldsIn (now (table .exit)) ≡ take maxFields (insertAt at (fieldIn (now (slot .entry))) (fieldsIn (now (table .entry)))) ⌝ }
 {
     let start = at * SLOT;
-    let end = used(table);
+    let end = moved_end(table);
     put_before(&mut table[start..end], slot);
 }
 

@@ -2,6 +2,7 @@
 use Prim.Native.Nat.{ℕ, zero, suc, _+_, _≤_, _<_}
 use mathlib.Core.Path.{_≡_, refl, ap}
 use mathlib.Core.Bool.{Bool, true, false, cond, _||_}
+use mathlib.Core.Option.{Option, none, some}
 use mathlib.Core.List.{List, [], _∷_, _++_, append-assoc}
 use native.Mathlib.Nat.{le-of-suc-le-suc}
 use native.Mathlib.Numerals.{add-one}
@@ -10,10 +11,15 @@ use borrow.Author.Tests.{ltb-true, ltb-false}
 use lib.Dec.{ltb}
 use lib.ListN.{length, getD, getElem?, take, drop, set, take-append-drop}
 use lib.Seq.{take-all, take-suc, take-suc-set, drop-set-lt, set-out}
-use Rattle.rows.specs.Marks.{passes, marked}
+use Rattle.rows.specs.Marks.{marked}
 use Rattle.rows.proofs.Positions.{here, over}
 
 module _ {ℓ} {A : Type ℓ} (f : A → Bool) where
+  -- an element that is there and passes
+  unfoldable pub passes : Option A → Bool
+  passes none = false
+  passes (some x) = f x
+
   marked-empty : (xs : List A) → marked f xs [] ≡ []
   unfolding marked
   marked-empty [] = refl
@@ -28,7 +34,7 @@ module _ {ℓ} {A : Type ℓ} (f : A → Bool) where
 
   -- the byte at a place, where each element has one
   pub marked-at : (xs : List A) (bs : List ℕ) (j : ℕ) → length xs ≤ length bs
-      → getD (marked f xs bs) j 0 ≡ cond (passes f (getElem? xs j)) 1 (getD bs j 0)
+      → getD (marked f xs bs) j 0 ≡ cond (passes (getElem? xs j)) 1 (getD bs j 0)
   unfolding marked passes
   marked-at [] bs zero h = refl
   marked-at [] bs (suc j) h = refl

@@ -21,7 +21,7 @@ use tables::layout::POLICY;
 use tables::layout::USER;
 use tables::layout::row_at;
 use values::value::Scalar;
-use writer::saved::MOST;
+use writer::saved::MOST_SAVED;
 ghost use mathlib.Core.Path.{_≡_};
 ghost use mathlib.Core.Bool.{false};
 ghost use mathlib.Core.List.{List};
@@ -50,7 +50,7 @@ fn login(tables: &[u8], logins: &mut [u16], line: &[u8], cut: usize) -> Reply
     }
 }
 
-// GET: the copy is written if it fits, which is measured where room for the longest record does not show it.
+// GET: the copy is written if it fits. What stands behind its head is measured only where there is no room for the longest saved text.
 fn get(tables: &[u8], logins: &[u16], fields: &[u8; RECORD], n: u32, buffer: &mut [u8]) -> Reply
     requires { ⌜ (length (now tables) ≡ 47200) × (length (now logins) ≡ 96) ⌝ }
     ensures { λ r. ⌜ ((l : List ℕ) → outcomeIn r (stateIn (now (tables .entry)) (now (logins .entry)) (now (fields .entry))) (now (buffer .exit)) l ≡ serving.served (stateIn (now (tables .entry)) (now (logins .entry)) (now (fields .entry))) (now (buffer .entry)) l (some (model.get n))) ⌝ }
@@ -62,7 +62,7 @@ fn get(tables: &[u8], logins: &[u16], fields: &[u8; RECORD], n: u32, buffer: &mu
     let policy = &tables[POLICY..];
     let shown = select(policy, user, fields);
     let head = put_head(&mut buffer[..0], 0, policy, user);
-    if buffer.len() <= head + MOST {
+    if buffer.len() <= head + MOST_SAVED {
         let length = put_copy(&mut buffer[..0], 0, policy, user, fields, &shown);
         if buffer.len() < length {
             return Reply::Refused(15);

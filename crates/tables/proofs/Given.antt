@@ -6,12 +6,12 @@ use mathlib.Core.Option.{Option, none, some}
 use mathlib.Core.List.{List, [], _∷_}
 use native.Mathlib.Omega.{arith}
 use lib.Dec.{eqb}
-use lib.ListN.{length, getD, getElem?, take, drop, set, replicate}
+use lib.ListN.{length, getD, getElem?, take, drop, replicate}
 use Rattle.rows.specs.Rows.{rows, upTo}
-use Rattle.rows.specs.Marks.{passes, marked}
+use Rattle.rows.specs.Marks.{marked}
 use Rattle.rows.proofs.Table.{length-table}
 use Rattle.rows.proofs.Parts.{tail-part}
-use Rattle.rows.proofs.Marks.{length-marked, marked-at}
+use Rattle.rows.proofs.Marks.{passes, length-marked, marked-at}
 use Rattle.model.specs.Base.{Bytes, any}
 use Rattle.model.specs.Limits.{maxUsers, maxRules}
 use Rattle.model.specs.Fields.{Keys}

@@ -20,8 +20,8 @@ ghost use Rattle.model.specs.SavedText.{saved};
 ghost use Rattle.record.specs.Slots.{valueIn, fieldsIn};
 ghost use Rattle.writer.specs.Selected.{selected, shownFrom};
 
-// No saved text is longer.
-pub const MOST: usize = 41216;
+// No saved text of 256 slots is longer, whatever they hold.
+pub const MOST_SAVED: usize = 41216;
 
 // The place of the first field from i on that the selection shows, or 256.
 fn next_shown(table: &[u8; 35328], shown: &[u8; 256], i: usize) -> usize

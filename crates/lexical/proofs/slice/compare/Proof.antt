@@ -1,85 +1,68 @@
--- The first two bytes that differ decide, or the text that ends first; each turn leaves the order of what stands behind two equal bytes.
-use Prim.Native.Nat.{_≤_, _-_, compare}
+-- Short texts byte by byte; else the first eight bytes decide as numbers, or what stands behind them.
 use mathlib.Core.Path.{_≡_, sym, ap, _∙_}
-use borrow.Author.Needs.{needs}
 use native.Mathlib.Omega.{arith}
-use lib.ListN.{length, drop}
-use Rattle.model.specs.Fields.{lex, orderKey}
-use Rattle.lexical.specs.Orders.{orderOf}
-use Rattle.lexical.proofs.Slices.{order-step, order-less, order-more, lex-shorter, lex-longer, lex-end}
+use borrow.Author.Needs.{needs}
+use Rattle.model.specs.Fields.{andThen, orderKey}
+use Rattle.lexical.specs.Orders.{orderOf, bigEndian}
+use Rattle.lexical.proofs.Slices.{compare-less, compare-same, compare-more}
+use Rattle.lexical.proofs.Words.{order-words}
 use Rattle.lexical.proofs.slice.compare.Statement.{statement}
 use Rattle.lexical.proofs.slice.compare.Tie as tie
 
-abbrev Inv-loop : tie.InvT-loop
-Inv-loop a b n i₀ i = (i ≤ n) × (orderKey a b ≡ lex compare (drop i a) (drop i b))
-
-abbrev μ-loop : tie.MeasureT-loop
-μ-loop a b n i₀ i = n - i
-
-least-requires : tie.Need-least-requires Inv-loop μ-loop
+least-requires : tie.Need-least-requires
 least-requires c κs = search needs
 
-loop-holds : tie.Need-loop-holds Inv-loop μ-loop
+compare-from-requires : tie.Need-compare-from-requires
+compare-from-requires c κs = search needs
+
+returns : tie.Need-returns
 unfolding orderKey
-loop-holds c = search needs
+returns c = search needs
 
-shared-slice-read-x : tie.Need-shared-slice-read-x Inv-loop μ-loop
-shared-slice-read-x c = search needs
+word-requires : tie.Need-word-requires
+word-requires c κs = search needs
 
-shared-slice-read-y : tie.Need-shared-slice-read-y Inv-loop μ-loop
-shared-slice-read-y c = search needs
+word-requires-2 : tie.Need-word-requires-2
+word-requires-2 c κs = search needs
 
-returns : tie.Need-returns Inv-loop μ-loop
-returns c =
-    let l = c .before .before .before .before .before .loop in
-    sym (ap orderOf (l .inv .1 ∙ order-less _ _ (l .i) (search needs) (search needs) (c .if2 .taken)))
-
-returns-2 : tie.Need-returns-2 Inv-loop μ-loop
+returns-2 : tie.Need-returns-2
+unfolding orderKey andThen
 returns-2 c =
-    let l = c .before .before .before .before .before .loop in
-    sym (ap orderOf (l .inv .1 ∙ order-more _ _ (l .i) (search needs) (search needs) (search needs)))
+    let k = c .before .before .before .before .before in
+    let words = order-words 8 (k .before .before .args .a .now) (k .before .before .args .b .now) (search needs) (search needs) (λ i. k .before .shared-slice-known .given i .fits) (λ i. k .shared-slice-known2 .given i .fits) in
+    let l = rw (c .before .before .word .ensures, c .before .word2 .ensures) at (c .if2 .taken) in
+    sym (ap orderOf (rw (compare-less _ _ l) at words))
 
-add-i : tie.Need-add-i Inv-loop μ-loop
-add-i c = search needs
-
-loop-less : tie.Need-loop-less Inv-loop μ-loop
-loop-less c = search needs
-
-loop-again : tie.Need-loop-again Inv-loop μ-loop
-loop-again c =
-    let l = c .before .before .before .before .loop in
-    (search needs, l .inv .1 ∙ order-step _ _ (l .i) (search needs) (search needs) (c .if1 .left))
-
-returns-3 : tie.Need-returns-3 Inv-loop μ-loop
+returns-3 : tie.Need-returns-3
+unfolding orderKey andThen
 returns-3 c =
-    let l = c .before .before .loop in
-    sym (ap orderOf (l .inv .1 ∙ lex-shorter compare 0 _ _ (l .i) (search needs) (search needs)))
+    let k = c .before .before .before .before .before .before in
+    let words = order-words 8 (k .before .before .args .a .now) (k .before .before .args .b .now) (search needs) (search needs) (λ i. k .before .shared-slice-known .given i .fits) (λ i. k .shared-slice-known2 .given i .fits) in
+    let l = rw (c .before .before .before .word .ensures, c .before .before .word2 .ensures) at (c .if3 .taken) in
+    sym (ap orderOf (rw (compare-more _ _ l) at words))
 
-returns-4 : tie.Need-returns-4 Inv-loop μ-loop
+compare-from-requires-2 : tie.Need-compare-from-requires-2
+compare-from-requires-2 c κs = search needs
+
+returns-4 : tie.Need-returns-4
+unfolding orderKey andThen
 returns-4 c =
-    let l = c .before .before .before .loop in
-    sym (ap orderOf (l .inv .1 ∙ lex-longer compare 0 _ _ (l .i) (search needs) (search needs)))
-
-returns-5 : tie.Need-returns-5 Inv-loop μ-loop
-returns-5 c =
-    let l = c .before .before .before .loop in
-    sym (ap orderOf (l .inv .1 ∙ lex-end compare 0 _ _ (l .i) (search needs) (search needs)))
+    let k = c .before .before .before .before .before .before .before in
+    let words = order-words 8 (k .before .before .args .a .now) (k .before .before .args .b .now) (search needs) (search needs) (λ i. k .before .shared-slice-known .given i .fits) (λ i. k .shared-slice-known2 .given i .fits) in
+    let e : bigEndian 8 (k .before .before .args .a .now) ≡ bigEndian 8 (k .before .before .args .b .now) =
+    omega (arith, c .before .before .before .before .word .ensures, c .before .before .before .word2 .ensures) in
+    c .compare-from2 .ensures ∙ sym (ap orderOf (rw (compare-same _ _ e) at words))
 
 pub compare-spec : {M : Type 1} → statement M
 compare-spec =
     tie.close
     (tie.spec
-    Inv-loop
-    μ-loop
     least-requires
-    loop-holds
-    shared-slice-read-x
-    shared-slice-read-y
+    compare-from-requires
     returns
+    word-requires
+    word-requires-2
     returns-2
-    add-i
-    loop-less
-    loop-again
     returns-3
-    returns-4
-    returns-5)
+    compare-from-requires-2
+    returns-4)

@@ -1,5 +1,5 @@
 -- A slot is filled with the path and the value, and stored at the place of the path.
-use mathlib.Core.Path.{sym, ap, _∙_}
+use mathlib.Core.Path.{ap, _∙_}
 use borrow.Author.Needs.{needs}
 use Rattle.model.specs.Fields.{Field}
 use Rattle.record.specs.Slots.{fieldIn}

@@ -7,8 +7,8 @@ use Rattle.record.proofs.table.insert.Tie as tie
 mul-start : tie.Need-mul-start
 mul-start c = search needs
 
-used-requires : tie.Need-used-requires
-used-requires c κs = search needs
+moved-end-requires : tie.Need-moved-end-requires
+moved-end-requires c κs = search needs
 
 sub-put-before : tie.Need-sub-put-before
 sub-put-before c = search needs
@@ -30,14 +30,14 @@ returns c =
     let p = c .before .before in
     let f = p .before .before in
     let h = f .before .before .before .before .pre in
-    inserted _ _ _ (h .0 .0) (h .0 .1) (h .0 .2) (h .1 .1) _ (f .used .ensures) (h .1 .0) _ (p .put-before .ensures)
+    inserted _ _ _ (h .0 .0) (h .0 .1) (h .0 .2) (h .1 .1) _ (f .moved-end .ensures) (h .1 .0) _ (p .put-before .ensures)
 
 pub insert-spec : {M : Type 1} → statement M
 insert-spec =
     tie.close
     (tie.spec
     mul-start
-    used-requires
+    moved-end-requires
     sub-put-before
     part-put-before-start
     part-put-before-end

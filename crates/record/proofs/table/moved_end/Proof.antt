@@ -1,9 +1,8 @@
 -- The fields are at most as many as the slots, so their count and two more fits its type.
 use borrow.Author.Needs.{needs}
-use native.Mathlib.Omega.{arith}
 use Rattle.record.proofs.Stores.{fields-fit}
-use Rattle.record.proofs.table.used.Statement.{statement}
-use Rattle.record.proofs.table.used.Tie as tie
+use Rattle.record.proofs.table.moved_end.Statement.{statement}
+use Rattle.record.proofs.table.moved_end.Tie as tie
 
 count-requires : tie.Need-count-requires
 count-requires c κs = search needs
@@ -20,5 +19,5 @@ mul-result c = search needs
 returns : tie.Need-returns
 returns c = search needs
 
-pub used-spec : {M : Type 1} → statement M
-used-spec = tie.close (tie.spec count-requires add-least least-requires mul-result returns)
+pub moved-end-spec : {M : Type 1} → statement M
+moved-end-spec = tie.close (tie.spec count-requires add-least least-requires mul-result returns)
