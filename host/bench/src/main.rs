@@ -36,7 +36,7 @@ fn main() -> ExitCode {
     print_costs("Microseconds by fields, at 64 policy lines", "fields", &by_fields);
     let by_policy = growth::by_policy();
     print_costs("Microseconds by policy lines, at 256 fields", "policy lines", &by_policy);
-    match file.map(|file| fs::write(file, svg::plot(&by_fields))) {
+    match file.map(|file| fs::write(file, svg::plot(&by_fields, &by_policy))) {
         Some(Err(error)) => {
             eprintln!("bench: {error}");
             ExitCode::FAILURE

@@ -1,41 +1,50 @@
-//! A plot of costs, as SVG: one panel for GET, one for PUSH.
+//! A plot of costs, as SVG: a row of panels for each growth, one panel for GET
+//! and one for PUSH.
 
 use std::fmt::Write;
 
 use crate::growth::Cost;
 
 const WIDTH: f64 = 900.0;
-const HEIGHT: f64 = 420.0;
+const ROW: f64 = 370.0;
+const HEIGHT: f64 = 70.0 + 2.0 * ROW;
 const COLOURS: [&str; 2] = ["#1f5fa8", "#c4501b"];
 const NAMES: [&str; 2] = ["proved", "second"];
 
 /// The part of the picture that a panel's lines are drawn in.
-struct Panel {
+struct Panel<'a> {
     left: f64,
     top: f64,
     width: f64,
     height: f64,
-    /// The largest value on each axis.
-    most_fields: f64,
+    /// What grows, and the largest value on each axis.
+    size: &'a str,
+    most_size: f64,
     most_micros: f64,
 }
 
-impl Panel {
-    fn new(left: f64, costs: &[Cost], micros: impl Fn(&Cost) -> [f64; 2]) -> Self {
-        let fields = costs.iter().map(|cost| cost.size as f64).fold(0.0, f64::max);
+impl<'a> Panel<'a> {
+    fn new(
+        (left, top): (f64, f64),
+        size: &'a str,
+        costs: &[Cost],
+        micros: impl Fn(&Cost) -> [f64; 2],
+    ) -> Self {
+        let sizes = costs.iter().map(|cost| cost.size as f64).fold(0.0, f64::max);
         let most = costs.iter().flat_map(micros).fold(0.0, f64::max);
         Panel {
             left,
-            top: 80.0,
+            top,
             width: 350.0,
             height: 260.0,
-            most_fields: fields,
+            size,
+            most_size: sizes,
             most_micros: round_up(most),
         }
     }
 
-    fn x(&self, fields: f64) -> f64 {
-        self.left + fields / self.most_fields * self.width
+    fn x(&self, size: f64) -> f64 {
+        self.left + size / self.most_size * self.width
     }
 
     fn y(&self, micros: f64) -> f64 {
@@ -71,25 +80,30 @@ impl Panel {
         }
         out += &stroke((self.left, bottom), (right, bottom), "#333333");
         out += &stroke((self.left, self.top), (self.left, bottom), "#333333");
-        out += &text(middle, bottom + 42.0, "middle", "fields");
+        out += &text(middle, bottom + 42.0, "middle", self.size);
         out
     }
 }
 
-/// The plot for a full policy.
-pub fn plot(costs: &[Cost]) -> String {
+/// The plot of how costs grow with the fields and with the policy lines.
+pub fn plot(by_fields: &[Cost], by_policy: &[Cost]) -> String {
     let mut out = format!(
         "<svg xmlns=\"http://www.w3.org/2000/svg\" viewBox=\"0 0 {WIDTH} {HEIGHT}\" \
          font-family=\"sans-serif\" font-size=\"13\">\n\
          <rect width=\"{WIDTH}\" height=\"{HEIGHT}\" fill=\"white\"/>\n"
     );
-    let title = "Microseconds a request: 32 users logged in, 64 policy lines";
-    out += &text(WIDTH / 2.0, 26.0, "middle", title);
-    out += &Panel::new(70.0, costs, |cost| cost.get).draw("GET", costs, |cost| cost.get);
-    let push = "PUSH to a held field";
-    out += &Panel::new(520.0, costs, |cost| cost.push).draw(push, costs, |cost| cost.push);
+    out += &text(WIDTH / 2.0, 26.0, "middle", "Microseconds a request: 32 users logged in");
+    out += &row(80.0, "fields, at 64 policy lines", by_fields);
+    out += &row(80.0 + ROW, "policy lines, at 256 fields", by_policy);
     out += &legend();
     out + "</svg>\n"
+}
+
+fn row(top: f64, size: &str, costs: &[Cost]) -> String {
+    let get = Panel::new((70.0, top), size, costs, |cost| cost.get);
+    let push = Panel::new((520.0, top), size, costs, |cost| cost.push);
+    get.draw("GET", costs, |cost| cost.get)
+        + &push.draw("PUSH to a held field", costs, |cost| cost.push)
 }
 
 fn legend() -> String {
