@@ -11,7 +11,7 @@ use Rattle.model.specs.Fields.{Keys}
 use Rattle.model.specs.Paths.{Steps}
 use Rattle.model.specs.Tables.{Binding}
 use Rattle.model.specs.Rights.{admits, matches}
-use Rattle.model.proofs.Lists.{by-cases}
+use Rattle.model.proofs.Lists.{by-cases, never}
 use Rattle.paths.specs.Layout.{nameIn, pathIn}
 use Rattle.steps.specs.Steps.{stepIn, stepsIn}
 use Rattle.paths.proofs.Counted.{length-counted, counted-step}
@@ -37,23 +37,21 @@ module _ (bs : List Binding) where
       (λ e. rw e (matches-all ts ks (omega (arith, rw e at h)) (omega arith)))
       (λ e. absurd (omega (arith, rw e at h)))
 
-  pub matches-short : (ts : Steps) (ks : Keys) → (admitted bs ts ks ≡ length ts → ⊥) → matches bs ts ks ≡ false
+  matched : (ts : Steps) (ks : Keys) → matches bs ts ks ≡ true → (admitted bs ts ks ≡ length ts) × (admitted bs ts ks ≡ length ks)
   unfolding matches admitted
-  matches-short [] ks f = absurd (f refl)
-  matches-short (t ∷ ts) [] f = refl
-  matches-short (t ∷ ts) (k ∷ ks) f = by-cases (admits bs t k)
-      (λ e. rw e (matches-short ts ks (λ z. f (rw e (ap suc z)))))
-      (λ e. rw e)
+  matched [] [] h = (refl, refl)
+  matched [] (k ∷ ks) h = never (sym h)
+  matched (t ∷ ts) [] h = never (sym h)
+  matched (t ∷ ts) (k ∷ ks) h = by-cases (admits bs t k)
+      (λ e. let (p, q) = matched ts ks (rw e at h) in rw e (ap suc p, ap suc q))
+      (λ e. never (sym (rw e at h)))
+
+  pub matches-short : (ts : Steps) (ks : Keys) → (admitted bs ts ks ≡ length ts → ⊥) → matches bs ts ks ≡ false
+  matches-short ts ks f = by-cases (matches bs ts ks) (λ e. absurd (f (matched ts ks e .0))) (λ e. e)
 
   -- nor do they where a key is left
   pub matches-few : (ts : Steps) (ks : Keys) → admitted bs ts ks < length ks → matches bs ts ks ≡ false
-  unfolding matches admitted
-  matches-few [] [] h = absurd (omega arith)
-  matches-few [] (k ∷ ks) h = refl
-  matches-few (t ∷ ts) [] h = refl
-  matches-few (t ∷ ts) (k ∷ ks) h = by-cases (admits bs t k)
-      (λ e. rw e (matches-few ts ks (omega (arith, rw e at h))))
-      (λ e. rw e)
+  matches-few ts ks h = by-cases (matches bs ts ks) (λ e. absurd (omega (arith, matched ts ks e .1))) (λ e. e)
 
   -- ── By a loop: i, and how many are admitted from the step i on ──
   abbrev pub admittedFrom : ℕ → Steps → Keys → ℕ
