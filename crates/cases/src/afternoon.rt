@@ -1,6 +1,6 @@
 // The lines of an input, each answered as it stands.
+use lexical::slice::until;
 use libc::STDOUT_FILENO;
-use lines::until;
 use printing::COPY;
 use printing::LIST;
 use printing::respond;

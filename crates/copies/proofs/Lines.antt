@@ -6,10 +6,9 @@ use mathlib.Core.List.{List, [], _++_, map, append-assoc, append-nil}
 use native.Mathlib.Omega.{arith}
 use lib.ListN.{length, take, drop}
 use lib.Seq.{take-take, drop-drop}
-use Rattle.rows.specs.Rows.{rows, upTo}
-use Rattle.rows.proofs.Rows.{drop-take}
+use Rattle.rows.proofs.Parts.{part-part}
 use Rattle.model.specs.Base.{Bytes, text, if_then_else_, keep, joined, between}
-use Rattle.model.specs.Limits.{maxRules, maxBindings}
+use Rattle.model.specs.Limits.{maxKey, maxRules, maxBindings}
 use Rattle.model.specs.Fields.{Fields}
 use Rattle.model.specs.SavedText.{saved}
 use Rattle.model.specs.Paths.{stepsText}
@@ -17,11 +16,11 @@ use Rattle.model.specs.Tables.{User, Access, READ, WRITE, Rule}
 use Rattle.model.specs.Rights.{isWriting, isWrite, isFor}
 use Rattle.model.specs.Serving.{accessText, tableLine, ruleLine, bindingLine, copyOf}
 use Rattle.model.proofs.Lists.{keep-yes, keep-no}
-use Rattle.paths.specs.Layout.{nameIn}
-use Rattle.steps.specs.Environments.{bindingIn, isEmptyRow, bindingsIn}
-use Rattle.tables.specs.Memory.{ruleIn, policyIn}
+use Rattle.layout.specs.Layout.{inUse, nameRow, keyRow, nameIn}
+use Rattle.steps.specs.Environments.{bindingRow, bindingIn, bindingsIn}
+use Rattle.tables.specs.Memory.{ruleRow, ruleIn, policyIn}
 use Rattle.copies.specs.Heads.{headOf}
-use Rattle.tables.proofs.Tabled.{counted-within, row-left, rows-over}
+use Rattle.layout.proofs.Used.{counted-fit, row-left, rows-over}
 use Rattle.tables.proofs.Policy.{rule-left, rules-over}
 
 -- ── A policy line ──
@@ -48,13 +47,13 @@ module _ (r : Rule) where
 abbrev pub rulesFrom : User → Bytes → ℕ → Bytes
 rulesFrom u s i = joined (map (ruleLine u) (keep (isFor u) (drop i (policyIn s))))
 
--- m rows were counted: at most 64
-pub rules-fit : (s : Bytes) {m : ℕ} → m ≡ length (upTo isEmptyRow (rows 439 maxRules s)) → m ≤ 64
-rules-fit s counted = counted-within isEmptyRow ruleIn 439 maxRules s counted
+-- m rows were counted
+pub rules-fit : (s : Bytes) {m : ℕ} → m ≡ length (inUse ruleRow maxRules s) → m ≤ maxRules
+rules-fit s counted = counted-fit ruleRow maxRules s counted
 
-module _ (u : User) (s : Bytes) {m : ℕ} (counted : m ≡ length (upTo isEmptyRow (rows 439 maxRules s))) (i : ℕ) where
+module _ (u : User) (s : Bytes) {m : ℕ} (counted : m ≡ length (inUse ruleRow maxRules s)) (i : ℕ) where
   -- the line in the row at i is the user's, or it is not
-  module _ (below : i < m) {row : Bytes} (is : row ≡ take 439 (drop (i * 439) s)) where
+  module _ (below : i < m) {row : Bytes} (is : row ≡ take ruleRow (drop (i * ruleRow) s)) where
     pub rules-yes : isFor u (ruleIn row) ≡ true → rulesFrom u s i ≡ ruleLine u (ruleIn row) ++ rulesFrom u s (i + 1)
     unfolding joined
     rules-yes y = rw (rule-left s counted i below is, keep-yes (isFor u) (ruleIn row) (drop (i + 1) (policyIn s)) y)
@@ -71,24 +70,24 @@ module _ (u : User) (s : Bytes) {m : ℕ} (counted : m ≡ length (upTo isEmptyR
 abbrev pub bindingsFrom : Bytes → ℕ → Bytes
 bindingsFrom s i = joined (map bindingLine (drop i (bindingsIn s)))
 
-module _ (s : Bytes) {m : ℕ} (counted : m ≡ length (upTo isEmptyRow (rows 34 maxBindings s))) where
+module _ (s : Bytes) {m : ℕ} (counted : m ≡ length (inUse bindingRow maxBindings s)) where
   -- m rows were counted: at most 16
-  pub bindings-fit : m ≤ 16
-  bindings-fit = counted-within isEmptyRow bindingIn 34 maxBindings s counted
+  pub bindings-fit : m ≤ maxBindings
+  bindings-fit = counted-fit bindingRow maxBindings s counted
 
   module _ (i : ℕ) where
     -- a line more, with the name and the value in the row at i
-    pub bindings-next : {name value : Bytes} → i < m → name ≡ nameIn (take 17 (drop (i * 34) s)) → value ≡ nameIn (take 17 (drop (i * 34 + 17) s))
+    pub bindings-next : {name value : Bytes} → i < m → name ≡ nameIn (take nameRow (drop (i * bindingRow) s)) → value ≡ nameIn (take keyRow (drop (i * bindingRow + nameRow) s))
         → bindingsFrom s i ≡ name ++ (text ";" ++ (value ++ (text "\n" ++ bindingsFrom s (i + 1))))
     unfolding joined bindingsIn bindingIn bindingLine tableLine between
     bindings-next h n v =
-        rw (row-left isEmptyRow bindingIn 34 maxBindings s counted i h refl, take-take 17 34 (drop (i * 34) s) (omega arith), drop-take, drop-drop, ← n, ← v)
+        rw (row-left bindingIn bindingRow maxBindings s counted i h refl, take-take nameRow bindingRow (drop (i * bindingRow) s) (omega arith), part-part (i * bindingRow) bindingRow s nameRow keyRow (omega arith), ← n, ← v)
         (simp append-assoc)
 
     -- behind the last nothing is left
     pub bindings-end : m ≤ i → bindingsFrom s i ≡ []
     unfolding joined bindingsIn
-    bindings-end h = rw (rows-over isEmptyRow bindingIn 34 maxBindings s counted i h)
+    bindings-end h = rw (rows-over bindingIn bindingRow maxBindings s counted i h)
 
 -- ── The copy: its parts one behind the other ──
 module _ (rs : List Rule) (u : User) where

@@ -17,8 +17,9 @@ use Rattle.model.specs.Rights.{isFor, matches, mayRead}
 use Rattle.model.specs.Serving.{readable}
 use Rattle.model.proofs.Lists.{by-cases}
 use Rattle.steps.specs.Steps.{stepsIn}
-use Rattle.steps.specs.Environments.{isEmptyRow, bindingsIn}
-use Rattle.tables.specs.Memory.{ruleIn, policyIn}
+use Rattle.steps.specs.Environments.{bindingsIn}
+use Rattle.layout.specs.Layout.{inUse}
+use Rattle.tables.specs.Memory.{pathAt, ruleRow, ruleIn, policyIn}
 use Rattle.tables.proofs.Policy.{rule-left, rules-over}
 use Rattle.writer.specs.Selected.{selected}
 
@@ -56,15 +57,15 @@ module _ (u : User) (fs : Fields) where
   given-none bs = marked-none fs bs
 
   -- the same of a policy in memory, of which m rows were counted
-  module _ (s : Bytes) {m : ℕ} (counted : m ≡ length (upTo isEmptyRow (rows 439 maxRules s))) (i : ℕ) (bs : Bytes) where
+  module _ (s : Bytes) {m : ℕ} (counted : m ≡ length (inUse ruleRow maxRules s)) (i : ℕ) (bs : Bytes) where
     -- the line in the row at i is the user's, and the fields that its path matches were marked, or it is not
-    module _ (below : i < m) {row : Bytes} (is : row ≡ take 439 (drop (i * 439) s)) where
+    module _ (below : i < m) {row : Bytes} (is : row ≡ take ruleRow (drop (i * ruleRow) s)) where
       pub rule-yes : (lines marks : Bytes) → isFor u (ruleIn row) ≡ true → bindingsIn lines ≡ u .environment
-          → marks ≡ marked (λ f. matches (bindingsIn lines) (stepsIn (take (length row - 18) (drop 18 row))) (f .path)) fs bs
+          → marks ≡ marked (λ f. matches (bindingsIn lines) (stepsIn (take (length row - pathAt) (drop pathAt row))) (f .path)) fs bs
           → given (drop i (policyIn s)) bs ≡ given (drop (i + 1) (policyIn s)) marks
       unfolding ruleIn
       rule-yes lines marks y e k =
-          rw (rule-left s counted i below is, k, e, tail-part 18 row) (given-yes (ruleIn row) (drop (i + 1) (policyIn s)) bs y)
+          rw (rule-left s counted i below is, k, e, tail-part pathAt row) (given-yes (ruleIn row) (drop (i + 1) (policyIn s)) bs y)
 
       pub rule-no : isFor u (ruleIn row) ≡ false → given (drop i (policyIn s)) bs ≡ given (drop (i + 1) (policyIn s)) bs
       rule-no n = rw (rule-left s counted i below is) (given-no (ruleIn row) (drop (i + 1) (policyIn s)) bs n)

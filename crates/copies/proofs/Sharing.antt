@@ -10,19 +10,20 @@ use lib.Seq.{take-suc, take-suc-set, take-all, getD-take, getD-drop}
 use Rattle.rows.proofs.Positions.{here}
 use Rattle.rows.proofs.Marks.{marking, marking-step}
 use Rattle.model.specs.Base.{Bytes, if_then_else_, _==_}
-use Rattle.model.specs.Limits.{maxFields}
+use Rattle.model.specs.Limits.{maxFields, maxDepth}
 use Rattle.model.specs.Fields.{Keys, Field, Fields}
 use Rattle.model.specs.Paths.{Steps}
 use Rattle.model.specs.Tables.{Binding}
 use Rattle.model.specs.Rights.{admits, matches}
 use Rattle.model.proofs.Lists.{by-cases, bytes-eq}
-use Rattle.paths.specs.Layout.{nameIn, pathIn}
-use Rattle.paths.proofs.Counted.{length-counted}
+use Rattle.paths.specs.Layout.{pathIn}
+use Rattle.layout.specs.Layout.{keyRow, nameIn, isEmpty}
+use Rattle.layout.proofs.Counts.{length-counted}
 use Rattle.matching.specs.Admitted.{admitted}
 use Rattle.matching.proofs.Admitted.{matches-few}
-use Rattle.record.specs.Slots.{fieldIn, isEmpty, fieldsIn}
-use Rattle.tables.proofs.Tabled.{length-decoded, row-left}
-use Rattle.writer.specs.Selected.{shared}
+use Rattle.record.specs.Slots.{slotBytes, fieldIn, fieldsIn}
+use Rattle.layout.proofs.Used.{length-table, row-left}
+use Rattle.paths.specs.Fields.{shared}
 use Rattle.copies.specs.Shares.{sharesFrom}
 
 -- ── Two paths ──
@@ -36,7 +37,7 @@ shared-within (k ∷ p) (l ∷ q) = by-cases (k == l) (λ e. rw e (omega (arith,
 -- a path in a slot has at most six
 pub shared-few : (p : Keys) (slot : Bytes) {n : ℕ} → n ≡ shared p (pathIn slot) → n ≤ 6
 unfolding pathIn
-shared-few p slot e = omega (arith, shared-within p (pathIn slot), length-counted nameIn 17 6 slot)
+shared-few p slot e = omega (arith, shared-within p (pathIn slot), length-counted nameIn keyRow maxDepth slot)
 
 module _ (bs : List Binding) where
   -- of no keys none is admitted
@@ -78,10 +79,10 @@ length-shares p (f ∷ fs) = ap suc (length-shares (f .path) fs)
 
 -- the field at a place of a table, and those behind it
 module _ (s : Bytes) (i : ℕ) where
-  pub field-left : {slot : Bytes} → i < length (fieldsIn s) → slot ≡ take 138 (drop (i * 138) s)
+  pub field-left : {slot : Bytes} → i < length (fieldsIn s) → slot ≡ take slotBytes (drop (i * slotBytes) s)
       → drop i (fieldsIn s) ≡ fieldIn slot ∷ drop (i + 1) (fieldsIn s)
   unfolding fieldsIn
-  field-left h e = row-left isEmpty fieldIn 138 maxFields s refl i (rw (length-decoded isEmpty fieldIn 138 maxFields s) at h) e
+  field-left h e = row-left fieldIn slotBytes maxFields s refl i (rw (length-table fieldIn slotBytes maxFields s) at h) e
 
 -- what is said of the fields behind f
 shares-behind : (i : ℕ) (p : Keys) (fs : Fields) (f : Field) (gs : Fields) → drop i fs ≡ f ∷ gs → drop (suc i) (sharesFrom p fs) ≡ sharesFrom (f .path) gs
@@ -142,7 +143,7 @@ module _ (p : Keys) (i n : ℕ) (fs : Fields) (bs : Bytes) (f : Field) (below : 
 
 -- ── The same loop over the fields of a table, where a policy path marks those that it matches ──
 module _ (s shares : Bytes) (n i : ℕ) (p : Keys) (below : i < n) (l : n ≡ length (fieldsIn s)) (h : Follows p i (fieldsIn s) (take n shares))
-    {slot : Bytes} (at : slot ≡ take 138 (drop (i * 138) s)) where
+    {slot : Bytes} (at : slot ≡ take slotBytes (drop (i * slotBytes) s)) where
   left : drop i (fieldsIn s) ≡ fieldIn slot ∷ drop (i + 1) (fieldsIn s)
   left = field-left s i (omega arith) at
 

@@ -2,7 +2,7 @@
 use mathlib.Core.List.{[], _∷_}
 use Rattle.model.specs.Base.{Bytes}
 use Rattle.model.specs.Fields.{Keys, Fields}
-use Rattle.writer.specs.Selected.{shared}
+use Rattle.paths.specs.Fields.{shared}
 
 -- for each field, how many first keys it shares with the one before; p is the path before the first
 unfoldable pub sharesFrom : Keys → Fields → Bytes

@@ -9,7 +9,7 @@ use native.Mathlib.Omega.{arith}
 use lib.Dec.{eqb}
 use lib.ListN.{length, getD, set, length-map}
 use lib.Seq.{sets-eq}
-use Rattle.rows.specs.Rows.{rows, upTo, written}
+use Rattle.rows.specs.Rows.{written}
 use Rattle.rows.proofs.Writing.{written-none, written-cons}
 use Rattle.model.specs.Base.{Bytes, keep, range}
 use Rattle.model.specs.Limits.{maxUsers}
@@ -18,9 +18,9 @@ use Rattle.model.specs.Tables.{Tables}
 use Rattle.model.specs.Opening.{LoginState, State, emptyLogin}
 use Rattle.model.specs.Serving.{sessionNumber, loginAt, readsAt, receivers, over}
 use Rattle.model.proofs.Lists.{by-cases, keep-yes, keep-no}
-use Rattle.steps.specs.Environments.{isEmptyRow}
-use Rattle.tables.specs.Memory.{userIn, usersIn, tablesIn}
-use Rattle.tables.proofs.Tabled.{length-decoded, counted-within}
+use Rattle.layout.specs.Layout.{inUse}
+use Rattle.tables.specs.Memory.{userRow, userIn, usersIn, tablesIn}
+use Rattle.layout.proofs.Used.{length-table, counted-fit}
 use Rattle.deliveries.specs.Receivers.{receives, receiversOf}
 
 -- the document's receivers look at the tables and the login states only
@@ -33,9 +33,9 @@ written-start : (xs l : List ℕ) → length xs ≤ length l → written 0 xs l 
 unfolding written over
 written-start xs l h = sets-eq xs l 0 (rw zero-add h) ∙ rw zero-add
 
--- m users were counted: at most 32
-pub users-fit : (s : Bytes) {m : ℕ} → m ≡ length (upTo isEmptyRow (rows 597 maxUsers s)) → m ≤ 32
-users-fit s counted = counted-within isEmptyRow userIn 597 maxUsers s counted
+-- m users were counted
+pub users-fit : (s : Bytes) {m : ℕ} → m ≡ length (inUse userRow maxUsers s) → m ≤ maxUsers
+users-fit s counted = counted-fit userRow maxUsers s counted
 
 module _ (t : Tables) (ls : List LoginState) (i : ℕ) (p : Keys) where
   -- the test for the user at j, whose login state is a, and m says whether it may read the path
@@ -82,20 +82,20 @@ module _ (t : Tables) (ls : List LoginState) (i : ℕ) (p : Keys) where
         (sym (written-none k l) ∙ now .1 ∙ written-start (receiversFrom n 0) l₀ (omega arith), full)
 
 -- the loop over the users that were counted goes over all of them
-pub receivers-from : (s : Bytes) (ls : List LoginState) (i : ℕ) (p : Keys) {m : ℕ} → m ≡ length (upTo isEmptyRow (rows 597 maxUsers s))
+pub receivers-from : (s : Bytes) (ls : List LoginState) (i : ℕ) (p : Keys) {m : ℕ} → m ≡ length (inUse userRow maxUsers s)
     → receiversFrom (tablesIn s) ls i p m 0 ≡ receiversOf (tablesIn s) ls i p
 unfolding receiversOf tablesIn usersIn
-receivers-from s ls i p counted = rw (sub-zero, counted, length-decoded isEmptyRow userIn 597 maxUsers s)
+receivers-from s ls i p counted = rw (sub-zero, counted, length-table userIn userRow maxUsers s)
 
--- ── For a caller: there are at most 32 receivers ──
+-- ── For a caller: there are at most as many receivers as users ──
 length-kept : (f : ℕ → Bool) (i n : ℕ) → length (keep f (range i n)) ≤ n
 unfolding range keep
 length-kept f i zero = omega arith
 length-kept f i (suc n) =
     by-cases (f i) (λ e. rw e (omega (arith, length-kept f (suc i) n))) (λ e. rw e (omega (arith, length-kept f (suc i) n)))
 
-pub receivers-few : (s : Bytes) (ls : List LoginState) (i : ℕ) (p : Keys) → length (receiversOf (tablesIn s) ls i p) ≤ 32
+pub receivers-few : (s : Bytes) (ls : List LoginState) (i : ℕ) (p : Keys) → length (receiversOf (tablesIn s) ls i p) ≤ maxUsers
 unfolding receiversOf tablesIn usersIn
 receivers-few s ls i p =
-    let n = length-decoded isEmptyRow userIn 597 maxUsers s in
-    rw (length-map, n) (omega (arith, length-kept (receives (tablesIn s) ls i p) 0 (length (upTo isEmptyRow (rows 597 maxUsers s))), users-fit s refl))
+    let n = length-table userIn userRow maxUsers s in
+    rw (length-map, n) (omega (arith, length-kept (receives (tablesIn s) ls i p) 0 (length (inUse userRow maxUsers s)), users-fit s refl))

@@ -1,27 +1,25 @@
 // Whom a push reaches, and the lines that are sent.
+use buffers::put;
+use buffers::put_byte;
+use buffers::put_decimal;
+use layout::table::row_count;
+use paths::field::PATH;
+use sessions::LOGINS;
 use sessions::LoginState;
 use sessions::number;
 use sessions::state_at;
-use tables::layout::USER;
-use tables::layout::USERS;
-use tables::layout::row_count;
+use tables::memory::TABLES;
+use tables::memory::USER;
+use tables::memory::USERS;
 use tables::rights::readers;
-use values::write::put;
-use values::write::put_byte;
-use values::write::put_decimal;
 ghost use mathlib.Core.Path.{_≡_};
 ghost use mathlib.Core.Bool.{not, _&&_};
-ghost use mathlib.Core.List.{map};
 ghost use Prim.Native.Nat.{_+_, _≤_, _<_, _^_};
 ghost use lib.Dec.{eqb};
-ghost use lib.ListN.{length, take};
+ghost use lib.ListN.{length};
 ghost use Rattle.rows.specs.Rows.{Wrote};
-ghost use Rattle.model.specs.Base.{joined};
-ghost use Rattle.model.specs.Serving.{over};
-ghost use Rattle.paths.specs.Layout.{pathIn};
-ghost use Rattle.sessions.specs.Logins.{loginsIn};
-ghost use Rattle.tables.specs.Memory.{tablesIn};
-ghost use Rattle.deliveries.specs.Receivers.{receiversOf, deliveryOf};
+ghost use Rattle.model.specs.Limits.{maxUsers, maxLine};
+ghost use Rattle.deliveries.specs.Receivers.{Reached, deliveryText, deliveryOf, deliveriesText, deliveriesOf};
 
 // Whether a push by the user at i reaches the one at j, who has this login state and may read the path or not.
 fn receives(i: usize, j: usize, state: LoginState, reads: bool) -> bool
@@ -39,14 +37,14 @@ fn receives(i: usize, j: usize, state: LoginState, reads: bool) -> bool
 // The session numbers that a push by the user at i reaches, ascending, at the start of the list; how many they are.
 pub fn put_receivers(
     list: &mut [u32],
-    tables: &[u8],
-    logins: &[u16],
+    tables: &[u8; TABLES],
+    logins: &[u16; LOGINS],
     i: usize,
-    path: &[u8],
+    path: &[u8; PATH],
 ) -> usize
-    requires { ⌜ (32 ≤ length (now list)) × (length (now tables) ≡ 47200) × (length (now logins) ≡ 96) × (103 ≤ length (now path)) ⌝ }
-    ensures { λ r. ⌜ now (list .exit) ≡ over (receiversOf (tablesIn (now (tables .entry))) (loginsIn (now (logins .entry))) i (pathIn (now (path .entry)))) (now (list .entry)) ⌝ }
-    ensures { λ r. ⌜ r ≡ length (receiversOf (tablesIn (now (tables .entry))) (loginsIn (now (logins .entry))) i (pathIn (now (path .entry)))) ⌝ }
+    requires { ⌜ maxUsers ≤ length (now list) ⌝ }
+    ensures { λ r. ⌜ Reached (now (tables .entry)) (now (logins .entry))
+        i (now (path .entry)) (now (list .entry)) r (now (list .exit)) ⌝ }
 {
     let n = row_count(tables, USER, USERS);
     let marks = readers(tables, path);
@@ -65,9 +63,9 @@ pub fn put_receivers(
 
 // `TO;session;` and what was pushed: the path and the value as they stood in the line.
 fn put_delivery(out: &mut [u8], at: usize, n: u32, pushed: &[u8]) -> usize
-    requires { ⌜ (length (now pushed) ≤ 256) × (at + 300 < 2 ^ 64) ⌝ }
+    requires { ⌜ (length (now pushed) ≤ maxLine) × (at + deliveryText < 2 ^ 64) ⌝ }
     ensures { λ r. ⌜ Wrote at (deliveryOf (now (pushed .entry)) n) (now (out .entry)) r (now (out .exit)) ⌝ }
-    ensures { λ r. ⌜ r ≤ at + 300 ⌝ }
+    ensures { λ r. ⌜ r ≤ at + deliveryText ⌝ }
 {
     let mut to = put(out, at, b"TO;");
     to = put_decimal(out, to, n as usize);
@@ -78,9 +76,11 @@ fn put_delivery(out: &mut [u8], at: usize, n: u32, pushed: &[u8]) -> usize
 
 // A line for each of the first `told` numbers of the list.
 pub fn put_deliveries(out: &mut [u8], at: usize, list: &[u32], told: usize, pushed: &[u8]) -> usize
-    requires { ⌜ (told ≤ length (now list)) × (told ≤ 32) × (length (now pushed) ≤ 256) × (at + 10000 < 2 ^ 64) ⌝ }
-    ensures { λ r. ⌜ Wrote at (joined (map (deliveryOf (now (pushed .entry))) (take told (now (list .entry))))) (now (out .entry)) r (now (out .exit)) ⌝ }
-    ensures { λ r. ⌜ r ≤ at + 9600 ⌝ }
+    requires { ⌜ (told ≤ length (now list)) × (told ≤ maxUsers)
+        × (length (now pushed) ≤ maxLine) × (at + deliveriesText < 2 ^ 64) ⌝ }
+    ensures { λ r. ⌜ Wrote at (deliveriesOf (now (pushed .entry)) (now (list .entry)) told)
+        (now (out .entry)) r (now (out .exit)) ⌝ }
+    ensures { λ r. ⌜ r ≤ at + deliveriesText ⌝ }
 {
     let mut to = at;
     let mut k: usize = 0;

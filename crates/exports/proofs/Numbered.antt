@@ -48,7 +48,7 @@ unfolding faultNumber faultText faultLine
 refused-as (refused f) n t l e = (cc, cc, cc)
 refused-as (done s) n t l e = let z : _≡_ {A = ℕ} 0 1 = cc in absurd (omega arith)
 
-pub kept-unless : (n : ℕ) (before now : List ℕ) → now ≡ before → KeptUnless0 n before now
+pub kept-unless : {A : Type 0} (n : ℕ) (before now : A) → now ≡ before → KeptUnless0 n before now
 unfolding KeptUnless0
 kept-unless zero before now h = tt
 kept-unless (suc n) before now h = h

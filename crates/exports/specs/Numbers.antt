@@ -1,12 +1,13 @@
 -- What is answered, as numbers.
 use Prim.Native.Nat.{ℕ, zero, suc}
 use mathlib.Core.Path.{_≡_}
-use mathlib.Core.List.{List}
+use mathlib.Core.List.{List, []}
 use lib.Dec.{eqb}
 use Rattle.model.specs.Base.{Bytes, if_then_else_}
 use Rattle.model.specs.Refusals.{Result, refused, done}
-use Rattle.model.specs.Opening.{State, Fault}
-use Rattle.model.specs.Serving.{Answer, refusal, session, length-is, accepted, Outcome}
+use Rattle.model.specs.Opening.{State, Texts, Fault, opened, afterOpening}
+use Rattle.model.specs.Serving.{Answer, refusal, session, length-is, accepted, Act, save, Outcome, outcome}
+use Rattle.opening.specs.Memory.{Arrays, stateIn, stateOf}
 use Rattle.server.specs.declared.answer.Reply.{Reply}
 use Rattle.server.specs.declared.answer.Reply.the-variants.{Refused, Session, Length, Pushed}
 
@@ -49,7 +50,7 @@ unfoldable pub outcomeAs : ℕ → ℕ → State → Bytes → List ℕ → Outc
 outcomeAs k n s b l = record { answer = answerAs k n; state = s; buffer = b; list = l; told = toldAs k n }
 
 -- a refused opening keeps what was lent, number by number
-unfoldable pub KeptUnless0 : ℕ → List ℕ → List ℕ → Type 0
+unfoldable pub KeptUnless0 : {A : Type 0} → ℕ → A → A → Type 0
 KeptUnless0 zero before now = Unit {0}
 KeptUnless0 (suc e) before now = now ≡ before
 
@@ -66,3 +67,23 @@ FieldsKeptAs zero before now = now ≡ before
 FieldsKeptAs (suc zero) before now = now ≡ before
 FieldsKeptAs (suc (suc zero)) before now = now ≡ before
 FieldsKeptAs (suc (suc (suc k))) before now = Unit {0}
+
+-- ── What each function promises ──
+-- four texts opened: 0 or the number of the refusal, its text and its line, and what the arrays are afterwards
+pub record OpensAs (before : Arrays) (texts : Texts) (r inText inLine : ℕ) (after : Arrays) : Type 0 where
+  pub number : r ≡ faultNumber (opened texts)
+  pub source : inText ≡ faultText (opened texts)
+  pub line : inLine ≡ faultLine (opened texts)
+  pub state : stateOf after ≡ afterOpening (stateOf before) texts
+  pub kept : KeptUnless0 r before after
+
+-- an act served: the answer by its kind and number, and what the arrays, the buffer and the list are afterwards
+pub record ServesAs (before : Arrays) (act : Act) (kind r : ℕ) (after : Arrays) (buffer : Bytes) (list : List ℕ) : Type 0 where
+  pub outcome-is : outcomeAs kind r (stateOf after) buffer list ≡ outcome (stateOf before) act
+  pub logins-kept : LoginsKeptAs kind (before .logins) (after .logins)
+  pub fields-kept : FieldsKeptAs kind (before .fields) (after .fields)
+
+-- fields saved, whatever the tables and the login states are
+abbrev pub SavesAs : Bytes → Bytes → ℕ → ℕ → Bytes → Type 0
+SavesAs fields before kind r after = (tables : Bytes) (logins : List ℕ)
+    → outcomeAs kind r (stateIn tables logins fields) after [] ≡ outcome (stateIn tables logins fields) (save before)

@@ -1,4 +1,5 @@
 // The three operations for callers in C and Rust. Slices go as a pointer and a length, arrays as a pointer.
+use copies::COPY;
 use opening::answer::Opening;
 use server::answer::Reply;
 use server::open::LOGINS;
@@ -7,15 +8,53 @@ use server::open::TABLES;
 use server::open::open;
 use server::request::request;
 use server::save::save;
+use tables::memory::USERS;
 ghost use mathlib.Core.Path.{_≡_};
-ghost use mathlib.Core.List.{List, []};
-ghost use Prim.Native.Nat.{ℕ};
-ghost use Rattle.model.specs.Base.{Bytes};
-ghost use Rattle.model.specs.Opening.{opened, afterOpening};
+ghost use Rattle.model.specs.Limits.{maxCopy, maxUsers};
 ghost use Rattle.model.specs.Serving as serving;
 ghost use Rattle.opening.specs.Answers.{textsOf};
-ghost use Rattle.opening.specs.Memory.{stateIn};
-ghost use Rattle.exports.specs.Numbers.{faultNumber, faultText, faultLine, kindOf, numberOf, outcomeAs, KeptUnless0, LoginsKeptAs, FieldsKeptAs};
+ghost use Rattle.opening.specs.Memory.{arrays};
+ghost use Rattle.record.specs.Slots.{recordBytes};
+ghost use Rattle.sessions.specs.Logins.{loginNumbers};
+ghost use Rattle.tables.specs.Memory.{tablesBytes};
+ghost use Rattle.exports.specs.Numbers.{kindOf, numberOf, OpensAs, ServesAs, SavesAs};
+
+// How large the arrays are that a caller lends: bytes of the tables, numbers of the login states, bytes of the fields.
+#[no_mangle]
+pub extern "C" fn jesovanga_tables() -> usize
+    ensures { λ r. ⌜ r ≡ tablesBytes ⌝ }
+{
+    TABLES
+}
+
+#[no_mangle]
+pub extern "C" fn jesovanga_logins() -> usize
+    ensures { λ r. ⌜ r ≡ loginNumbers ⌝ }
+{
+    LOGINS
+}
+
+#[no_mangle]
+pub extern "C" fn jesovanga_record() -> usize
+    ensures { λ r. ⌜ r ≡ recordBytes ⌝ }
+{
+    RECORD
+}
+
+// How long a buffer and a list are that are always long enough.
+#[no_mangle]
+pub extern "C" fn jesovanga_copy() -> usize
+    ensures { λ r. ⌜ r ≡ maxCopy ⌝ }
+{
+    COPY
+}
+
+#[no_mangle]
+pub extern "C" fn jesovanga_list() -> usize
+    ensures { λ r. ⌜ r ≡ maxUsers ⌝ }
+{
+    USERS
+}
 
 fn kind_of(reply: Reply) -> u32
     ensures { λ r. ⌜ r ≡ kindOf reply ⌝ }
@@ -52,11 +91,11 @@ pub extern "C" fn jesovanga_open(
     source: &mut usize,
     line: &mut usize,
 ) -> usize
-    ensures { λ r. ⌜ r ≡ faultNumber (opened (textsOf (now (users .entry)) (now (environments .entry)) (now (policy .entry)) (now (text .entry)))) ⌝ }
-    ensures { λ _. ⌜ now (source .exit) ≡ faultText (opened (textsOf (now (users .entry)) (now (environments .entry)) (now (policy .entry)) (now (text .entry)))) ⌝ }
-    ensures { λ _. ⌜ now (line .exit) ≡ faultLine (opened (textsOf (now (users .entry)) (now (environments .entry)) (now (policy .entry)) (now (text .entry)))) ⌝ }
-    ensures { λ _. ⌜ stateIn (now (tables .exit)) (now (logins .exit)) (now (fields .exit)) ≡ afterOpening (stateIn (now (tables .entry)) (now (logins .entry)) (now (fields .entry))) (textsOf (now (users .entry)) (now (environments .entry)) (now (policy .entry)) (now (text .entry))) ⌝ }
-    ensures { λ r. ⌜ KeptUnless0 r (now (tables .entry)) (now (tables .exit)) × KeptUnless0 r (now (logins .entry)) (now (logins .exit)) × KeptUnless0 r (now (fields .entry)) (now (fields .exit)) ⌝ }
+    ensures { λ r. ⌜ OpensAs
+        (arrays (now (tables .entry)) (now (logins .entry)) (now (fields .entry)))
+        (textsOf (now (users .entry)) (now (environments .entry)) (now (policy .entry)) (now (text .entry)))
+        r (now (source .exit)) (now (line .exit))
+        (arrays (now (tables .exit)) (now (logins .exit)) (now (fields .exit))) ⌝ }
 {
     match open(tables, logins, fields, users, environments, policy, text) {
         Opening::Done => {
@@ -83,8 +122,12 @@ pub extern "C" fn jesovanga_request(
     list: &mut [u32],
     kind: &mut u32,
 ) -> usize
-    ensures { λ r. ⌜ outcomeAs (now (kind .exit)) r (stateIn (now (tables .entry)) (now (logins .exit)) (now (fields .exit))) (now (buffer .exit)) (now (list .exit)) ≡ serving.outcome (stateIn (now (tables .entry)) (now (logins .entry)) (now (fields .entry))) (serving.line (now (line .entry)) (now (buffer .entry)) (now (list .entry))) ⌝ }
-    ensures { λ _. ⌜ LoginsKeptAs (now (kind .exit)) (now (logins .entry)) (now (logins .exit)) × FieldsKeptAs (now (kind .exit)) (now (fields .entry)) (now (fields .exit)) ⌝ }
+    ensures { λ r. ⌜ ServesAs
+        (arrays (now (tables .entry)) (now (logins .entry)) (now (fields .entry)))
+        (serving.line (now (line .entry)) (now (buffer .entry)) (now (list .entry)))
+        (now (kind .exit)) r
+        (arrays (now (tables .entry)) (now (logins .exit)) (now (fields .exit)))
+        (now (buffer .exit)) (now (list .exit)) ⌝ }
 {
     let reply = request(tables, logins, fields, line, buffer, list);
     *kind = kind_of(reply);
@@ -94,7 +137,7 @@ pub extern "C" fn jesovanga_request(
 // A save, answered in the same way.
 #[no_mangle]
 pub extern "C" fn jesovanga_save(fields: &[u8; RECORD], buffer: &mut [u8], kind: &mut u32) -> usize
-    ensures { λ r. ⌜ ((tables : Bytes) (logins : List ℕ) → outcomeAs (now (kind .exit)) r (stateIn tables logins (now (fields .entry))) (now (buffer .exit)) [] ≡ serving.outcome (stateIn tables logins (now (fields .entry))) (serving.save (now (buffer .entry)))) ⌝ }
+    ensures { λ r. ⌜ SavesAs (now (fields .entry)) (now (buffer .entry)) (now (kind .exit)) r (now (buffer .exit)) ⌝ }
 {
     let reply = save(fields, buffer);
     *kind = kind_of(reply);

@@ -1,4 +1,4 @@
-// Runs a table of inputs through the public functions of `lexical`, `values`, `paths`, `steps` and `matching`, and prints what came out.
+// Runs a table of inputs through the public functions of `lexical`, `buffers`, `layout`, `values`, `paths`, `steps` and `matching`, and prints what came out.
 mod scalars;
 mod show;
 mod slots;

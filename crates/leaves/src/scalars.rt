@@ -1,7 +1,10 @@
-// The functions of `lexical`.
+// The functions of `lexical`, `values` and `buffers`.
 use crate::show;
 use crate::table::Shown;
 use crate::table::each;
+use buffers::put;
+use buffers::put_byte;
+use buffers::put_decimal;
 use lexical::class::Class;
 use lexical::class::between;
 use lexical::class::is_blank;
@@ -15,6 +18,7 @@ use lexical::class::is_plain_byte;
 use lexical::class::is_text_byte;
 use lexical::class::passes;
 use lexical::class::run;
+use lexical::limits::MAX_KEY;
 use lexical::number::Natural;
 use lexical::number::number;
 use lexical::slice::compare;
@@ -23,10 +27,12 @@ use lexical::slice::starts;
 use values::value::ValueAt;
 use values::value::put_value;
 use values::value::value_at;
-use values::write::put;
-use values::write::put_byte;
-use values::write::put_decimal;
-use values::write::put_whole;
+use values::whole::put_whole;
+
+// The buffer that is written into, and the longest text of a value that is read.
+const OUT: usize = 12;
+
+const LONGEST: usize = 64;
 
 fn class_of(b: u8) {
     let one = [b];
@@ -51,7 +57,7 @@ pub fn names(s: &[u8]) {
     show::asked(b"run of digits", s);
     show::count(run(s, 0, Class::Digit) as u64);
     show::asked(b"between", s);
-    show::end(between(s, 0, b'\'', Class::Name, 1, 16));
+    show::end(between(s, 0, b'\'', Class::Name, 1, MAX_KEY));
 }
 
 pub fn numbers(s: &[u8]) {
@@ -77,9 +83,9 @@ fn pair(a: &[u8], b: &[u8]) {
     show::flag(starts(a, 0, b));
 }
 
-// A value that is read, and written into a buffer of 12 bytes.
+// A value that is read, and written into a buffer that may be too short for it.
 pub fn value(s: &[u8]) {
-    if 64 < s.len() {
+    if LONGEST < s.len() {
         return;
     }
     show::asked(b"value_at", s);
@@ -88,20 +94,20 @@ pub fn value(s: &[u8]) {
         return;
     };
     show::count(to as u64);
-    let mut out = [b'.'; 12];
+    let mut out = [b'.'; OUT];
     let n = put_value(&mut out, 0, v, s);
     show::asked(b"put_value", s);
     show::buffer(&out, n);
 }
 
 fn decimal(n: u32) {
-    let mut out = [b'.'; 12];
+    let mut out = [b'.'; OUT];
     let a = put_decimal(&mut out, 0, n as usize);
     show::buffer(&out, a);
 }
 
 fn writers(z: i32) {
-    let mut out = [b'.'; 12];
+    let mut out = [b'.'; OUT];
     let b = put_whole(&mut out, 1, z);
     show::buffer(&out, b);
     let c = put_byte(&mut out, 11, b'!');

@@ -1,32 +1,48 @@
-// The functions of `paths` and `steps`.
+// The functions of `layout`, `paths`, `steps` and `matching`.
 use crate::show;
 use crate::table::Shown;
 use crate::table::each;
+use buffers::put;
+use layout::counted::count;
+use layout::counted::row_at;
+use layout::name::KEY_ROW;
+use layout::name::NAME_ROW;
+use layout::name::name;
+use layout::name::name_from;
+use layout::name::put_name;
+use lexical::limits::MAX_DEPTH;
+use lexical::limits::MAX_LISTED;
 use matching::conflict::conflict;
 use matching::conflict::steps_of;
 use matching::path::admits;
 use matching::path::has_name;
 use matching::path::matches;
+use paths::field::PATH;
 use paths::field::compare_paths;
-use paths::field::push_key;
 use paths::field::put_path;
 use paths::field::read_path;
-use paths::layout::count;
-use paths::layout::name;
-use paths::layout::name_at;
-use paths::layout::name_from;
-use paths::layout::push_name;
-use paths::layout::put_name;
+use paths::key::key_at;
+use paths::key::push_key;
+use steps::policy::STEP;
+use steps::policy::STEPS;
 use steps::policy::kind_of;
 use steps::policy::push_step;
 use steps::policy::put_steps;
 use steps::policy::read_steps;
-use steps::policy::row;
+use steps::step::BINDING;
+use steps::step::ENVIRONMENT;
 use steps::step::Kind;
+use steps::step::NAMES;
 use steps::step::Operator;
 use steps::step::Step;
 use steps::step::one_name;
 use steps::step::step_at;
+
+// What is shown of a text.
+const OUT: usize = 40;
+
+// Where the second of two environment lines has its value.
+const SECOND_VALUE: usize = BINDING + NAME_ROW;
 
 fn kind(k: Kind) {
     match k {
@@ -39,24 +55,24 @@ fn kind(k: Kind) {
     }
 }
 
-// A name in a row, which has room for 16 bytes of it.
+// A name in a row, which has no room for its last byte.
 fn name_in_row() {
-    let mut row = [0u8; 17];
+    let mut row = [0u8; NAME_ROW];
     put_name(&mut row, b"seventeen bytes..");
     show::line(name(&row));
 }
 
-fn two_names() -> [u8; 69] {
-    let mut slot = [0u8; 69];
-    push_name(&mut slot, b"ann", 4);
-    push_name(&mut slot, b"bob", 4);
+fn two_names() -> [u8; NAMES] {
+    let mut slot = [0u8; NAMES];
+    push_key(&mut slot, b"ann", MAX_LISTED);
+    push_key(&mut slot, b"bob", MAX_LISTED);
     slot
 }
 
-fn names_in_slot(slot: &[u8; 69]) {
-    show::count(count(slot, 4) as u64);
-    show::line(name_at(slot, 1));
-    show::line(name_from(slot, 1));
+fn names_in_slot(slot: &[u8; NAMES]) {
+    show::count(count(slot, MAX_LISTED) as u64);
+    show::line(key_at(slot, 1));
+    show::line(name_from(slot, 1, KEY_ROW));
     show::flag(has_name(slot, b"bob"));
     show::flag(has_name(slot, b"bo"));
 }
@@ -78,12 +94,12 @@ fn kinds() {
 }
 
 // A path with one key more.
-fn longer(slot: &mut [u8; 103]) {
-    push_key(slot, b"more");
+fn longer(slot: &mut [u8; PATH]) {
+    push_key(slot, b"more", MAX_DEPTH);
 }
 
-fn path_text(slot: &[u8; 103]) {
-    let mut out = [b'.'; 40];
+fn path_text(slot: &[u8; PATH]) {
+    let mut out = [b'.'; OUT];
     let to = put_path(&mut out, 0, slot);
     show::buffer(&out, to);
 }
@@ -101,11 +117,11 @@ pub fn path(s: &[u8]) {
     path_text(&slot);
 }
 
-fn steps_text(slot: &[u8; 421]) {
-    let mut out = [b'.'; 40];
+fn steps_text(slot: &[u8; STEPS]) {
+    let mut out = [b'.'; OUT];
     let to = put_steps(&mut out, 0, slot);
     show::buffer(&out, to);
-    show::count(count(slot, 6) as u64);
+    show::count(count(slot, MAX_DEPTH) as u64);
 }
 
 pub fn policy(s: &[u8]) {
@@ -120,7 +136,7 @@ pub fn policy(s: &[u8]) {
 }
 
 fn step_alone(found: Step) {
-    let mut slot = [0u8; 421];
+    let mut slot = [0u8; STEPS];
     push_step(&mut slot, found);
     steps_text(&slot);
 }
@@ -137,7 +153,7 @@ pub fn step(s: &[u8]) {
     step_alone(found);
 }
 
-fn order(a: &[u8; 103], b: &[u8; 103]) {
+fn order(a: &[u8; PATH], b: &[u8; PATH]) {
     show::order(compare_paths(a, b));
 }
 
@@ -148,25 +164,19 @@ fn order_of(a: &[u8], b: &[u8]) {
     order(&x, &y);
 }
 
-// A user's two lines: n 29 and n 30.
-fn two_lines() -> [u8; 544] {
-    let mut lines = [0u8; 544];
-    lines[0] = 1;
-    lines[1] = b'n';
-    lines[17] = 2;
-    lines[18] = b'2';
-    lines[19] = b'9';
-    lines[34] = 1;
-    lines[35] = b'n';
-    lines[51] = 2;
-    lines[52] = b'3';
-    lines[53] = b'0';
+// A user's two lines, n 29 and n 30: before each name and value stands how long it is.
+fn two_lines() -> [u8; ENVIRONMENT] {
+    let mut lines = [0u8; ENVIRONMENT];
+    put(&mut lines, 0, b"\x01n");
+    put(&mut lines, NAME_ROW, b"\x0229");
+    put(&mut lines, BINDING, b"\x01n");
+    put(&mut lines, SECOND_VALUE, b"\x0230");
     lines
 }
 
-fn matched(lines: &[u8; 544], steps: &[u8; 421], slot: &[u8; 103]) {
+fn matched(lines: &[u8; ENVIRONMENT], steps: &[u8; STEPS], slot: &[u8; PATH]) {
     show::flag(matches(lines, steps, slot));
-    show::flag(admits(lines, row(steps, 0), name_at(slot, 0)));
+    show::flag(admits(lines, row_at(steps, STEP, 0), key_at(slot, 0)));
 }
 
 fn match_of(p: &[u8], k: &[u8]) {
@@ -177,11 +187,11 @@ fn match_of(p: &[u8], k: &[u8]) {
     matched(&lines, &steps, &slot);
 }
 
-fn conflicts(a: &[u8; 421], b: &[u8; 421]) {
+fn conflicts(a: &[u8; STEPS], b: &[u8; STEPS]) {
     show::flag(conflict(a, b));
 }
 
-fn conflicts_with_field(a: &[u8; 421], slot: &[u8; 103]) {
+fn conflicts_with_field(a: &[u8; STEPS], slot: &[u8; PATH]) {
     let steps = steps_of(slot);
     conflicts(a, &steps);
 }

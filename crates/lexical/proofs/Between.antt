@@ -23,6 +23,7 @@ use Rattle.lexical.specs.declared.class.End.the-variants.{At, Bad}
 use Rattle.lexical.specs.Classes.{inClass, scanEnd, readBetween, textAnswer}
 use Rattle.lexical.proofs.Runs.{span-at, byte-stands, rest-of, bind-same, bind-bind, check-bind, check-none}
 use Rattle.lexical.proofs.Slices.{after-no}
+use Rattle.model.specs.Limits.{maxKey}
 
 -- ── Bytes of a class: what the function `scan` answers ──
 module _ (class : Class) (least most : ℕ) (s : Bytes) (at : ℕ) where
@@ -146,11 +147,11 @@ module _ (class : Class) (quote least most : ℕ) where
 
 -- ── The model's own readers ──
 -- what was scanned is a key by its length alone
-key-scanned : (s : Bytes) → isKey (span nameByte s .0) ≡ within 1 16 (length (span nameByte s .0))
+key-scanned : (s : Bytes) → isKey (span nameByte s .0) ≡ within 1 maxKey (length (span nameByte s .0))
 unfolding isKey isNameOf
 key-scanned s = rw (span-passes nameByte s) (and-true _)
 
-pub quoted-between : (quote : ℕ) (s : Bytes) → readQuoted (quote ∷ []) s ≡ readBetween Name quote 1 16 s
+pub quoted-between : (quote : ℕ) (s : Bytes) → readQuoted (quote ∷ []) s ≡ readBetween Name quote 1 maxKey s
 unfolding readQuoted readBetween
 quoted-between quote s = bind-same (after (quote ∷ []) s) _ _ (λ s₁. rw (key-scanned s₁))
 

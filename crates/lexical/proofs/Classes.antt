@@ -3,7 +3,7 @@ use Prim.Native.Nat.{ℕ, suc, _-_, _≤_}
 use mathlib.Core.Path.{_≡_, sym, _∙_}
 use mathlib.Core.Bool.{Bool, true, false, not, _&&_}
 use mathlib.Core.List.{List, [], _∷_}
-use mathlib.Core.Logic.{inl, inr}
+use mathlib.Core.Logic.{inl, inr, ⊎-elim}
 use native.Mathlib.Omega.{arith}
 use mir.Val.{hasKey}
 use types.Run.{OneOf, hit}
@@ -36,3 +36,8 @@ clear p v ks lo hi t b l h f = by-cases (hasKey ks b)
     (λ e. by-cases (differs p v b)
     (λ d. never (sym (any-range _ lo (suc hi - lo) b l (omega arith) (rw (e, d))) ∙ t))
     (λ d. agrees p v b d))
+
+-- the numbers of four arms of one number each, all left out
+pub apart : {i j k l b : ℕ} → (((Unit {0} × (OneOf (i ∷ []) b → ⊥)) × (OneOf (j ∷ []) b → ⊥)) × (OneOf (k ∷ []) b → ⊥)) × (OneOf (l ∷ []) b → ⊥)
+    → OneOf (i ∷ j ∷ k ∷ l ∷ []) b → ⊥
+apart f = ⊎-elim (f .0 .0 .0 .1) (⊎-elim (f .0 .0 .1) (⊎-elim (f .0 .1) (f .1)))

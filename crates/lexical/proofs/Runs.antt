@@ -14,6 +14,7 @@ use Rattle.rows.specs.Positions.{run, runEnd}
 use Rattle.rows.proofs.Positions.{here, over, run-part, run-rest}
 use Rattle.model.specs.Base.{Bytes, all, isSome, _>>=_, _>>_, check, after, span, inFront, within}
 use Rattle.model.proofs.Lists.{by-cases, never}
+use Rattle.lexical.specs.Classes.{isNot}
 
 -- ── Numbers outside of two bounds ──
 pub within-below : (a b x : ℕ) → x < a → within a b x ≡ false
@@ -23,6 +24,15 @@ within-below a b x h = rw (lt-leb a x h)
 pub within-above : (a b x : ℕ) → b < x → within a b x ≡ false
 unfolding within
 within-above a b x h = rw (lt-leb x b h) (by-cases (leb a x) (λ e. rw e) (λ e. rw e))
+
+-- ── A byte that is told apart ──
+pub is-it : (b x : ℕ) → x ≡ b → isNot b x ≡ false
+unfolding isNot
+is-it b x h = rw (eq-eqb x b h)
+
+pub is-other : (b x : ℕ) → (x ≡ b → ⊥) → isNot b x ≡ true
+unfolding isNot
+is-other b x h = rw (ne-eqb x b h)
 
 -- ── Scanning ──
 module _ (p : ℕ → Bool) where

@@ -2,7 +2,8 @@
 use Prim.Native.Nat.{ℕ, _+_, _-_}
 use mathlib.Core.Option.{Option, none, some}
 use mathlib.Core.List.{[], _∷_}
-use mathlib.Core.Bool.{Bool}
+use mathlib.Core.Bool.{Bool, not}
+use lib.Dec.{eqb}
 use lib.ListN.{length, take, drop}
 use Rattle.rows.specs.Positions.{runEnd}
 use Rattle.model.specs.Base.{Bytes, if_then_else_, _>>=_, _>>_, check, after, span, within, isDigit}
@@ -22,6 +23,10 @@ inClass Text = stringByte
 inClass Digit = isDigit
 inClass Identifier = identifierByte
 inClass Blank = isBlank
+
+-- bytes other than b
+unfoldable pub isNot : ℕ → ℕ → Bool
+isNot b x = not (eqb x b)
 
 -- from `least` to `most` bytes of a class, from `at` on: where they end
 unfoldable pub scanEnd : Class → ℕ → ℕ → Bytes → ℕ → End

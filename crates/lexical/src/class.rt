@@ -1,4 +1,6 @@
 // Byte classes, how far bytes of a class run, and names.
+use crate::limits::MAX_KEY;
+use crate::limits::MAX_NAME;
 use crate::slice::is_at;
 ghost use mathlib.Core.Path.{_≡_};
 ghost use Prim.Native.Nat.{_≤_};
@@ -10,11 +12,6 @@ ghost use Rattle.model.specs.Values.{stringByte};
 ghost use Rattle.model.specs.Paths.{identifierByte};
 ghost use Rattle.model.specs.RecordText.{isBlank};
 ghost use Rattle.lexical.specs.Classes.{inClass, scanEnd, readBetween, textAnswer};
-
-// The longest name of a user, a role, a login key or an environment line; the longest key of a record or a policy path.
-pub const MAX_NAME: usize = 16;
-
-pub const MAX_KEY: usize = 16;
 
 pub enum Class {
     Name,

@@ -1,7 +1,8 @@
-// Decimal numbers, and the smaller of two numbers.
+// Decimal numbers.
 use crate::class::is_digit;
 ghost use mathlib.Core.Path.{_≡_};
-ghost use Prim.Native.Nat.{_≤_, min};
+ghost use Prim.Native.Nat.{_≤_};
+ghost use Rattle.model.specs.Limits.{maxSession};
 ghost use Rattle.model.specs.Base.{number};
 ghost use Rattle.lexical.specs.Numbers.{numberAnswer};
 
@@ -12,7 +13,7 @@ pub enum Natural {
 
 // A whole text that is a number of at most `most`, with no leading zero but in `0` itself.
 pub fn number(s: &[u8], most: u64) -> Natural
-    requires { ⌜ most ≤ 4294967295 ⌝ }
+    requires { ⌜ most ≤ maxSession ⌝ }
     ensures { λ r. ⌜ numberAnswer r ≡ number most (now (s .entry)) ⌝ }
 {
     if s.len() == 0 {
@@ -38,14 +39,4 @@ pub fn number(s: &[u8], most: u64) -> Natural
         i += 1;
     }
     Natural::Is(n)
-}
-
-// The smaller of two numbers.
-pub fn least(a: usize, b: usize) -> usize
-    ensures { λ r. ⌜ r ≡ min a b ⌝ }
-{
-    if a < b {
-        return a;
-    }
-    b
 }

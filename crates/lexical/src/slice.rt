@@ -1,11 +1,13 @@
 // Comparing slices.
-use crate::number::least;
+use crate::bounds::least;
 ghost use mathlib.Core.Path.{_≡_};
 ghost use mathlib.Core.List.{[], _∷_};
 ghost use Prim.Native.Nat.{_≤_, compare};
 ghost use lib.ListN.{length, drop};
+ghost use Rattle.rows.specs.Positions.{runEnd};
 ghost use Rattle.model.specs.Base.{_==_, after, isSome};
 ghost use Rattle.model.specs.Fields.{lex, orderKey};
+ghost use Rattle.lexical.specs.Classes.{isNot};
 ghost use Rattle.lexical.specs.Orders.{orderOf, bigEndian};
 
 pub enum Order {
@@ -114,4 +116,19 @@ pub fn is_at(s: &[u8], at: usize, b: u8) -> bool
         return false;
     }
     s[at] == b
+}
+
+// Where the byte b next stands, from `at` on, or where the text ends.
+pub fn until(s: &[u8], at: usize, b: u8) -> usize
+    requires { ⌜ at ≤ length (now s) ⌝ }
+    ensures { λ r. ⌜ r ≡ runEnd (isNot b) (now (s .entry)) at ⌝ }
+{
+    let mut i = at;
+    while i < s.len() {
+        if s[i] == b {
+            return i;
+        }
+        i += 1;
+    }
+    i
 }

@@ -15,16 +15,7 @@ use Rattle.rows.proofs.Positions.{here, over, run-part, run-rest}
 use Rattle.model.specs.Base.{Bytes, any, among, _==_}
 use Rattle.model.specs.Table.{onFirst, split, under}
 use Rattle.model.proofs.Lists.{by-cases}
-use Rattle.lines.specs.Cells.{isNot}
-
--- ── A byte that is told apart ──
-pub is-it : (b x : ℕ) → x ≡ b → isNot b x ≡ false
-unfolding isNot
-is-it b x h = rw (eq-eqb x b h)
-
-pub is-other : (b x : ℕ) → (x ≡ b → ⊥) → isNot b x ≡ true
-unfolding isNot
-is-other b x h = rw (ne-eqb x b h)
+use Rattle.lexical.specs.Classes.{isNot}
 
 -- ── Values ──
 -- the values behind a value: there are none at the line's end, and else what the `;` is followed by

@@ -11,7 +11,7 @@ use Rattle.rows.proofs.Positions.{here, over, run-part, run-rest}
 use Rattle.model.specs.Base.{Bytes}
 use Rattle.model.specs.Table.{Line, ended, broken, onFirstLine, lines}
 use Rattle.model.proofs.Lists.{by-cases}
-use Rattle.lines.specs.Cells.{isNot}
+use Rattle.lexical.specs.Classes.{isNot}
 
 -- ── A text is its bytes up to the first 0A, and then its end or that 0A with what follows ──
 lastOf : Bytes → List Line

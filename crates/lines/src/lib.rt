@@ -1,32 +1,17 @@
 // The text of a table taken apart: lines, and the values in a line.
 use lexical::slice::same;
+use lexical::slice::until;
 ghost use mathlib.Core.Path.{_≡_};
 ghost use mathlib.Core.List.{[]};
 ghost use Prim.Native.Nat.{_≤_};
 ghost use lib.ListN.{length, getD};
-ghost use Rattle.rows.specs.Positions.{runEnd};
 ghost use Rattle.model.specs.Base.{among};
+ghost use Rattle.model.specs.Limits.{maxText};
 ghost use Rattle.model.specs.Table.{split, under};
-ghost use Rattle.lines.specs.Cells.{isNot};
-
-// Where the byte b next stands, from `at` on, or where the text ends.
-pub fn until(s: &[u8], at: usize, b: u8) -> usize
-    requires { ⌜ at ≤ length (now s) ⌝ }
-    ensures { λ r. ⌜ r ≡ runEnd (isNot b) (now (s .entry)) at ⌝ }
-{
-    let mut i = at;
-    while i < s.len() {
-        if s[i] == b {
-            return i;
-        }
-        i += 1;
-    }
-    i
-}
 
 // How many values a line has.
 pub fn count(line: &[u8]) -> usize
-    requires { ⌜ length (now line) ≤ 65536 ⌝ }
+    requires { ⌜ length (now line) ≤ maxText ⌝ }
     ensures { λ r. ⌜ r ≡ length (split (now (line .entry))) ⌝ }
 {
     let mut n: usize = 1;
@@ -60,7 +45,7 @@ pub fn value(line: &[u8], j: usize) -> &[u8]
 
 // Whether a head has a column of the name.
 pub fn has_column(head: &[u8], name: &[u8]) -> bool
-    requires { ⌜ length (now head) ≤ 65536 ⌝ }
+    requires { ⌜ length (now head) ≤ maxText ⌝ }
     ensures { λ r. ⌜ r ≡ among (now (name .entry)) (split (now (head .entry))) ⌝ }
 {
     let n = count(head);
@@ -76,7 +61,7 @@ pub fn has_column(head: &[u8], name: &[u8]) -> bool
 
 // The value of a line under the column of the name.
 pub fn value_under<'a>(head: &[u8], line: &'a [u8], name: &[u8]) -> &'a [u8]
-    requires { ⌜ length (now head) ≤ 65536 ⌝ }
+    requires { ⌜ length (now head) ≤ maxText ⌝ }
     ensures { λ r. ⌜ now r ≡ under (split (now (head .entry))) (split (now (line .entry))) (now (name .entry)) ⌝ }
 {
     let n = count(head);

@@ -11,10 +11,11 @@ use denote.Enum.Declared.{tagOf}
 use borrow.Author.Tests.{ne-eqb, le-leb, lt-leb}
 use lib.ListN.{length, getD, take, drop, set, length-append}
 use lib.Seq.{take-append-le}
-use Rattle.rows.specs.Rows.{rows, upTo, table}
+use Rattle.rows.specs.Rows.{rows, upTo}
+use Rattle.layout.specs.Layout.{table, nameIn, isEmpty, keyRow}
 use Rattle.rows.specs.Positions.{Reads, behind, placed, runEnd}
 use Rattle.model.specs.Base.{Bytes, _>>=_, _>>_, check}
-use Rattle.model.specs.Limits.{maxFields}
+use Rattle.model.specs.Limits.{maxKey, maxFields, maxDepth}
 use Rattle.model.specs.Refusals.{refused, done, Opened}
 use Rattle.model.specs.Values.{Value}
 use Rattle.model.specs.Fields.{Keys, Fields}
@@ -30,24 +31,24 @@ use Rattle.values.specs.declared.value.Scalar.{Scalar}
 use Rattle.values.specs.declared.value.ValueAt.{ValueAt}
 use Rattle.values.specs.declared.value.ValueAt.the-variants as value-at
 use Rattle.values.specs.Scalars.{valueIn, valueAnswer}
-use Rattle.paths.specs.Layout.{nameIn, pathIn}
-use Rattle.paths.proofs.Counted.{length-counted}
-use Rattle.paths.proofs.Names.{push-whole}
-use Rattle.record.specs.Slots.{isEmpty, fieldsIn}
+use Rattle.paths.specs.Layout.{pathSlot, pathIn}
+use Rattle.layout.proofs.Counts.{length-counted}
+use Rattle.layout.proofs.Named.{push-whole}
+use Rattle.record.specs.Slots.{fieldsIn}
 use Rattle.record.specs.Search.{storedAt}
 use Rattle.record.proofs.Slots.{path-same, held-valid}
-use Rattle.reader.specs.Tokens.{readToken, readScalar, readMember, endAnswer, mapped, readTop}
+use Rattle.reader.specs.Tokens.{readScalar, readMember, mapped, readTop}
 use Rattle.loader.specs.Loaded.{loaded, loadAnswer, fieldsOf}
 use Rattle.reader.specs.Summaries.{readingOf, readAnswer}
 use Rattle.reader.specs.declared.grammar.RecordRead.{RecordRead}
 use Rattle.reader.specs.declared.grammar.RecordRead.the-variants as record-read
 use Rattle.reader.proofs.grammar.RecordRead.{the-type}
-use Rattle.reader.proofs.Spaced.{skip-at, token-leaves, end-bad, end-reads, scalar-reads}
+use Rattle.reader.proofs.Spaced.{skip-at, scalar-reads}
 use Rattle.reader.proofs.Mapped.{mapped-is}
-use Rattle.reader.proofs.Objects.{readNode, node-leaf, node-mapped, Left, left-unclosed, left-last}
+use Rattle.reader.proofs.Objects.{readNode, node-leaf, node-mapped}
 
 -- ── What is read is within its limits ──
-member-key : (s k r : Bytes) → readMember s ≡ some (k, r) → length k ≤ 16
+member-key : (s k r : Bytes) → readMember s ≡ some (k, r) → length k ≤ maxKey
 unfolding readMember
 member-key s k r h =
     bind-some _ _ _ h λ t key h₁.
@@ -63,16 +64,16 @@ scalar-valid s r v h =
     rw e at (value-valid s (t .1) (t .0) value)
 
 -- ── A slot with the path p and the key k behind it ──
-pub copied-path : (p q r : Bytes) → length p ≡ 103 → q ≡ p ++ r → pathIn q ≡ pathIn p
-copied-path p q r l e = path-same q p (rw e (take-append-le 103 p r (omega arith)))
+pub copied-path : (p q r : Bytes) → length p ≡ pathSlot → q ≡ p ++ r → pathIn q ≡ pathIn p
+copied-path p q r l e = path-same q p (rw e (take-append-le pathSlot p r (omega arith)))
 
 pub record Child (p : Keys) (k slot : Bytes) : Type 0 where
   pub is : pathIn slot ≡ p ++ k ∷ []
 
 -- a key that was read, behind a path that leaves room for depth keys
 pub child-path : {s : Bytes} {i : ℕ} {p : Keys} {k slot : Bytes} {v depth : ℕ} → Reads readMember s i k v → length p + depth ≤ 6 → (depth ≡ 0 → ⊥)
-    → pathIn slot ≡ take 6 (p ++ take 16 k ∷ []) → Child p k slot
-child-path {p = p} {k = k} r h d e = record { is = e ∙ push-whole 6 p k (omega (arith, d)) (member-key _ _ _ (r .is)) }
+    → pathIn slot ≡ take maxDepth (p ++ take maxKey k ∷ []) → Child p k slot
+child-path {p = p} {k = k} r h d e = record { is = e ∙ push-whole maxKey maxDepth p k (omega (arith, d)) (member-key _ _ _ (r .is)) }
 
 -- ── What a key holds, put into fields ──
 abbrev pub nodeLoaded : Keys → Fields → Node → Fields
@@ -84,7 +85,7 @@ module _ {p : Keys} {k slot : Bytes} (child : Child p k slot) where
 
   has-key : isEmpty slot ≡ false
   unfolding isEmpty pathIn
-  has-key = ne-eqb (getD slot 0 0) 0 (λ z. omega (arith, z, child-length, length-counted nameIn 17 6 slot))
+  has-key = ne-eqb (getD slot 0 0) 0 (λ z. omega (arith, z, child-length, length-counted nameIn keyRow maxDepth slot))
 
   module _ (fs : Fields) where
     -- a value that is stored there is the field of a leaf
@@ -113,16 +114,6 @@ module _ (p : Keys) (fs : Fields) where
   pub member-loaded : (m : Members) (k : Bytes) (a : Node) (gs hs : Fields) → gs ≡ loaded p fs m → nodeLoaded (p ++ k ∷ []) gs a ≡ hs → hs ≡ loaded p fs (member m k a)
   unfolding loaded storeMembers
   member-loaded m k a gs hs e n = sym n ∙ ap (λ (l : Fields). nodeLoaded (p ++ k ∷ []) l a) e
-
-  -- where no comma stands behind the last of them, the closing brace decides
-  module _ (s : Bytes) (at depth : ℕ) (m : Members) (i : ℕ) (left : Left s at depth m i) (k : Bytes) (v : ℕ) (key : Reads readMember s i k v)
-      (a : Node) (e : ℕ) (node : Reads (readNode (depth - 1)) s v a e) (last : readToken 0x2C (drop e s) ≡ none) where
-    pub last-loaded : (x : End) → endAnswer x ≡ placed (readToken 0x7D) s e
-        → loadAnswer (loaded p fs (member m k a)) x ≡ placed (mapped (loaded p fs) (readObject depth)) s at
-    last-loaded (At close) answer =
-        left-last s at depth m i left k v key a e node (loaded p fs) last close (end-reads _ s e (At close) answer (token-leaves 0x7D) (node .to) close refl)
-    last-loaded Bad answer =
-        left-unclosed s at depth m i left k v key a e node (loaded p fs) last (end-bad _ s e Bad answer refl)
 
 -- ── A table without fields ──
 pub emptied : (xs : Bytes) → fieldsIn (set xs 0 0) ≡ []

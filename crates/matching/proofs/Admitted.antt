@@ -6,15 +6,17 @@ use mathlib.Core.List.{List, [], _∷_}
 use native.Mathlib.Nat.{add-zero, zero-add}
 use native.Mathlib.Omega.{arith}
 use lib.ListN.{length, getD, take, drop, length-drop}
+use Rattle.model.specs.Limits.{maxDepth}
 use Rattle.model.specs.Base.{Bytes}
 use Rattle.model.specs.Fields.{Keys}
 use Rattle.model.specs.Paths.{Steps}
 use Rattle.model.specs.Tables.{Binding}
 use Rattle.model.specs.Rights.{admits, matches}
 use Rattle.model.proofs.Lists.{by-cases, never}
-use Rattle.paths.specs.Layout.{nameIn, pathIn}
-use Rattle.steps.specs.Steps.{stepIn, stepsIn}
-use Rattle.paths.proofs.Counted.{length-counted, counted-step}
+use Rattle.paths.specs.Layout.{pathIn}
+use Rattle.layout.specs.Layout.{keyRow, nameIn}
+use Rattle.steps.specs.Steps.{stepRow, stepIn, stepsIn}
+use Rattle.layout.proofs.Counts.{length-counted, counted-step}
 use Rattle.matching.specs.Admitted.{admitted}
 
 module _ (bs : List Binding) where
@@ -69,30 +71,30 @@ module _ (bs : List Binding) where
   -- ── A policy path and a field's path in their slots ──
   module _ (s slot : Bytes) where
     -- the same two, by what the slots say of how many steps and keys they have
-    pub slots-match : admitted bs (stepsIn s) (pathIn slot) ≡ min (getD s 0 0) 6 → min (getD slot 0 0) 6 ≡ min (getD s 0 0) 6
+    pub slots-match : admitted bs (stepsIn s) (pathIn slot) ≡ min (getD s 0 0) maxDepth → min (getD slot 0 0) maxDepth ≡ min (getD s 0 0) maxDepth
         → matches bs (stepsIn s) (pathIn slot) ≡ true
     unfolding stepsIn pathIn
     slots-match h l =
-        matches-all (stepsIn s) (pathIn slot) (h ∙ sym (length-counted stepIn 70 6 s)) (length-counted nameIn 17 6 slot ∙ l ∙ sym (length-counted stepIn 70 6 s))
+        matches-all (stepsIn s) (pathIn slot) (h ∙ sym (length-counted stepIn stepRow maxDepth s)) (length-counted nameIn keyRow maxDepth slot ∙ l ∙ sym (length-counted stepIn stepRow maxDepth s))
 
-    pub slots-short : (admitted bs (stepsIn s) (pathIn slot) ≡ min (getD s 0 0) 6 → ⊥) → matches bs (stepsIn s) (pathIn slot) ≡ false
+    pub slots-short : (admitted bs (stepsIn s) (pathIn slot) ≡ min (getD s 0 0) maxDepth → ⊥) → matches bs (stepsIn s) (pathIn slot) ≡ false
     unfolding stepsIn
-    slots-short f = matches-short (stepsIn s) (pathIn slot) (λ e. f (e ∙ length-counted stepIn 70 6 s))
+    slots-short f = matches-short (stepsIn s) (pathIn slot) (λ e. f (e ∙ length-counted stepIn stepRow maxDepth s))
 
   module _ (s slot : Bytes) (i : ℕ) where
     -- the step in the row at i admits the key at i, or not
-    module _ {row key : Bytes} {r : Bool} (p : i < min (getD s 0 0) 6) (q : i < min (getD slot 0 0) 6)
-        (e : row ≡ take 70 (drop (i * 70 + 1) s)) (k : key ≡ nameIn (take 17 (drop (i * 17 + 1) slot))) (t : r ≡ admits bs (stepIn row) key) where
+    module _ {row key : Bytes} {r : Bool} (p : i < min (getD s 0 0) maxDepth) (q : i < min (getD slot 0 0) maxDepth)
+        (e : row ≡ take stepRow (drop (i * stepRow + 1) s)) (k : key ≡ nameIn (take keyRow (drop (i * keyRow + 1) slot))) (t : r ≡ admits bs (stepIn row) key) where
       pub admitted-step : r ≡ true → admittedFrom i (stepsIn s) (pathIn slot) ≡ admittedFrom (i + 1) (stepsIn s) (pathIn slot)
       unfolding stepsIn pathIn admitted
-      admitted-step y = rw (counted-step stepIn 70 6 s i p, counted-step nameIn 17 6 slot i q, ← e, ← k, ← t, y) (omega arith)
+      admitted-step y = rw (counted-step stepIn stepRow maxDepth s i p, counted-step nameIn keyRow maxDepth slot i q, ← e, ← k, ← t, y) (omega arith)
 
       pub admitted-stop : r ≡ false → admittedFrom i (stepsIn s) (pathIn slot) ≡ i
       unfolding stepsIn pathIn admitted
-      admitted-stop y = rw (counted-step stepIn 70 6 s i p, counted-step nameIn 17 6 slot i q, ← e, ← k, ← t, y, add-zero)
+      admitted-stop y = rw (counted-step stepIn stepRow maxDepth s i p, counted-step nameIn keyRow maxDepth slot i q, ← e, ← k, ← t, y, add-zero)
 
     -- no step is left, or no key
-    pub admitted-end : min (getD slot 0 0) (min (getD s 0 0) 6) ≤ i → admittedFrom i (stepsIn s) (pathIn slot) ≡ i
+    pub admitted-end : min (getD slot 0 0) (min (getD s 0 0) maxDepth) ≤ i → admittedFrom i (stepsIn s) (pathIn slot) ≡ i
     unfolding stepsIn pathIn
     admitted-end h =
         let w = simp (length-drop, length-counted) at (admitted-within (drop i (stepsIn s)) (drop i (pathIn slot))) in

@@ -10,16 +10,17 @@ use lib.ListN.{length, getD, take, drop}
 use types.Run.{OneOf}
 use denote.Enum.Declared.{tagOf}
 use borrow.Author.Tests.{ltb-true, ltb-false}
+use Rattle.model.specs.Limits.{maxDepth}
 use Rattle.model.specs.Base.{Bytes, any, among}
 use Rattle.model.specs.Paths.{Step, names, wildcard, environment}
 use Rattle.model.specs.Rights.{overlap, isAbove}
 use Rattle.model.proofs.Lists.{by-cases}
-use Rattle.steps.specs.Steps.{namesIn, byKind, kindOf, stepIn, stepsIn}
+use Rattle.steps.specs.Steps.{stepRow, namesIn, byKind, kindOf, stepIn, stepsIn}
 use Rattle.steps.specs.declared.step.Kind.{Kind}
 use Rattle.steps.specs.declared.step.Kind.the-variants.{Names, Wildcard, Environment}
 use Rattle.steps.proofs.step.Kind.{the-type}
 use Rattle.steps.proofs.StepRows.{step-told}
-use Rattle.paths.proofs.Counted.{counted-step, counted-over}
+use Rattle.layout.proofs.Counts.{counted-step, counted-over}
 
 -- ── A step of another kind than a list of names overlaps every step ──
 -- the variants Wildcard and Environment by their numbers, as the code's `else` tells them
@@ -60,20 +61,20 @@ module _ (x y : Bytes) where
 
 -- ── Whether a path is above another, from the step i on ──
 module _ (a b : Bytes) (i : ℕ) where
-  pub above-longer : i < min (getD a 0 0) 6 → min (getD b 0 0) 6 ≤ i → isAbove (drop i (stepsIn a)) (drop i (stepsIn b)) ≡ false
+  pub above-longer : i < min (getD a 0 0) maxDepth → min (getD b 0 0) maxDepth ≤ i → isAbove (drop i (stepsIn a)) (drop i (stepsIn b)) ≡ false
   unfolding stepsIn isAbove
-  above-longer p q = rw (counted-step stepIn 70 6 a i p, counted-over stepIn 70 6 b i q)
+  above-longer p q = rw (counted-step stepIn stepRow maxDepth a i p, counted-over stepIn stepRow maxDepth b i q)
 
   -- the steps in the rows x and y at i overlap, or not
-  pub above-step : {x y : Bytes} {r : Bool} → i < min (getD a 0 0) 6 → i < min (getD b 0 0) 6
-      → x ≡ take 70 (drop (i * 70 + 1) a) → y ≡ take 70 (drop (i * 70 + 1) b) → r ≡ overlap (stepIn x) (stepIn y)
+  pub above-step : {x y : Bytes} {r : Bool} → i < min (getD a 0 0) maxDepth → i < min (getD b 0 0) maxDepth
+      → x ≡ take stepRow (drop (i * stepRow + 1) a) → y ≡ take stepRow (drop (i * stepRow + 1) b) → r ≡ overlap (stepIn x) (stepIn y)
       → isAbove (drop i (stepsIn a)) (drop i (stepsIn b)) ≡ (r && isAbove (drop (i + 1) (stepsIn a)) (drop (i + 1) (stepsIn b)))
   unfolding stepsIn isAbove
-  above-step p q e f t = rw (counted-step stepIn 70 6 a i p, counted-step stepIn 70 6 b i q, t, e, f)
+  above-step p q e f t = rw (counted-step stepIn stepRow maxDepth a i p, counted-step stepIn stepRow maxDepth b i q, t, e, f)
 
   -- where the first ends, the second must go on
-  pub above-end : i ≡ min (getD a 0 0) 6 → isAbove (drop i (stepsIn a)) (drop i (stepsIn b)) ≡ ltb (min (getD a 0 0) 6) (min (getD b 0 0) 6)
+  pub above-end : i ≡ min (getD a 0 0) maxDepth → isAbove (drop i (stepsIn a)) (drop i (stepsIn b)) ≡ ltb (min (getD a 0 0) maxDepth) (min (getD b 0 0) maxDepth)
   unfolding stepsIn isAbove
-  above-end p = by-cases (ltb (min (getD a 0 0) 6) (min (getD b 0 0) 6))
-      (λ e. rw (counted-over stepIn 70 6 a i (omega arith), counted-step stepIn 70 6 b i (omega (arith, ltb-true)), e))
-      (λ e. rw (counted-over stepIn 70 6 a i (omega arith), counted-over stepIn 70 6 b i (omega (arith, ltb-false)), e))
+  above-end p = by-cases (ltb (min (getD a 0 0) maxDepth) (min (getD b 0 0) maxDepth))
+      (λ e. rw (counted-over stepIn stepRow maxDepth a i (omega arith), counted-step stepIn stepRow maxDepth b i (omega (arith, ltb-true)), e))
+      (λ e. rw (counted-over stepIn stepRow maxDepth a i (omega arith), counted-over stepIn stepRow maxDepth b i (omega (arith, ltb-false)), e))

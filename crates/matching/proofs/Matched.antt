@@ -3,28 +3,26 @@ use Prim.Native.Nat.{ℕ, suc, _+_, _*_, _-_, _≤_, _<_, min}
 use mathlib.Core.Path.{_≡_, refl, sym, ap, _∙_}
 use mathlib.Core.Bool.{Bool, true, false, _&&_, _||_, and-true, and-false, and-assoc}
 use mathlib.Core.List.{List, [], _∷_}
-use native.Mathlib.Nat.{add-zero}
 use native.Mathlib.Omega.{arith}
 use lib.ListN.{length, getD, take, drop}
-use lib.Seq.{take-take, drop-drop, getD-take, getD-drop}
-use borrow.Author.Tests.{eq-eqb, ne-eqb}
-use Rattle.rows.specs.Rows.{table}
-use Rattle.rows.proofs.Rows.{drop-take}
-use Rattle.rows.proofs.Table.{table-start, table-end, table-stop, table-step}
+use lib.Seq.{take-take}
+use Rattle.layout.specs.Layout.{inUse, nameRow, keyRow, nameIn, counted}
+use Rattle.layout.proofs.Used.{used-last, used-more, byte-empty, byte-full, row-left, rows-over}
+use Rattle.rows.proofs.Parts.{part-part}
 use Rattle.model.specs.Base.{Bytes, any, among, keep, _==_}
 use Rattle.model.specs.Fields.{Keys}
-use Rattle.model.specs.Limits.{maxBindings}
+use Rattle.model.specs.Limits.{maxBindings, maxDepth}
 use Rattle.model.specs.Paths.{Step, Steps}
 use Rattle.model.specs.Paths as paths
 use Rattle.model.specs.Tables.{Binding}
 use Rattle.model.specs.Rights.{listed, firstIs, admits, matches}
 use Rattle.model.proofs.Lists.{by-cases, never, and-both, keep-yes, keep-no}
-use Rattle.paths.specs.Layout.{nameIn, counted, pathIn}
-use Rattle.steps.specs.Steps.{namesIn, byKind, kindOf, stepIn, stepsIn}
-use Rattle.steps.specs.Environments.{bindingIn, isEmptyRow, bindingsIn}
+use Rattle.paths.specs.Layout.{pathIn}
+use Rattle.steps.specs.Steps.{stepRow, namesIn, byKind, kindOf, stepIn, stepsIn}
+use Rattle.steps.specs.Environments.{bindingRow, bindingIn, bindingsIn}
 use Rattle.steps.specs.declared.step.Kind.{Kind}
 use Rattle.steps.proofs.StepRows.{step-told}
-use Rattle.paths.proofs.Counted.{length-counted, counted-step, counted-over}
+use Rattle.layout.proofs.Counts.{length-counted, counted-step, counted-over}
 use Rattle.matching.specs.Parts.{decides, mayAdmit, isMet, paired, mayMatch}
 
 -- ── Whether any row of a slot passes, from the row i on ──
@@ -39,51 +37,43 @@ module _ {A : Type 0} (decode : Bytes → A) (k m : ℕ) (p : A → Bool) (s : B
   unfolding any
   any-over h = rw (counted-over decode k m s i h)
 
--- ── A user's environment lines: rows of 34 bytes ──
--- those from the row i on
-abbrev pub linesFrom : Bytes → ℕ → List Binding
-linesFrom s i = table isEmptyRow bindingIn 34 (maxBindings - i) (drop (i * 34) s)
-
-pub lines-start : (s : Bytes) → bindingsIn s ≡ linesFrom s 0
-unfolding bindingsIn
-lines-start s = table-start isEmptyRow bindingIn 34 maxBindings s
-
--- a name in the first 17 bytes, and a value in the others
+-- ── A user's environment lines: rows of a name and a value ──
 abbrev lineAt : Bytes → ℕ → Bytes
-lineAt s i = take 34 (drop (i * 34) s)
+lineAt s i = take bindingRow (drop (i * bindingRow) s)
 
-line-first : (s : Bytes) (i : ℕ) → getD (lineAt s i) 0 0 ≡ getD s (i * 34) 0
-line-first s i = rw (getD-take 34 (drop (i * 34) s) 0 0 (omega arith), getD-drop, add-zero)
+-- the values that are listed under the name n in the lines from the row i on: none where no line is left
+pub listed-over : (s n : Bytes) (i : ℕ) → length (inUse bindingRow maxBindings s) ≤ i → listed (drop i (bindingsIn s)) n ≡ []
+unfolding listed keep bindingsIn
+listed-over s n i h = rw (rows-over bindingIn bindingRow maxBindings s refl i h)
 
--- the values that are listed under the name n
-module _ (s n : Bytes) (i : ℕ) where
-  pub listed-end : maxBindings ≤ i → listed (linesFrom s i) n ≡ []
-  unfolding listed keep
-  listed-end h = rw (table-end isEmptyRow bindingIn 34 i maxBindings (drop (i * 34) s) h)
+module _ (s n : Bytes) (i : ℕ) (h : i < maxBindings) (passed : i ≤ length (inUse bindingRow maxBindings s)) where
+  pub listed-stop : getD s (i * bindingRow) 0 ≡ 0 → listed (drop i (bindingsIn s)) n ≡ []
+  listed-stop e = listed-over s n i (used-last bindingRow maxBindings s i h passed (byte-empty bindingRow maxBindings s i (omega arith) e))
 
-  module _ (h : i < maxBindings) where
-    pub listed-stop : getD s (i * 34) 0 ≡ 0 → listed (linesFrom s i) n ≡ []
-    unfolding listed keep isEmptyRow
-    listed-stop e = rw (table-stop isEmptyRow bindingIn 34 i maxBindings s h (eq-eqb _ 0 (line-first s i ∙ e)))
+  -- a row that is not empty, whose name was compared with n
+  module _ (f : getD s (i * bindingRow) 0 ≡ 0 → ⊥) where
+    pub line-more : i < length (inUse bindingRow maxBindings s)
+    line-more = used-more bindingRow maxBindings s i h passed (byte-full bindingRow maxBindings s i (omega arith) f)
 
-    -- a row that is not empty, whose name was compared with n
-    module _ (f : getD s (i * 34) 0 ≡ 0 → ⊥) {name : Bytes} {r : Bool} (e : name ≡ nameIn (take 17 (drop (i * 34) s))) (t : r ≡ (name == n)) where
+    line-next : drop i (bindingsIn s) ≡ bindingIn (lineAt s i) ∷ drop (i + 1) (bindingsIn s)
+    unfolding bindingsIn
+    line-next = row-left bindingIn bindingRow maxBindings s refl i line-more refl
+
+    module _ {name : Bytes} {r : Bool} (e : name ≡ nameIn (take nameRow (drop (i * bindingRow) s))) (t : r ≡ (name == n)) where
       line-name : (bindingIn (lineAt s i) .name == n) ≡ r
       unfolding bindingIn
-      line-name = rw (take-take 17 34 (drop (i * 34) s) (omega arith), ← e) (sym t)
+      line-name = rw (take-take nameRow bindingRow (drop (i * bindingRow) s) (omega arith), ← e) (sym t)
 
-      line-next : linesFrom s i ≡ bindingIn (lineAt s i) ∷ linesFrom s (i + 1)
-      unfolding isEmptyRow
-      line-next = table-step isEmptyRow bindingIn 34 i maxBindings s h (ne-eqb _ 0 (λ z. f (sym (line-first s i) ∙ z)))
-
-      pub listed-yes : {value : Bytes} → r ≡ true → value ≡ nameIn (take 17 (drop (i * 34 + 17) s))
-          → listed (linesFrom s i) n ≡ value ∷ listed (linesFrom s (i + 1)) n
+      pub listed-yes : {value : Bytes} → r ≡ true → value ≡ nameIn (take keyRow (drop (i * bindingRow + nameRow) s))
+          → listed (drop i (bindingsIn s)) n ≡ value ∷ listed (drop (i + 1) (bindingsIn s)) n
       unfolding listed bindingIn
-      listed-yes y v = rw (line-next, keep-yes (λ (b : Binding). b .name == n) (bindingIn (lineAt s i)) (linesFrom s (i + 1)) (line-name ∙ y), drop-take, drop-drop, v)
+      listed-yes y v =
+          let first = keep-yes (λ (b : Binding). b .name == n) (bindingIn (lineAt s i)) (drop (i + 1) (bindingsIn s)) (line-name ∙ y) in
+          rw (line-next, first, part-part (i * bindingRow) bindingRow s nameRow keyRow (omega arith), v)
 
-      pub listed-no : r ≡ false → listed (linesFrom s i) n ≡ listed (linesFrom s (i + 1)) n
+      pub listed-no : r ≡ false → listed (drop i (bindingsIn s)) n ≡ listed (drop (i + 1) (bindingsIn s)) n
       unfolding listed
-      listed-no y = rw (line-next, keep-no (λ (b : Binding). b .name == n) (bindingIn (lineAt s i)) (linesFrom s (i + 1)) (line-name ∙ y))
+      listed-no y = rw (line-next, keep-no (λ (b : Binding). b .name == n) (bindingIn (lineAt s i)) (drop (i + 1) (bindingsIn s)) (line-name ∙ y))
 
 -- ── What an environment step asks of the values that are listed under its name ──
 unfoldable pub asked : paths.Operator → Bytes → List Bytes → Bool
@@ -113,13 +103,13 @@ module _ (k v : Bytes) {vs ws : List Bytes} (e : vs ≡ v ∷ ws) {r : Bool} (t 
   asked-left paths.isIn d = rw (e, ← t, d)
 
 -- a line that does not decide, whether or not it has the name n, leaves the question for the lines behind it
-pub asked-later : (s n : Bytes) (i : ℕ) → i < maxBindings → (getD s (i * 34) 0 ≡ 0 → ⊥)
-    → (o : paths.Operator) (k : Bytes) {value : Bytes} {r : Bool} → value ≡ nameIn (take 17 (drop (i * 34 + 17) s)) → r ≡ (k == value)
-    → decides o r ≡ false → asked o k (listed (linesFrom s i) n) ≡ asked o k (listed (linesFrom s (i + 1)) n)
-asked-later s n i h f o k v t d =
-    by-cases (nameIn (take 17 (drop (i * 34) s)) == n)
-    (λ y. asked-left k _ (listed-yes s n i h f refl refl y v) t o d)
-    (λ y. ap (asked o k) (listed-no s n i h f refl refl y))
+pub asked-later : (s n : Bytes) (i : ℕ) → i < maxBindings → i ≤ length (inUse bindingRow maxBindings s) → (getD s (i * bindingRow) 0 ≡ 0 → ⊥)
+    → (o : paths.Operator) (k : Bytes) {value : Bytes} {r : Bool} → value ≡ nameIn (take keyRow (drop (i * bindingRow + nameRow) s)) → r ≡ (k == value)
+    → decides o r ≡ false → asked o k (listed (drop i (bindingsIn s)) n) ≡ asked o k (listed (drop (i + 1) (bindingsIn s)) n)
+asked-later s n i h passed f o k v t d =
+    by-cases (nameIn (take nameRow (drop (i * bindingRow) s)) == n)
+    (λ y. asked-left k _ (listed-yes s n i h passed f refl refl y v) t o d)
+    (λ y. ap (asked o k) (listed-no s n i h passed f refl refl y))
 
 -- ── What a step admits: its kind k was matched with v, and the names are the part of its row behind the first byte ──
 module _ (row key : Bytes) {k v : Kind} (h : k ≡ kindOf (getD row 0 0)) (e : k ≡ v) where
@@ -146,25 +136,25 @@ module _ (test : Step → Bytes → Bool) where
   paired-lengths (t ∷ ts) (k ∷ ks) h = ap suc (paired-lengths ts ks (and-both (test t k) (paired test ts ks) h .1))
 
   module _ (s slot : Bytes) where
-    pub paired-counts : paired test (stepsIn s) (pathIn slot) ≡ true → min (getD slot 0 0) 6 ≡ min (getD s 0 0) 6
+    pub paired-counts : paired test (stepsIn s) (pathIn slot) ≡ true → min (getD slot 0 0) maxDepth ≡ min (getD s 0 0) maxDepth
     unfolding stepsIn pathIn
     paired-counts h =
-        sym (length-counted nameIn 17 6 slot) ∙ sym (paired-lengths (stepsIn s) (pathIn slot) h) ∙ length-counted stepIn 70 6 s
+        sym (length-counted nameIn keyRow maxDepth slot) ∙ sym (paired-lengths (stepsIn s) (pathIn slot) h) ∙ length-counted stepIn stepRow maxDepth s
 
-    pub paired-unlike : (min (getD slot 0 0) 6 ≡ min (getD s 0 0) 6 → ⊥) → paired test (stepsIn s) (pathIn slot) ≡ false
+    pub paired-unlike : (min (getD slot 0 0) maxDepth ≡ min (getD s 0 0) maxDepth → ⊥) → paired test (stepsIn s) (pathIn slot) ≡ false
     paired-unlike f = by-cases (paired test (stepsIn s) (pathIn slot)) (λ e. absurd (f (paired-counts e))) (λ e. e)
 
     module _ (i : ℕ) where
       -- the step in the row at i passes with the key at i, or not
-      pub paired-step : {row key : Bytes} {r : Bool} → i < min (getD s 0 0) 6 → i < min (getD slot 0 0) 6
-          → row ≡ take 70 (drop (i * 70 + 1) s) → key ≡ nameIn (take 17 (drop (i * 17 + 1) slot)) → r ≡ test (stepIn row) key
+      pub paired-step : {row key : Bytes} {r : Bool} → i < min (getD s 0 0) maxDepth → i < min (getD slot 0 0) maxDepth
+          → row ≡ take stepRow (drop (i * stepRow + 1) s) → key ≡ nameIn (take keyRow (drop (i * keyRow + 1) slot)) → r ≡ test (stepIn row) key
           → paired test (drop i (stepsIn s)) (drop i (pathIn slot)) ≡ (r && paired test (drop (i + 1) (stepsIn s)) (drop (i + 1) (pathIn slot)))
       unfolding stepsIn pathIn paired
-      paired-step p q e k t = rw (counted-step stepIn 70 6 s i p, counted-step nameIn 17 6 slot i q, t, e, k)
+      paired-step p q e k t = rw (counted-step stepIn stepRow maxDepth s i p, counted-step nameIn keyRow maxDepth slot i q, t, e, k)
 
-      pub paired-end : min (getD s 0 0) 6 ≤ i → min (getD slot 0 0) 6 ≤ i → paired test (drop i (stepsIn s)) (drop i (pathIn slot)) ≡ true
+      pub paired-end : min (getD s 0 0) maxDepth ≤ i → min (getD slot 0 0) maxDepth ≤ i → paired test (drop i (stepsIn s)) (drop i (pathIn slot)) ≡ true
       unfolding stepsIn pathIn paired
-      paired-end p q = rw (counted-over stepIn 70 6 s i p, counted-over nameIn 17 6 slot i q)
+      paired-end p q = rw (counted-over stepIn stepRow maxDepth s i p, counted-over nameIn keyRow maxDepth slot i q)
 
 and-swap : (a b c d : Bool) → (a && b && (c && d)) ≡ (a && c && (b && d))
 and-swap a true c d = simp (and-true, and-assoc)

@@ -1,11 +1,18 @@
-// What a step admits, given a user's environment lines: rows of 34 bytes, a name and a value, up to the first that is empty.
+// What a step admits, given a user's environment lines: rows of a name and a value, up to the first that is empty.
+use layout::counted::count;
+use layout::counted::row_at;
+use layout::name::KEY_ROW;
+use layout::name::NAME_ROW;
+use layout::name::name_from;
+use lexical::limits::MAX_DEPTH;
+use lexical::limits::MAX_LISTED;
 use lexical::slice::same;
-use paths::layout::count;
-use paths::layout::name_at;
-use paths::layout::name_from;
+use paths::key::key_at;
+use steps::policy::STEP;
 use steps::policy::first_name;
 use steps::policy::kind_of;
-use steps::policy::row;
+use steps::step::BINDING;
+use steps::step::BINDINGS;
 use steps::step::Kind;
 use steps::step::Operator;
 ghost use mathlib.Core.Path.{_≡_};
@@ -15,21 +22,21 @@ ghost use lib.ListN.{length};
 ghost use Rattle.model.specs.Paths.{environment};
 ghost use Rattle.model.specs.Base.{among};
 ghost use Rattle.model.specs.Rights.{admits, matches};
-ghost use Rattle.paths.specs.Layout.{pathIn};
-ghost use Rattle.steps.specs.Steps.{operatorOf, namesIn, stepIn, stepsIn};
-ghost use Rattle.steps.specs.Environments.{bindingsIn};
+ghost use Rattle.paths.specs.Layout.{pathSlot, pathIn};
+ghost use Rattle.steps.specs.Steps.{namesSlot, stepRow, stepsSlot, operatorOf, namesIn, stepIn, stepsIn};
+ghost use Rattle.steps.specs.Environments.{bindingsBytes, bindingsIn};
 ghost use Rattle.matching.specs.Parts.{decides, mayAdmit, isMet, mayMatch};
 ghost use Rattle.matching.specs.Admitted.{admitted};
 
 // Whether the key is one of the names.
 pub fn has_name(names: &[u8], key: &[u8]) -> bool
-    requires { ⌜ 69 ≤ length (now names) ⌝ }
+    requires { ⌜ namesSlot ≤ length (now names) ⌝ }
     ensures { λ r. ⌜ r ≡ among (now (key .entry)) (namesIn (now (names .entry))) ⌝ }
 {
-    let n = count(names, 4);
+    let n = count(names, MAX_LISTED);
     let mut i = 0;
     while i < n {
-        if same(key, name_at(names, i)) {
+        if same(key, key_at(names, i)) {
             return true;
         }
         i += 1;
@@ -49,18 +56,18 @@ fn decides(operator: Operator, holds: bool) -> bool
 
 // Whether the key is the first value listed under the name n, or any of them, as the operator says. The value is compared first: where it does not decide, the name need not be.
 fn is_listed(lines: &[u8], operator: Operator, n: &[u8], key: &[u8]) -> bool
-    requires { ⌜ 544 ≤ length (now lines) ⌝ }
+    requires { ⌜ bindingsBytes ≤ length (now lines) ⌝ }
     ensures { λ r. ⌜ r ≡ admits (bindingsIn (now (lines .entry))) (environment (operatorOf operator) (now (n .entry))) (now (key .entry)) ⌝ }
 {
     let mut i = 0;
-    while i < 16 {
-        let at = i * 34;
+    while i < BINDINGS {
+        let at = i * BINDING;
         if lines[at] == 0 {
             return false;
         }
-        let holds = same(key, name_from(lines, at + 17));
+        let holds = same(key, name_from(lines, at + NAME_ROW, KEY_ROW));
         if decides(operator, holds) {
-            if same(name_from(lines, at), n) {
+            if same(name_from(lines, at, NAME_ROW), n) {
                 return holds;
             }
         }
@@ -71,7 +78,7 @@ fn is_listed(lines: &[u8], operator: Operator, n: &[u8], key: &[u8]) -> bool
 
 // Whether the step in a row admits the key, given the right environment lines.
 fn may_admit(step: &[u8], key: &[u8]) -> bool
-    requires { ⌜ length (now step) ≡ 70 ⌝ }
+    requires { ⌜ length (now step) ≡ stepRow ⌝ }
     ensures { λ r. ⌜ r ≡ mayAdmit (stepIn (now (step .entry))) (now (key .entry)) ⌝ }
 {
     match kind_of(step[0]) {
@@ -83,7 +90,7 @@ fn may_admit(step: &[u8], key: &[u8]) -> bool
 
 // Whether the environment lines let the step in a row admit the key: only an environment step asks them.
 fn is_met(lines: &[u8], step: &[u8], key: &[u8]) -> bool
-    requires { ⌜ (544 ≤ length (now lines)) × (length (now step) ≡ 70) ⌝ }
+    requires { ⌜ (bindingsBytes ≤ length (now lines)) × (length (now step) ≡ stepRow) ⌝ }
     ensures { λ r. ⌜ r ≡ isMet (bindingsIn (now (lines .entry))) (stepIn (now (step .entry))) (now (key .entry)) ⌝ }
 {
     match kind_of(step[0]) {
@@ -95,7 +102,7 @@ fn is_met(lines: &[u8], step: &[u8], key: &[u8]) -> bool
 
 // Whether the step in a row admits the key.
 pub fn admits(lines: &[u8], step: &[u8], key: &[u8]) -> bool
-    requires { ⌜ (544 ≤ length (now lines)) × (length (now step) ≡ 70) ⌝ }
+    requires { ⌜ (bindingsBytes ≤ length (now lines)) × (length (now step) ≡ stepRow) ⌝ }
     ensures { λ r. ⌜ r ≡ admits (bindingsIn (now (lines .entry))) (stepIn (now (step .entry))) (now (key .entry)) ⌝ }
 {
     if !may_admit(step, key) {
@@ -106,16 +113,16 @@ pub fn admits(lines: &[u8], step: &[u8], key: &[u8]) -> bool
 
 // Whether the policy path in one slot matches the field's path in the other, given the right environment lines.
 pub fn may_match(steps: &[u8], slot: &[u8]) -> bool
-    requires { ⌜ (421 ≤ length (now steps)) × (103 ≤ length (now slot)) ⌝ }
+    requires { ⌜ (stepsSlot ≤ length (now steps)) × (pathSlot ≤ length (now slot)) ⌝ }
     ensures { λ r. ⌜ r ≡ mayMatch (stepsIn (now (steps .entry))) (pathIn (now (slot .entry))) ⌝ }
 {
-    let n = count(steps, 6);
-    if count(slot, 6) != n {
+    let n = count(steps, MAX_DEPTH);
+    if count(slot, MAX_DEPTH) != n {
         return false;
     }
     let mut i = 0;
     while i < n {
-        if !may_admit(row(steps, i), name_at(slot, i)) {
+        if !may_admit(row_at(steps, STEP, i), key_at(slot, i)) {
             return false;
         }
         i += 1;
@@ -125,14 +132,14 @@ pub fn may_match(steps: &[u8], slot: &[u8]) -> bool
 
 // Whether a policy path that may match does so with these environment lines.
 pub fn lines_match(lines: &[u8], steps: &[u8], slot: &[u8]) -> bool
-    requires { ⌜ (544 ≤ length (now lines)) × (421 ≤ length (now steps)) × (103 ≤ length (now slot)) ⌝ }
+    requires { ⌜ (bindingsBytes ≤ length (now lines)) × (stepsSlot ≤ length (now steps)) × (pathSlot ≤ length (now slot)) ⌝ }
     requires { ⌜ mayMatch (stepsIn (now steps)) (pathIn (now slot)) ≡ true ⌝ }
     ensures { λ r. ⌜ r ≡ matches (bindingsIn (now (lines .entry))) (stepsIn (now (steps .entry))) (pathIn (now (slot .entry))) ⌝ }
 {
-    let n = count(steps, 6);
+    let n = count(steps, MAX_DEPTH);
     let mut i = 0;
     while i < n {
-        if !is_met(lines, row(steps, i), name_at(slot, i)) {
+        if !is_met(lines, row_at(steps, STEP, i), key_at(slot, i)) {
             return false;
         }
         i += 1;
@@ -142,7 +149,7 @@ pub fn lines_match(lines: &[u8], steps: &[u8], slot: &[u8]) -> bool
 
 // Whether the policy path in one slot matches the field's path in the other.
 pub fn matches(lines: &[u8], steps: &[u8], slot: &[u8]) -> bool
-    requires { ⌜ (544 ≤ length (now lines)) × (421 ≤ length (now steps)) × (103 ≤ length (now slot)) ⌝ }
+    requires { ⌜ (bindingsBytes ≤ length (now lines)) × (stepsSlot ≤ length (now steps)) × (pathSlot ≤ length (now slot)) ⌝ }
     ensures { λ r. ⌜ r ≡ matches (bindingsIn (now (lines .entry))) (stepsIn (now (steps .entry))) (pathIn (now (slot .entry))) ⌝ }
 {
     if !may_match(steps, slot) {
@@ -153,14 +160,14 @@ pub fn matches(lines: &[u8], steps: &[u8], slot: &[u8]) -> bool
 
 // How many first steps admit the first keys, one each, where the first `from` do.
 pub fn admitted(lines: &[u8], steps: &[u8], slot: &[u8], from: usize) -> usize
-    requires { ⌜ (544 ≤ length (now lines)) × (421 ≤ length (now steps)) × (103 ≤ length (now slot)) ⌝ }
+    requires { ⌜ (bindingsBytes ≤ length (now lines)) × (stepsSlot ≤ length (now steps)) × (pathSlot ≤ length (now slot)) ⌝ }
     requires { ⌜ from ≤ admitted (bindingsIn (now lines)) (stepsIn (now steps)) (pathIn (now slot)) ⌝ }
     ensures { λ r. ⌜ r ≡ admitted (bindingsIn (now (lines .entry))) (stepsIn (now (steps .entry))) (pathIn (now (slot .entry))) ⌝ }
 {
-    let n = count(slot, count(steps, 6));
+    let n = count(slot, count(steps, MAX_DEPTH));
     let mut i = from;
     while i < n {
-        if !admits(lines, row(steps, i), name_at(slot, i)) {
+        if !admits(lines, row_at(steps, STEP, i), key_at(slot, i)) {
             return i;
         }
         i += 1;

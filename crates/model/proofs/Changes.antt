@@ -8,7 +8,7 @@ use lib.Seq.{getD-set-same, getD-set-other}
 use native.Mathlib.Omega.{arith}
 use Rattle.model.specs.Base.{Bytes}
 use Rattle.model.specs.Values.{Value}
-use Rattle.model.specs.Fields.{Keys, Field, put, store}
+use Rattle.model.specs.Fields.{Keys, Field, put, store, fieldOf}
 use Rattle.model.specs.Refusals.{Result, refused, done}
 use Rattle.model.specs.Opening.{LoginState, State, emptyLogin, kept, afterOpening}
 use Rattle.model.specs.Requests.{Request, login, get, push, requestOf}
@@ -161,10 +161,10 @@ module _ (loaded : ℕ) (s : State) (r : Running loaded s) where
   stored-one : (s₁ : State) (n : ℕ) (p : Keys) (v : Value) (i : ℕ) (a : LoginState) (f : Field) → Stored s n p v i a f → s₁ ≡ apply (stores i a f) s → Pushed s s₁ (indexIn n) p v
   unfolding apply loginAt
   stored-one s₁ n p v i a f d e =
-      let x : store f (s .fields) ≡ put (record { path = p; value = v }) (s .fields) = store-is-put loaded s r n p v i a f d ∙ ap (λ (g : Field). put g (s .fields)) (d .field) in
+      let x : store f (s .fields) ≡ put (fieldOf p v) (s .fields) = store-is-put loaded s r n p v i a f d ∙ ap (λ (g : Field). put g (s .fields)) (d .field) in
       rw (e, ← d .index, x) (record {
-        holdsValue = value-put (record { path = p; value = v }) (s .fields);
-        otherFields = λ q k. value-other (record { path = p; value = v }) q (s .fields) (r .sorted) k;
+        holdsValue = value-put (fieldOf p v) (s .fields);
+        otherFields = λ q k. value-other (fieldOf p v) q (s .fields) (r .sorted) k;
         ownLogin = login-own s i a (user-place loaded s r i (d .user) (d .isUser)) ∙ d .after;
         otherLogins = λ j k. login-other s i j a k;
         tablesStay = refl;

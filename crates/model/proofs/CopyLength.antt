@@ -1,5 +1,5 @@
 -- How long a copy is at most, from the limits of the tables.
-use Prim.Native.Nat.{ℕ, _*_, _≤_}
+use Prim.Native.Nat.{ℕ, suc, _+_, _*_, _≤_}
 use mathlib.Core.Path.{_≡_}
 use mathlib.Core.Option.{some}
 use mathlib.Core.List.{List, [], _∷_, map}
@@ -7,7 +7,7 @@ use lib.ListN.{length, length-append}
 use native.Mathlib.Nat.{mul-suc}
 use native.Mathlib.Omega.{arith}
 use Rattle.model.specs.Base.{text, keep, joined, between}
-use Rattle.model.specs.Limits.{maxCopy}
+use Rattle.model.specs.Limits.{maxName, maxKey, maxPathText, maxFields, maxCopy}
 use Rattle.model.specs.Fields.{Fields}
 use Rattle.model.specs.SavedText.{saved}
 use Rattle.model.specs.Tables.{Binding, User, Access, READ, WRITE, Rule, Tables, userAt}
@@ -15,6 +15,7 @@ use Rattle.model.specs.Rights.{isFor}
 use Rattle.model.specs.Serving.{accessText, tableLine, ruleLine, bindingLine, copyOf}
 use Rattle.model.proofs.Lists.{All, all-imp, all-keep, all-elem, length-keep-le}
 use Rattle.model.proofs.Spelling.{name-named, key-named, steps-length}
+use Rattle.model.proofs.SavedLength.{savedField}
 use Rattle.model.proofs.TablesRead.{ValidBinding, ValidUser, ValidRule, ValidTables}
 
 -- ── Joining ──
@@ -31,8 +32,19 @@ unfolding accessText text
 access-length READ = omega arith
 access-length WRITE = omega arith
 
--- 16 + 1 + 5 + 1 + 121 + 1
-rule-length : (u : User) (r : Rule) → ValidUser u → ValidRule r → length (ruleLine u r) ≤ 145
+-- the role, the access and the path, with `;` between and 0A
+abbrev ruleText : ℕ
+ruleText = maxName + 1 + 5 + 1 + maxPathText + 1
+
+-- the name and the value
+abbrev bindingText : ℕ
+bindingText = maxName + 1 + maxKey + 1
+
+-- any record
+abbrev pub savedText : ℕ
+savedText = suc savedField * maxFields
+
+rule-length : (u : User) (r : Rule) → ValidUser u → ValidRule r → length (ruleLine u r) ≤ ruleText
 unfolding ruleLine tableLine between text
 rule-length u r v w = simp length-append (omega (
   arith,
@@ -41,15 +53,14 @@ rule-length u r v w = simp length-append (omega (
   steps-length (w .read .0) (r .path) (w .read .1),
 ))
 
--- 16 + 1 + 16 + 1
-binding-length : (b : Binding) → ValidBinding b → length (bindingLine b) ≤ 34
+binding-length : (b : Binding) → ValidBinding b → length (bindingLine b) ≤ bindingText
 unfolding bindingLine tableLine between text
 binding-length b v = simp length-append (omega (arith, name-named (b .name) (v .name) .high, key-named (b .value) (v .value) .high))
 
 -- ── The copy ──
--- 17 + 64 * 145 + 11 + 16 * 34 + 41216 + 1
+-- the two heads, all lines, any record, and 0A
 pub copy-length : (ts : Tables) (i : ℕ) (u : User) (gs : Fields) → ValidTables ts → userAt (ts .users) i ≡ some u →
-    length (saved gs) ≤ 41216 → length (copyOf (ts .policy) u gs) ≤ maxCopy
+    length (saved gs) ≤ savedText → length (copyOf (ts .policy) u gs) ≤ maxCopy
 unfolding copyOf userAt tableLine between text joined
 copy-length ts i u gs v e k =
     let w = all-elem ValidUser (ts .users) i u e (v .users .each) in
@@ -61,6 +72,6 @@ copy-length ts i u gs v e k =
       v .policy .few,
       w .environment .few,
       length-keep-le (isFor u) (ts .policy),
-      joined-length (ruleLine u) 145 rs rules,
-      joined-length bindingLine 34 (u .environment) bindings,
+      joined-length (ruleLine u) ruleText rs rules,
+      joined-length bindingLine bindingText (u .environment) bindings,
     ))

@@ -8,7 +8,7 @@ use native.Mathlib.Omega.{arith}
 use borrow.Author.Tests.{not-false, leb-false}
 use Rattle.model.specs.Base.{Bytes, isSome}
 use Rattle.model.specs.Values.{Value}
-use Rattle.model.specs.Fields.{Keys, Field, holds}
+use Rattle.model.specs.Fields.{Keys, Field, holds, fieldOf}
 use Rattle.model.specs.Refusals.{done, _>>=_, _>>_}
 use Rattle.model.specs.Tables.{User, Tables, userAt, userNamed}
 use Rattle.model.specs.Rights.{mayWrite}
@@ -38,7 +38,7 @@ pub record Entered (s : State) (n : Bytes) (i : ℕ) (a : LoginState) : Type 0 w
 -- a push: by a user who may write the path, within the quota
 pub record Stored (s : State) (n : ℕ) (p : Keys) (v : Value) (i : ℕ) (a : LoginState) (f : Field) : Type 0 where
   pub index : i ≡ indexIn n
-  pub field : f ≡ record { path = p; value = v }
+  pub field : f ≡ fieldOf p v
   pub user : User
   pub isUser : userAt (s .tables .users) i ≡ some user
   pub writes : mayWrite (s .tables .policy) user p ≡ true
@@ -114,13 +114,13 @@ push-decided s n p v room c h =
     within u h e = leb-false _ _ (rw e at h)
 
     go : (c : Change) (u : User) → userAt (s .tables .users) i ≡ some u → mayWrite (s .tables .policy) u p ≡ true →
-        (held ≡ false → loginAt s i .created < u .quota) → stores i (creating (loginAt s i) held) (record { path = p; value = v }) ≡ c → Decided s (push n p v) c
+        (held ≡ false → loginAt s i .created < u .quota) → stores i (creating (loginAt s i) held) (fieldOf p v) ≡ c → Decided s (push n p v) c
     go (enters j a) u e w q h = enters-stores (sym h)
     go (shows t) u e w q h = shows-stores (sym h)
     go (stores j a f) u e w q h =
         let x : i ≡ j = cc in
         let y : a ≡ creating (loginAt s i) held = cc in
-        let z : f ≡ record { path = p; value = v } = cc in
+        let z : f ≡ fieldOf p v = cc in
         record { index = sym x; field = z; user = u; isUser = rw x at e; writes = w; after = rw (← x) y; room = rw (← x) q }
 
 pub decided : (s : State) (q : Request) (room : ℕ) (c : Change) → decide s q room ≡ done c → Decided s q c

@@ -10,7 +10,7 @@ use native.Mathlib.Omega.{arith}
 use Rattle.model.specs.Base.{Bytes, text, among, _==_, _>>=_, within, isDigit}
 use Rattle.model.specs.Limits.{maxDepth, maxFields}
 use Rattle.model.specs.Values.{Value, valueText}
-use Rattle.model.specs.Fields.{Keys, Field, Fields, andThen, lex, orderKey, orderPath, put, store}
+use Rattle.model.specs.Fields.{Keys, Field, Fields, andThen, lex, orderKey, orderPath, put, store, fieldOf}
 use Rattle.model.specs.RecordText.{Node, leaf, object, Members, noMembers, isBlank, asNode, treeOf}
 use Rattle.model.specs.RecordText.{keysIn, twiceIn, twice, countIn, count, storeNode, storeMembers, Opened}
 use Rattle.model.specs.SavedText.{descend, ascend, turn, savedBehind, saved}
@@ -71,7 +71,7 @@ record Arrives (d : ℕ) (x : Option (Node × Bytes)) (u : Node) (q : Keys) (w :
   good : All (Good (length s)) frames
   reads : x ≡ resume d frames (leaf w, s)
   stores : (p : Keys) (fs : Fields) →
-      storeNode p (around frames (leaf w)) fs ≡ store (record { path = p ++ q; value = w }) (storeNode p u fs)
+      storeNode p (around frames (leaf w)) fs ≡ store (fieldOf (p ++ q) w) (storeNode p u fs)
   counts : countIn (around frames (leaf w)) ≡ suc (countIn u)
 
 -- the same inside one more object g; o is the tree before

@@ -10,7 +10,7 @@ use borrow.Author.Tests.{not-false}
 use Rattle.model.specs.Base.{Bytes, any, among, isSome, _==_, _>>=_, _>>_}
 use Rattle.model.specs.Limits.{maxUsers}
 use Rattle.model.specs.Values.{Value}
-use Rattle.model.specs.Fields.{Keys, Field, Fields, orderPath, valueAt, holds, put}
+use Rattle.model.specs.Fields.{Keys, Field, Fields, orderPath, valueAt, holds, put, fieldOf}
 use Rattle.model.specs.RecordText.{count}
 use Rattle.model.specs.Paths.{names, asSteps}
 use Rattle.model.specs.Refusals.{done}
@@ -53,7 +53,7 @@ module _ (x : Bytes) (n : ℕ) (p : Keys) (v : Value) where
       bind-some _ _ _ h₁ λ m e₂ h₂.
       get-push (some-same h₂)
 
-  read-push : readPush x ≡ some (push n p v) → Valid (record { path = p; value = v })
+  read-push : readPush x ≡ some (push n p v) → Valid (fieldOf p v)
   unfolding readPush
   read-push h =
       bind-some _ _ _ h λ r e₁ h₁.
@@ -67,7 +67,7 @@ module _ (x : Bytes) (n : ℕ) (p : Keys) (v : Value) where
       let j : y ≡ v = cc in
       record { path = rw i at (keys-valid _ q e₅); value = rw j at (value-of-valid _ y e₆) }
 
-  pub push-valid : requestOf x ≡ some (push n p v) → Valid (record { path = p; value = v })
+  pub push-valid : requestOf x ≡ some (push n p v) → Valid (fieldOf p v)
   unfolding requestOf
   push-valid h = check-some _ _ _ h λ c k. either-some _ _ _ k read-push λ e. either-some _ _ _ e not-get not-login
 
@@ -176,7 +176,7 @@ module _ (t : Tables) (valid : ValidTables t) (u : User) (p : Keys) (writes : ma
 
 -- ── Each act keeps it ──
 module _ (loaded : ℕ) (s : State) (r : Running loaded s) (o : Sound s) where
-  module _ (n : ℕ) (p : Keys) (v : Value) (i : ℕ) (a : LoginState) (f : Field) (d : Stored s n p v i a f) (w : Valid (record { path = p; value = v })) where
+  module _ (n : ℕ) (p : Keys) (v : Value) (i : ℕ) (a : LoginState) (f : Field) (d : Stored s n p v i a f) (w : Valid (fieldOf p v)) where
     diverges : holds p (s .fields) ≡ false → DivergesFrom p (s .fields)
     diverges h = both (s .fields) (o .clear) (absent-all p (s .fields) (r .sorted) h)
       where
@@ -186,8 +186,8 @@ module _ (loaded : ℕ) (s : State) (r : Running loaded s) (o : Sound s) where
 
     apart-stores : Diverging (put f (s .fields))
     apart-stores = rw (d .field) (by-cases (holds p (s .fields))
-        (λ h. diverging-held (record { path = p; value = v }) (s .fields) h (o .apart))
-        (λ h. diverging-put (record { path = p; value = v }) (s .fields) (diverges h) (o .apart)))
+        (λ h. diverging-held (fieldOf p v) (s .fields) h (o .apart))
+        (λ h. diverging-put (fieldOf p v) (s .fields) (diverges h) (o .apart)))
 
     sound-stores : Sound (apply (stores i a f) s)
     unfolding apply

@@ -11,7 +11,7 @@ use native.Mathlib.Nat.{zero-add}
 use borrow.Author.Tests.{eqb-true, eq-eqb, le-ltb}
 use Rattle.model.specs.Base.{Bytes, keep, sum, range, _==_}
 use Rattle.model.specs.Limits.{maxFields, maxUsers, maxText, maxCopy, listRoom}
-use Rattle.model.specs.Fields.{Keys, Field, Fields, orderPath, byOrder, valueAt, put, store}
+use Rattle.model.specs.Fields.{Keys, Field, Fields, orderPath, byOrder, valueAt, put, store, fieldOf}
 use Rattle.model.specs.RecordText.{Members, treeOf, count, storeMembers}
 use Rattle.model.specs.SavedText.{saved}
 use Rattle.model.specs.Refusals.{Result, refused, done}
@@ -35,7 +35,7 @@ use Rattle.model.proofs.TablesRead.{ValidRule, ValidTables, opened-inv,
 use Rattle.model.proofs.TreeValid.{stored-count}
 use Rattle.model.proofs.SavedTree.{saved-reads}
 use Rattle.model.proofs.SavedLength.{saved-length, saved-length-some}
-use Rattle.model.proofs.CopyLength.{copy-length}
+use Rattle.model.proofs.CopyLength.{savedText, copy-length}
 use Rattle.model.proofs.Decisions.{Decided, decided}
 use Rattle.model.proofs.Invariant.{Within, totalCreated, within-sum, within-at, Running, store-is-put, next-state, at-end}
 use Rattle.model.proofs.Changes.{push-changes}
@@ -204,7 +204,7 @@ same-fields (x ∷ xs) (y ∷ ys) s t h = by-three (orderPath (x .path) (y .path
     (λ e.
     let p : x .path ≡ y .path = path-orders .same _ _ e in
     let v : x .value ≡ y .value = some-same (sym (value-same (x .path) x xs (path-orders .self _)) ∙ h (x .path) ∙ value-same (x .path) y ys e) in
-    ap₂ _∷_ (λ i. record { path = p i; value = v i }) (same-fields xs ys (s .1) (t .1) (tails p)))
+    ap₂ _∷_ (λ i. fieldOf (p i) (v i)) (same-fields xs ys (s .1) (t .1) (tails p)))
     (λ e. absurd (same-head y x ys xs (λ p. sym (h p)) (after-before _ _ e)))
   where
     tails : x .path ≡ y .path → (p : Keys) → valueAt p xs ≡ valueAt p ys
@@ -274,11 +274,11 @@ unfolding userAt loginAt
 within-quota t s r i u e = within-at (s .tables .users) (s .loginStates) i u e (ran t s r .running .within)
 
 -- ── Lengths ──
-readable-short : (rs : List Rule) (u : User) (gs : Fields) → All Valid gs → length gs ≤ maxFields → length (saved (readable rs u gs)) ≤ 41216
+readable-short : (rs : List Rule) (u : User) (gs : Fields) → All Valid gs → length gs ≤ maxFields → length (saved (readable rs u gs)) ≤ savedText
 unfolding readable
 readable-short rs u gs v h = short (keep (λ f. mayRead rs u (f .path)) gs) (all-keep _ _ gs v) (omega (arith, h, length-keep-le (λ (f : Field). mayRead rs u (f .path)) gs))
   where
-    short : (gs : Fields) → All Valid gs → length gs ≤ maxFields → length (saved gs) ≤ 41216
+    short : (gs : Fields) → All Valid gs → length gs ≤ maxFields → length (saved gs) ≤ savedText
     short [] v h = omega (arith, saved-length value-length [] v)
     short (g ∷ gs) v h = omega (arith, saved-length-some value-length g gs v)
 

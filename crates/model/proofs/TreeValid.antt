@@ -12,7 +12,7 @@ use Rattle.model.specs.Base.{Bytes, any, among, isSome, _==_, _>>=_, _<|
 use Rattle.model.specs.Limits.{maxFields, maxDepth}
 use Rattle.model.specs.Names.{isKey}
 use Rattle.model.specs.Values.{Value, readValue}
-use Rattle.model.specs.Fields.{Keys, Field, Fields, orderPath, valueAt, holds, store, put}
+use Rattle.model.specs.Fields.{Keys, Field, Fields, orderPath, valueAt, holds, store, put, fieldOf}
 use Rattle.model.specs.RecordText.{skip, Node, leaf, object, Members, noMembers, member, readKey, readLeaf, readMore, readMembers, asNode, readObject, readEmpty, treeOf, keysIn, twiceIn, twice, countIn, count, storeNode, storeMembers}
 use Rattle.model.proofs.Lists.{never, or-neither, none-some, All, all-imp, all-append, all-take, true-all}
 use Rattle.model.proofs.Order.{path-orders, by-three, Sorted, sorted-put, sorted-take, all-put, value-less, holds-more, one, absent, length-put, store-fits}
@@ -52,7 +52,7 @@ Keyed P m = Each (λ k v. (isKey k ≡ true) × P v) m
 
 -- ── Storing a tree keeps Q of the fields: N is handed down from a node at its path to what it holds, and a leaf with N keeps Q ──
 module _ (N : Keys → Node → Type 0) (Q : Fields → Type 0)
-    (at-leaf : (p : Keys) (v : Value) (fs : Fields) → N p (leaf v) → Q fs → Q (store (record { path = p; value = v }) fs))
+    (at-leaf : (p : Keys) (v : Value) (fs : Fields) → N p (leaf v) → Q fs → Q (store (fieldOf p v) fs))
     (at-object : (p : Keys) (m : Members) → N p (object m) → Each (λ k. N (p ++ k ∷ [])) m) where
   mutual
     unfolding storeNode
@@ -106,7 +106,7 @@ object-stands (suc d) p m h a e = each-imp _ _ (λ k v n. record {
   deep = n .1;
 }) m e
 
-leaf-valid : (p : Keys) (v : Value) → Stands p (leaf v) → Valid (record { path = p; value = v })
+leaf-valid : (p : Keys) (v : Value) → Stands p (leaf v) → Valid (fieldOf p v)
 unfolding validKeys within
 leaf-valid p v n = record {
   path = rw (le-leb 1 (length p) (n .starts), le-leb (length p) maxDepth (omega (arith, n .fits)), true-all isKey p (n .keys));
@@ -140,7 +140,7 @@ module _ (Q : ℕ → Fields → Type 0) (new : (f : Field) (n : ℕ) (fs : Fiel
     unfolding storeNode twice count
 
     node-apart : (v : Node) (p : Keys) (n : ℕ) (fs : Fields) → twiceIn v ≡ false → DivergesFrom p fs → Q n fs → Q (n + countIn v) (storeNode p v fs)
-    node-apart (leaf v) p n fs t h q = new (record { path = p; value = v }) n fs h q
+    node-apart (leaf v) p n fs t h q = new (fieldOf p v) n fs h q
     node-apart (object m) p n fs t h q = members-apart m p n fs t h q
 
     members-apart : (m : Members) (p : Keys) (n : ℕ) (fs : Fields) → twice m ≡ false → DivergesFrom p fs → Q n fs → Q (n + count m) (storeMembers p m fs)

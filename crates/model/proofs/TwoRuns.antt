@@ -14,7 +14,7 @@ use borrow.Author.Tests.{eqb-true}
 use Rattle.model.specs.Base.{Bytes, if_then_else_, keep, joined, range, isSome}
 use Rattle.model.specs.Limits.{maxFields}
 use Rattle.model.specs.Values.{Value}
-use Rattle.model.specs.Fields.{Keys, Field, holds, put, store}
+use Rattle.model.specs.Fields.{Keys, Field, holds, put, store, fieldOf}
 use Rattle.model.specs.Refusals.{Result, refused, done, _>>=_, _>>_, refuse_if_, _or_}
 use Rattle.model.specs.Tables.{User, Rule, Tables, userAt, userNamed}
 use Rattle.model.specs.Rights.{matches, isWrite, isFor, mayRead, mayWrite}
@@ -142,7 +142,7 @@ module _ (In : ℕ → Bool) where
 
   after : State → Item → State
   after v (own t room) = afterOwn v room (requestOf t)
-  after v (others p x) = record { tables = v .tables; loginStates = v .loginStates; fields = store (record { path = p; value = x }) (v .fields) }
+  after v (others p x) = record { tables = v .tables; loginStates = v .loginStates; fields = store (fieldOf p x) (v .fields) }
 
   -- the numbers of the set's open sessions whose user may read the path, but those that `ok` leaves out
   listening : State → (ℕ → Bool) → Keys → List ℕ

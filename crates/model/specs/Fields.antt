@@ -18,6 +18,10 @@ pub record Field : Type 0 where
   pub path : Keys
   pub value : Value
 
+-- the field at the path p that holds v: the one place where a field is made
+abbrev pub fieldOf : Keys → Value → Field
+fieldOf p v = record { path = p; value = v }
+
 -- a record's fields, sorted by path
 abbrev pub Fields : Type 0
 Fields = List Field

@@ -9,7 +9,7 @@ use Rattle.model.specs.Base.{Bytes, text, among, _==_, _>>=_, _>>_, _<|>
 use Rattle.model.specs.Limits.{maxDepth}
 use Rattle.model.specs.Names.{nameByte, isKey}
 use Rattle.model.specs.Values.{Value, readValue}
-use Rattle.model.specs.Fields.{Keys, Fields, store}
+use Rattle.model.specs.Fields.{Keys, Fields, store, fieldOf}
 use Rattle.model.specs.Fields
 
 -- what a key holds: a value, or an object of members
@@ -110,7 +110,7 @@ unfoldable mutual
 -- the fields of a tree that stands at the path p, put into fields in the order of the text
 unfoldable mutual
   pub storeNode : Keys → Node → Fields → Fields
-  storeNode p (leaf v) fs = store (record { path = p; value = v }) fs
+  storeNode p (leaf v) fs = store (fieldOf p v) fs
   storeNode p (object m) fs = storeMembers p m fs
 
   pub storeMembers : Keys → Members → Fields → Fields

@@ -8,7 +8,7 @@ use lib.ListN.{length, drop, set, getD}
 use Rattle.model.specs.Base.{Bytes, text, if_then_else_, keep, joined, range, between, _==_}
 use Rattle.model.specs.Limits.{perUser, listRoom, maxLogins}
 use Rattle.model.specs.Values.{Value}
-use Rattle.model.specs.Fields.{Keys, Field, Fields, holds, store}
+use Rattle.model.specs.Fields.{Keys, Field, Fields, holds, store, fieldOf}
 use Rattle.model.specs.SavedText.{saved}
 use Rattle.model.specs.Paths.{stepsText}
 use Rattle.model.specs.Refusals.{Result, refused, done, _>>=_, _>>_, refuse_if_, _or_}
@@ -105,7 +105,7 @@ decidePush rs i u a held n p v = do
   refuse 14 if not (isSession i a n)
   refuse 16 if not (mayWrite rs u p)
   refuse 17 if not held && leb (u .quota) (a .created)
-  done (stores i (creating a held) (record { path = p; value = v }))
+  done (stores i (creating a held) (fieldOf p v))
 
 -- the length of what a request writes into, 0 where it writes into nothing
 unfoldable pub roomFor : Request → Bytes → List ℕ → ℕ

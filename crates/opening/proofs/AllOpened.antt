@@ -19,16 +19,16 @@ use Rattle.tables.specs.Memory.{tablesIn}
 use Rattle.record.specs.Slots.{fieldsIn}
 use Rattle.opening.specs.declared.answer.Opening.{Opening}
 use Rattle.opening.specs.declared.answer.Opening.the-variants.{Done, Refused}
-use Rattle.sessions.specs.Logins.{loginIn, loginsIn}
-use Rattle.opening.specs.Memory.{stateIn}
-use Rattle.opening.specs.Answers.{textsOf, tooLong, openingResult, openingAnswer, KeptIfRefused}
+use Rattle.sessions.specs.Logins.{loginNumbers, loginIn, loginsIn}
+use Rattle.opening.specs.Memory.{Arrays, arrays, stateIn}
+use Rattle.opening.specs.Answers.{textsOf, tooLong, openingResult, Opens}
 
 -- the state that opened tables and fields make
 abbrev pub fresh : Tables → Fields → State
 fresh tables fields = record { tables = tables; loginStates = emptyLogins; fields = fields }
 
--- 96 zeros are the login states of an opening
-pub no-logins : loginsIn (replicate 96 0) ≡ emptyLogins
+-- zeros are the login states of an opening
+pub no-logins : loginsIn (replicate loginNumbers 0) ≡ emptyLogins
 unfolding loginsIn loginIn rows emptyLogin emptyLogins
 no-logins = refl
 
@@ -82,15 +82,13 @@ module _ (u e p r : Bytes) where
         opened-done i = opened-short ∙ rw (← read, accepted, ← loaded, i)
 
 -- what a refusal answers and keeps
-pub refusal : (texts : Texts) (tables : Bytes) (logins : List ℕ) (fields : Bytes) {answer : Opening} {k t l : ℕ}
-    → answer ≡ Refused k t l → opened texts ≡ refused (fault k t l)
-    → (answer ≡ openingAnswer (opened texts)) × ((stateIn tables logins fields ≡ afterOpening (stateIn tables logins fields) texts)
-    × (KeptIfRefused answer tables tables × KeptIfRefused answer logins logins × KeptIfRefused answer fields fields))
+pub refusal : (texts : Texts) (a : Arrays) {answer : Opening} {k t l : ℕ} → answer ≡ Refused k t l → opened texts ≡ refused (fault k t l)
+    → Opens a texts answer a
 unfolding afterOpening kept fault
-refusal texts tables logins fields i h = (rw (i, h), (rw h, rw i (refl, refl, refl)))
+refusal texts a i h = record { answered = rw (i, h); state = rw h; kept = rw i refl }
 
 -- what an accepted opening answers and leaves
-pub acceptance : (texts : Texts) (before : State) (tables fields : Bytes) → opened texts ≡ done (fresh (tablesIn tables) (fieldsIn fields))
-    → (Done ≡ openingAnswer (opened texts)) × ((stateIn tables (replicate 96 0) fields ≡ afterOpening before texts) × (Unit {0} × Unit {0} × Unit {0}))
+pub acceptance : (texts : Texts) (before : Arrays) (tables fields : Bytes) → opened texts ≡ done (fresh (tablesIn tables) (fieldsIn fields))
+    → Opens before texts Done (arrays tables (replicate loginNumbers 0) fields)
 unfolding afterOpening kept stateIn
-acceptance texts before tables fields h = (rw h, (rw (h, no-logins), (tt, tt, tt)))
+acceptance texts before tables fields h = record { answered = rw h; state = rw (h, no-logins); kept = tt }

@@ -6,8 +6,7 @@ use mathlib.Core.List.{List, []}
 use native.Mathlib.Omega.{arith}
 use lib.ListN.{length, take, drop}
 use lib.Seq.{take-all}
-use Rattle.rows.specs.Rows.{rows, upTo}
-use Rattle.rows.proofs.Table.{length-table}
+use Rattle.layout.proofs.Used.{table-fit, length-table, used-fit, row-left, rows-over}
 use Rattle.model.specs.Base.{Bytes, any}
 use Rattle.model.specs.Limits.{maxFields, maxRules}
 use Rattle.model.specs.Fields.{Field}
@@ -15,10 +14,9 @@ use Rattle.model.specs.Paths.{Steps, asSteps}
 use Rattle.model.specs.Tables.{Rule}
 use Rattle.model.specs.Rights.{conflictsWith}
 use Rattle.paths.specs.Layout.{pathIn}
-use Rattle.record.specs.Slots.{fieldIn, isEmpty, fieldsIn}
-use Rattle.steps.specs.Environments.{isEmptyRow}
-use Rattle.tables.specs.Memory.{ruleIn, policyIn}
-use Rattle.tables.proofs.Tabled.{length-decoded, counted-within, row-left, rows-over}
+use Rattle.record.specs.Slots.{slotBytes, recordBytes, fieldIn, fieldsIn}
+use Rattle.layout.specs.Layout.{inUse}
+use Rattle.tables.specs.Memory.{ruleRow, ruleIn, policyIn}
 
 -- a field is in conflict with a WRITE line of the policy
 abbrev pub conflicts : List Rule → Field → Bool
@@ -27,26 +25,23 @@ conflicts rs f = any (conflictsWith (asSteps (f .path))) rs
 -- a policy in memory has at most 64 lines
 all-rules : (s : Bytes) → take maxRules (policyIn s) ≡ policyIn s
 unfolding policyIn
-all-rules s = take-all maxRules (policyIn s) (length-table isEmptyRow ruleIn 439 maxRules s)
+all-rules s = take-all maxRules (policyIn s) (table-fit ruleIn ruleRow maxRules s)
 
 -- n fields were counted
 module _ (s : Bytes) {n : ℕ} (counted : n ≡ length (fieldsIn s)) (i : ℕ) where
-  in-use : n ≡ length (upTo isEmpty (rows 138 maxFields s))
+  in-use : n ≡ length (inUse slotBytes maxFields s)
   unfolding fieldsIn
-  in-use = counted ∙ length-decoded isEmpty fieldIn 138 maxFields s
+  in-use = counted ∙ length-table fieldIn slotBytes maxFields s
 
   pub fields-over : n ≤ i → drop i (fieldsIn s) ≡ []
   unfolding fieldsIn
-  fields-over h = rows-over isEmpty fieldIn 138 maxFields s in-use i h
+  fields-over h = rows-over fieldIn slotBytes maxFields s in-use i h
 
   module _ (below : i < n) where
-    pub slot-inside : length s ≡ 35328 → i * 138 + 138 ≤ length s
-    slot-inside l = omega (arith, counted-within isEmpty fieldIn 138 maxFields s in-use)
-
     -- the field in the slot at i, whose path has the steps q, is in conflict with a policy, or a later one is
-    pub conflicts-left : (policy : Bytes) {slot : Bytes} {q : Steps} {r : Bool} → slot ≡ take 138 (drop (i * 138) s) → q ≡ asSteps (pathIn slot)
+    pub conflicts-left : (policy : Bytes) {slot : Bytes} {q : Steps} {r : Bool} → slot ≡ take slotBytes (drop (i * slotBytes) s) → q ≡ asSteps (pathIn slot)
         → r ≡ any (conflictsWith q) (take maxRules (policyIn policy))
         → any (conflicts (policyIn policy)) (drop i (fieldsIn s)) ≡ (r || any (conflicts (policyIn policy)) (drop (i + 1) (fieldsIn s)))
     unfolding any fieldIn fieldsIn
     conflicts-left policy is steps t =
-        rw (row-left isEmpty fieldIn 138 maxFields s in-use i below is, t, all-rules policy, steps)
+        rw (row-left fieldIn slotBytes maxFields s in-use i below is, t, all-rules policy, steps)

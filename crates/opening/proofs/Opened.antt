@@ -1,13 +1,12 @@
 -- A record's text opened: the reader's answer, the number of fields and a conflict decide, in the order of the definition.
-use Prim.Native.Nat.{ℕ, _+_, _-_, _≤_, _<_}
+use Prim.Native.Nat.{ℕ, _+_, _≤_, _<_}
 use mathlib.Core.Path.{_≡_, refl, sym, _∙_}
 use mathlib.Core.Bool.{Bool}
 use mathlib.Core.Option.{Option, none, some}
 use mathlib.Core.List.{[]}
 use native.Mathlib.Omega.{arith}
 use borrow.Author.Tests.{lt-ltb, le-ltb, le-leb}
-use lib.ListN.{length, take, drop}
-use Rattle.rows.proofs.Parts.{tail-part}
+use lib.ListN.{drop}
 use Rattle.model.specs.Base as base
 use Rattle.model.specs.Base.{Bytes, any}
 use Rattle.model.specs.Limits.{maxFields}
@@ -19,7 +18,7 @@ use Rattle.record.specs.Slots.{fieldsIn}
 use Rattle.reader.specs.Summaries.{readingOf}
 use Rattle.loader.specs.Loaded.{fieldsOf, HoldsOrKeeps}
 use Rattle.loader.proofs.Loading.{tree}
-use Rattle.tables.specs.Memory.{usersIn, policyIn, tablesIn}
+use Rattle.tables.specs.Memory.{usersBytes, usersIn, policyIn, tablesIn}
 use Rattle.opening.proofs.Conflicting.{conflicts}
 
 module _ (tables s : Bytes) where
@@ -42,11 +41,11 @@ module _ (tables s : Bytes) where
 
     -- the table then holds them; r, which is v, says whether one of them is in conflict with the policy behind the users
     pub opened-few : n + quotas (usersIn tables) ≤ maxFields → (old new : Bytes) → HoldsOrKeeps (fieldsOf s) old new
-        → {r v : Bool} → r ≡ any (conflicts (policyIn (take (length tables - 19104) (drop 19104 tables)))) (fieldsIn new) → r ≡ v
+        → {policy : Bytes} → policy ≡ drop usersBytes tables → {r v : Bool} → r ≡ any (conflicts (policyIn policy)) (fieldsIn new) → r ≡ v
         → ((refuse fault 5 4 0 if v) >> done (fieldsIn new)) ≡ openRecord (tablesIn tables) s
     unfolding openRecord tablesIn fieldsOf base.check base._>>=_ base._>>_ Opened
-    opened-few h old new held t e =
+    opened-few h old new held behind t e =
         let (m, i, once, c) = tree s n read in
         let all : fieldsOf s ≡ some (storeMembers [] m []) = rw (i, once, c, le-leb n maxFields (omega arith)) in
         let is : fieldsIn new ≡ storeMembers [] m [] = rw all at held in
-        rw (← e, t, tail-part 19104 tables, is, i, once, c, le-ltb maxFields (n + quotas (usersIn tables)) h)
+        rw (← e, t, behind, is, i, once, c, le-ltb maxFields (n + quotas (usersIn tables)) h)

@@ -4,14 +4,11 @@ use mathlib.Core.Path.{_≡_, refl, sym, ap, _∙_}
 use mathlib.Core.Bool.{_&&_}
 use mathlib.Core.Option.{Option, none, some}
 use mathlib.Core.List.{List, [], _∷_, _++_}
-use native.Mathlib.Nat.{zero-mul}
 use native.Mathlib.Omega.{arith}
-use borrow.Author.Tests.{eq-eqb, not-false}
+use borrow.Author.Tests.{not-false}
 use lib.ListN.{length, getD, set, take, drop, length-set}
 use lib.Seq.{getD-drop, getD-set-same, getD-set-other}
-use Rattle.rows.specs.Rows.{table}
-use Rattle.rows.proofs.Parts.{tail-part, part-at}
-use Rattle.rows.proofs.Table.{table-start, table-stop}
+use Rattle.layout.proofs.Used.{table-none}
 use Rattle.model.specs.Base.{Bytes, any}
 use Rattle.model.specs.Refusals.{Result, refused, done, _>>=_, _>>_}
 use Rattle.model.specs.Table.{Table, Line, ended, broken, lines, split, inLine, isHead, readRow, readRows, readLines, readTable}
@@ -19,8 +16,7 @@ use Rattle.model.specs.Tables.{User, Rule, Tables}
 use Rattle.model.specs.Rights.{isWrite, conflictsWith}
 use Rattle.model.specs.Opening.{Fault, fault, from, conflictFrom, refuseAt, checkPolicy, openTables}
 use Rattle.model.proofs.Lists.{by-cases, refused-done, done-same, none-some, if-done}
-use Rattle.steps.specs.Environments.{isEmptyRow}
-use Rattle.tables.specs.Memory.{userIn, usersIn, ruleIn, policyIn, tablesIn}
+use Rattle.tables.specs.Memory.{userRow, usersBytes, ruleRow, tablesBytes, userIn, usersIn, ruleIn, policyIn, tablesIn}
 use Rattle.tables.specs.Grants.{lineNumber}
 use Rattle.tabletext.specs.Reading.{inUsers, inPolicy, tableOf, tableAnswer, ifDone, rowsAsFar, linesAsFar, tablesAsFar}
 use Rattle.tabletext.proofs.Lined.{Answered}
@@ -28,6 +24,7 @@ use Rattle.tabletext.specs.declared.read.Table.the-variants.{Users, Environment
 use Rattle.tabletext.specs.declared.read.TableRead.{TableRead}
 use Rattle.tabletext.specs.declared.read.TableRead.the-variants as table-read
 use Rattle.opening.specs.Answers.{textsOf}
+use Rattle.model.specs.Limits.{maxUsers, maxRules}
 
 -- ── A text read to its end: what its lines added is what was read ──
 module _ {A : Type 0} (t : Table A) where
@@ -137,23 +134,16 @@ module _ (rs : List Rule) {n : ℕ} (is : n ≡ lineNumber (conflictFrom 2 [] rs
       go (some l) i = let e : n ≡ l = is ∙ ap lineNumber i in absurd (omega (arith, conflict-behind 2 [] rs l i))
 
 -- ── A memory without users and policy ──
-abbrev noTables : Tables
+abbrev pub noTables : Tables
 noTables = record { users = []; policy = [] }
 
--- the first row is empty
-pub first-empty : {B : Type 0} (decode : Bytes → B) (k n : ℕ) (s : Bytes) → 0 < k → 0 < n → getD s 0 0 ≡ 0 → table isEmptyRow decode k n s ≡ []
-unfolding isEmptyRow
-first-empty decode k n s p q h =
-    let e : getD (take k (drop 0 s)) 0 0 ≡ 0 = part-at 0 k s 0 0 p ∙ h in
-    table-start isEmptyRow decode k n s ∙ table-stop isEmptyRow decode k 0 n s q (rw zero-mul (eq-eqb _ _ e))
-
-emptied : (s : Bytes) → length s ≡ 47200 → tablesIn (set (set s 0 0) 19104 0) ≡ noTables
+pub emptied : (s : Bytes) → length s ≡ tablesBytes → tablesIn (set (set s 0 0) usersBytes 0) ≡ noTables
 unfolding tablesIn usersIn policyIn
 emptied s l =
-    let m = set (set s 0 0) 19104 0 in
-    let users : getD m 0 0 ≡ 0 = getD-set-other (set s 0 0) 19104 0 0 0 (λ e. omega arith) ∙ getD-set-same s 0 0 0 (omega arith) in
-    let policy : getD (drop 19104 m) 0 0 ≡ 0 = getD-drop 19104 m 0 0 ∙ getD-set-same (set s 0 0) 19104 0 0 (rw length-set (omega arith)) in
-    rw (first-empty userIn 597 32 m (omega arith) (omega arith) users, first-empty ruleIn 439 64 (drop 19104 m) (omega arith) (omega arith) policy)
+    let m = set (set s 0 0) usersBytes 0 in
+    let users : getD m 0 0 ≡ 0 = getD-set-other (set s 0 0) usersBytes 0 0 0 (λ e. omega arith) ∙ getD-set-same s 0 0 0 (omega arith) in
+    let policy : getD (drop usersBytes m) 0 0 ≡ 0 = getD-drop usersBytes m 0 0 ∙ getD-set-same (set s 0 0) usersBytes 0 0 (rw length-set (omega arith)) in
+    rw (table-none userIn userRow maxUsers m (omega arith) users, table-none ruleIn ruleRow maxRules (drop usersBytes m) (omega arith) policy)
 
 -- ── The three readings, each in both tables ──
 module _ (users environments policy : Bytes) where
@@ -175,10 +165,10 @@ module _ (users environments policy : Bytes) where
       table-in (whole []) _ _ refl (λ val us. refl) 2 us environments _ _ (λ vs.
       table-in (λ rs. whole rs vs) _ _ refl (λ val rs. refl) 3 [] policy _ _ (λ rs. refl))))
 
-  -- from the memory s₀, once it is emptied, to the tables m₁ with the answer r₁: a refusal decides
-  module _ (s₀ : Bytes) {m₁ : Tables} {r₁ : TableRead} (first : Answered (tableOf Users) (tablesIn (set (set s₀ 0 0) 19104 0)) users r₁ m₁) (long : length s₀ ≡ 47200) where
-    started : opening ≡ (from 1 (readTable (tableOf Users) (tablesIn (set (set s₀ 0 0) 19104 0)) users) >>= withEnvironments)
-    started = in-both _ (emptied s₀ long)
+  -- from no tables to the tables m₁ with the answer r₁: a refusal decides
+  module _ {m₀ : Tables} (start : m₀ ≡ noTables) {m₁ : Tables} {r₁ : TableRead} (first : Answered (tableOf Users) m₀ users r₁ m₁) where
+    started : opening ≡ (from 1 (readTable (tableOf Users) m₀ users) >>= withEnvironments)
+    started = in-both m₀ start
 
     pub users-refused : {e n : ℕ} → r₁ ≡ table-read.Refused e n → refused (fault e 1 n) ≡ opening
     unfolding from _>>=_
@@ -207,15 +197,15 @@ module _ (users environments policy : Bytes) where
             policy-refused told = sym (environments-done ∙ rw (read-refused _ m₂ (tablesIn s) policy third told))
 
             -- and n is the line of the first conflict in the policy behind the users
-            module _ (told₃ : r₃ ≡ table-read.Done) {n : ℕ} (line : n ≡ lineNumber (conflictFrom 2 [] (policyIn (take (length s - 19104) (drop 19104 s))))) where
-              checked : {q : Result Fault (Unit {0})} → checkPolicy (policyIn (drop 19104 s)) ≡ q → (q >> done (tablesIn s)) ≡ opening
+            module _ (told₃ : r₃ ≡ table-read.Done) {n : ℕ} (line : n ≡ lineNumber (conflictFrom 2 [] (policyIn (drop usersBytes s)))) where
+              checked : {q : Result Fault (Unit {0})} → checkPolicy (policyIn (drop usersBytes s)) ≡ q → (q >> done (tablesIn s)) ≡ opening
               unfolding withPolicy tablesIn from _>>=_
               checked e = sym (environments-done ∙ rw (read-done _ m₂ (tablesIn s) policy third told₃, e))
 
               pub in-conflict : (n ≡ 0 → ⊥) → refused (fault 5 3 n) ≡ opening
               unfolding _>>_
-              in-conflict h = checked (policy-conflict (policyIn (drop 19104 s)) (rw (tail-part 19104 s) at line) h)
+              in-conflict h = checked (policy-conflict (policyIn (drop usersBytes s)) line h)
 
               pub accepted : n ≡ 0 → done (tablesIn s) ≡ opening
               unfolding _>>_
-              accepted h = checked (policy-free (policyIn (drop 19104 s)) (rw (tail-part 19104 s) at line) h)
+              accepted h = checked (policy-free (policyIn (drop usersBytes s)) line h)

@@ -6,7 +6,8 @@ use lib.ListN.{length}
 use Rattle.model.specs.Base.{Bytes, if_then_else_}
 use Rattle.model.specs.Limits.{maxText}
 use Rattle.model.specs.Refusals.{Result, refused, done}
-use Rattle.model.specs.Opening.{Texts, Fault, fault}
+use Rattle.model.specs.Opening.{Texts, Fault, fault, opened, afterOpening}
+use Rattle.opening.specs.Memory.{Arrays, stateOf}
 use Rattle.opening.specs.declared.answer.Opening.{Opening}
 use Rattle.opening.specs.declared.answer.Opening.the-variants.{Done, Refused}
 
@@ -30,7 +31,13 @@ abbrev pub openingAnswer : {A : Type 0} → Result Fault A → Opening
 openingAnswer (refused f) = Refused (f .number) (f .inText) (f .line)
 openingAnswer (done a) = Done
 
--- a refusal keeps an array, byte for byte
+-- a refusal keeps what was lent, byte for byte
 abbrev pub KeptIfRefused : {A : Type 0} → Opening → A → A → Type 0
 KeptIfRefused Done before now = Unit {0}
 KeptIfRefused (Refused n t l) before now = now ≡ before
+
+-- four texts opened: what is answered, and what the arrays are afterwards
+pub record Opens (before : Arrays) (texts : Texts) (answer : Opening) (after : Arrays) : Type 0 where
+  pub answered : answer ≡ openingAnswer (opened texts)
+  pub state : stateOf after ≡ afterOpening (stateOf before) texts
+  pub kept : KeptIfRefused answer before after

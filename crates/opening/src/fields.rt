@@ -1,48 +1,51 @@
 // The record's text opened against the tables.
 use crate::answer::Opening;
+use layout::table::row_at;
+use layout::table::row_count;
 use loader::read_record;
 use matching::conflict::steps_of;
 use reader::grammar::RecordRead;
+use record::table::RECORD;
 use record::table::SLOTS;
 use record::table::count;
 use record::table::slot_at;
 use tables::conflicts::has_conflict;
-use tables::layout::POLICY;
-use tables::layout::RULES;
-use tables::layout::USER;
-use tables::layout::USERS;
-use tables::layout::quota;
-use tables::layout::row_at;
-use tables::layout::row_count;
+use tables::memory::RULES;
+use tables::memory::TABLES;
+use tables::memory::USER;
+use tables::memory::USERS;
+use tables::memory::policy_of;
+use tables::memory::quota;
 ghost use mathlib.Core.Path.{_≡_};
 ghost use Prim.Native.Nat.{_≤_};
 ghost use lib.ListN.{length};
 ghost use Rattle.model.specs.Base.{any};
+ghost use Rattle.model.specs.Limits.{maxText};
 ghost use Rattle.model.specs.Paths.{asSteps};
 ghost use Rattle.model.specs.Rights.{conflictsWith};
 ghost use Rattle.model.specs.Opening.{quotas, openRecord};
 ghost use Rattle.record.specs.Slots.{fieldsIn};
-ghost use Rattle.tables.specs.Memory.{usersIn, policyIn, tablesIn};
+ghost use Rattle.tables.specs.Memory.{usersBytes, policyBytes, usersIn, policyIn, tablesIn};
 ghost use Rattle.opening.specs.Answers.{openingResult};
 
 // All quotas together.
 fn all_quotas(users: &[u8]) -> usize
-    requires { ⌜ (19104 ≤ length (now users)) × (length (now users) ≤ 65536) ⌝ }
+    requires { ⌜ (usersBytes ≤ length (now users)) × (length (now users) ≤ maxText) ⌝ }
     ensures { λ r. ⌜ r ≡ quotas (usersIn (now (users .entry))) ⌝ }
 {
     let n = row_count(users, USER, USERS);
     let mut sum: usize = 0;
     let mut i: usize = 0;
     while i < n {
-        sum += quota(row_at(users, i, USER));
+        sum += quota(row_at(users, USER, i));
         i += 1;
     }
     sum
 }
 
 // Whether a field is in conflict with a WRITE line.
-fn has_conflicting_field(policy: &[u8], table: &[u8]) -> bool
-    requires { ⌜ (length (now policy) ≡ 28096) × (length (now table) ≡ 35328) ⌝ }
+fn has_conflicting_field(policy: &[u8], table: &[u8; RECORD]) -> bool
+    requires { ⌜ length (now policy) ≡ policyBytes ⌝ }
     ensures { λ r. ⌜ r ≡ any (λ f. any (conflictsWith (asSteps (f .path))) (policyIn (now (policy .entry)))) (fieldsIn (now (table .entry))) ⌝ }
 {
     let n = count(table);
@@ -58,8 +61,8 @@ fn has_conflicting_field(policy: &[u8], table: &[u8]) -> bool
 }
 
 // A record's text into a table.
-pub fn open_record(tables: &[u8], table: &mut [u8; 35328], s: &[u8]) -> Opening
-    requires { ⌜ (length (now tables) ≡ 47200) × (length (now s) ≤ 65536) ⌝ }
+pub fn open_record(tables: &[u8; TABLES], table: &mut [u8; RECORD], s: &[u8]) -> Opening
+    requires { ⌜ length (now s) ≤ maxText ⌝ }
     ensures { λ r. ⌜ openingResult r (fieldsIn (now (table .exit))) ≡ openRecord (tablesIn (now (tables .entry))) (now (s .entry)) ⌝ }
 {
     let read = read_record(table, s);
@@ -74,7 +77,7 @@ pub fn open_record(tables: &[u8], table: &mut [u8; 35328], s: &[u8]) -> Opening
     if SLOTS - n < all_quotas(tables) {
         return Opening::Refused(9, 4, 0);
     }
-    if has_conflicting_field(&tables[POLICY..], table) {
+    if has_conflicting_field(policy_of(tables), table) {
         return Opening::Refused(5, 4, 0);
     }
     Opening::Done

@@ -4,34 +4,28 @@ use crate::fields::open_record;
 use crate::store::copy_fields;
 use crate::store::copy_tables;
 use crate::texts::open_tables;
+use lexical::limits::MAX_TEXT;
+pub use record::table::RECORD;
+pub use sessions::LOGINS;
+pub use tables::memory::TABLES;
 ghost use mathlib.Core.Path.{_≡_};
-ghost use Rattle.model.specs.Opening.{opened, afterOpening};
-ghost use Rattle.opening.specs.Memory.{stateIn};
-ghost use Rattle.opening.specs.Answers.{textsOf, tooLong, openingAnswer, KeptIfRefused};
-
-// Users and their environment lines, and the policy.
-pub const TABLES: usize = 47200;
-
-// Logins, whether a session is open, and fields created, for each of 32 user indices.
-pub const LOGINS: usize = 96;
-
-// 256 slots of fields.
-pub const RECORD: usize = 35328;
+ghost use Rattle.opening.specs.Memory.{arrays};
+ghost use Rattle.opening.specs.Answers.{textsOf, tooLong, Opens};
 
 // The number of the first text that is longer than 65,536 bytes; 0 where none is.
 fn too_long(users: &[u8], environments: &[u8], policy: &[u8], text: &[u8]) -> usize
     ensures { λ r. ⌜ r ≡ tooLong (textsOf (now (users .entry)) (now (environments .entry)) (now (policy .entry)) (now (text .entry))) ⌝ }
 {
-    if 65536 < users.len() {
+    if MAX_TEXT < users.len() {
         return 1;
     }
-    if 65536 < environments.len() {
+    if MAX_TEXT < environments.len() {
         return 2;
     }
-    if 65536 < policy.len() {
+    if MAX_TEXT < policy.len() {
         return 3;
     }
-    if 65536 < text.len() {
+    if MAX_TEXT < text.len() {
         return 4;
     }
     0
@@ -47,9 +41,11 @@ pub fn open(
     policy: &[u8],
     text: &[u8],
 ) -> Opening
-    ensures { λ r. ⌜ r ≡ openingAnswer (opened (textsOf (now (users .entry)) (now (environments .entry)) (now (policy .entry)) (now (text .entry)))) ⌝ }
-    ensures { λ r. ⌜ stateIn (now (tables .exit)) (now (logins .exit)) (now (fields .exit)) ≡ afterOpening (stateIn (now (tables .entry)) (now (logins .entry)) (now (fields .entry))) (textsOf (now (users .entry)) (now (environments .entry)) (now (policy .entry)) (now (text .entry))) ⌝ }
-    ensures { λ r. ⌜ KeptIfRefused r (now (tables .entry)) (now (tables .exit)) × KeptIfRefused r (now (logins .entry)) (now (logins .exit)) × KeptIfRefused r (now (fields .entry)) (now (fields .exit)) ⌝ }
+    ensures { λ r. ⌜ Opens
+        (arrays (now (tables .entry)) (now (logins .entry)) (now (fields .entry)))
+        (textsOf (now (users .entry)) (now (environments .entry)) (now (policy .entry)) (now (text .entry)))
+        r
+        (arrays (now (tables .exit)) (now (logins .exit)) (now (fields .exit))) ⌝ }
 {
     let long = too_long(users, environments, policy, text);
     if long != 0 {

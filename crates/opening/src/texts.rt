@@ -1,25 +1,49 @@
 // The texts of the three tables opened together.
 use crate::answer::Opening;
 use tables::conflicts::first_conflict;
-use tables::layout::POLICY;
+use tables::memory::POLICY;
+use tables::memory::TABLES;
+use tables::memory::policy_of;
 use tabletext::read::Table;
 use tabletext::read::TableRead;
 use tabletext::read::read_table;
 ghost use mathlib.Core.Path.{_≡_};
 ghost use mathlib.Core.List.{[]};
 ghost use Prim.Native.Nat.{_≤_};
-ghost use lib.ListN.{length};
-ghost use Rattle.model.specs.Opening.{openTables};
-ghost use Rattle.tables.specs.Memory.{tablesIn};
+ghost use lib.ListN.{length, drop};
+ghost use Rattle.model.specs.Limits.{maxText};
+ghost use Rattle.model.specs.Opening.{conflictFrom, openTables};
+ghost use Rattle.tables.specs.Grants.{lineNumber};
+ghost use Rattle.tables.specs.Memory.{usersBytes, tablesBytes, policyIn, tablesIn};
 ghost use Rattle.opening.specs.Answers.{textsOf, openingResult};
 
-// The three tables' texts into memory.
-pub fn open_tables(tables: &mut [u8], users: &[u8], environments: &[u8], policy: &[u8]) -> Opening
-    requires { ⌜ (length (now tables) ≡ 47200) × (length (now users) ≤ 65536) × (length (now environments) ≤ 65536) × (length (now policy) ≤ 65536) ⌝ }
-    ensures { λ r. ⌜ openingResult r (tablesIn (now (tables .exit))) ≡ openTables (textsOf (now (users .entry)) (now (environments .entry)) (now (policy .entry)) []) ⌝ }
+// No users and no policy: the first row of each is empty.
+fn clear(tables: &mut [u8])
+    requires { ⌜ length (now tables) ≡ tablesBytes ⌝ }
+    ensures { λ _. ⌜ tablesIn (now (tables .exit)) ≡ record { users = []; policy = [] } ⌝ }
 {
     tables[0] = 0;
     tables[POLICY] = 0;
+}
+
+// The line of the first conflict among the policy's; 0 where there is none.
+fn conflict_in(tables: &[u8; TABLES]) -> usize
+    ensures { λ r. ⌜ r ≡ lineNumber (conflictFrom 2 [] (policyIn (drop usersBytes (now (tables .entry))))) ⌝ }
+{
+    first_conflict(policy_of(tables))
+}
+
+// The three tables' texts into memory.
+pub fn open_tables(
+    tables: &mut [u8; TABLES],
+    users: &[u8],
+    environments: &[u8],
+    policy: &[u8],
+) -> Opening
+    requires { ⌜ (length (now users) ≤ maxText) × (length (now environments) ≤ maxText) × (length (now policy) ≤ maxText) ⌝ }
+    ensures { λ r. ⌜ openingResult r (tablesIn (now (tables .exit))) ≡ openTables (textsOf (now (users .entry)) (now (environments .entry)) (now (policy .entry)) []) ⌝ }
+{
+    clear(tables);
     if let TableRead::Refused(e, n) = read_table(Table::Users, tables, users) {
         return Opening::Refused(e, 1, n);
     }
@@ -29,7 +53,7 @@ pub fn open_tables(tables: &mut [u8], users: &[u8], environments: &[u8], policy:
     if let TableRead::Refused(e, n) = read_table(Table::Policy, tables, policy) {
         return Opening::Refused(e, 3, n);
     }
-    let n = first_conflict(&tables[POLICY..]);
+    let n = conflict_in(tables);
     if n != 0 {
         return Opening::Refused(5, 3, n);
     }

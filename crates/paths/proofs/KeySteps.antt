@@ -20,7 +20,7 @@ use Rattle.lexical.specs.Classes.{readBetween, textAnswer}
 use Rattle.lexical.proofs.Runs.{byte-stands, bind-same}
 use Rattle.lexical.proofs.Between.{Stands, between-gives, between-leaves, between-bad, between-at, quoted-between}
 use Rattle.paths.specs.Fields.{keyAnswer}
-use Rattle.paths.proofs.Names.{push-whole}
+use Rattle.layout.proofs.Named.{push-whole}
 use Rattle.paths.proofs.InBrackets.{brackets-unopened, brackets-empty, brackets-unclosed, brackets-closed, brackets-give, brackets-leave}
 use Rattle.paths.proofs.WholePaths.{left, left-step}
 
@@ -102,7 +102,7 @@ module _ (s : Bytes) (at e : ℕ) (k : KeyStands s at e) (p p₁ : Keys)
   key-pushed =
       let m : e - 2 - (at + 2) ≡ e - 4 - at = omega arith in
       let key = take (e - 4 - at) (drop (at + 2) s) in
-      pushed ∙ rw m (push-whole maxDepth p key (omega arith) (simp length-take (omega (arith, k .at-most))))
+      pushed ∙ rw m (push-whole maxKey maxDepth p key (omega arith) (simp length-take (omega (arith, k .at-most))))
 
   pub key-turn : at < length s → (n + 1 ≡ length p₁) × (left readKeyStep p (drop at s) ≡ left readKeyStep p₁ (drop e s))
   key-turn h = rw key-pushed (rw length-append (omega arith), left-step readKeyStep s at p h (omega arith) _ e (k .reads))

@@ -1,7 +1,6 @@
--- Laws that the proofs cite, and callers too: the layout of slots, and reading, spelling and ordering paths.
-pub mod Names
-pub mod Counted
+-- Laws that the proofs cite, and callers too: reading, spelling and ordering paths, and what two share.
 pub mod Ordered
+pub mod Shared
 pub mod Spelled
 pub mod InBrackets
 pub mod WholePaths

@@ -3,31 +3,33 @@ use Prim.Native.Nat.{ℕ, _+_, _*_, _≤_, _<_, min, Ordering·lt, Ordering·eq,
 use mathlib.Core.Path.{_≡_}
 use mathlib.Core.List.{[]}
 use lib.ListN.{getD, take, drop}
+use Rattle.model.specs.Limits.{maxDepth}
 use Rattle.model.specs.Base.{Bytes}
 use Rattle.model.specs.Fields.{andThen, lex, orderKey}
 use Rattle.lexical.specs.Orders.{orderOf}
 use Rattle.lexical.specs.declared.slice.Order.{Order}
 use Rattle.lexical.proofs.Slices.{lex-shorter, lex-longer, lex-end, orderIn, order-told}
-use Rattle.paths.specs.Layout.{nameIn, pathIn}
-use Rattle.paths.proofs.Counted.{length-counted, counted-step}
+use Rattle.paths.specs.Layout.{pathIn}
+use Rattle.layout.specs.Layout.{keyRow, nameIn}
+use Rattle.layout.proofs.Counts.{length-counted, counted-step}
 
 module _ (a b : Bytes) (i : ℕ) where
-  pub paths-shorter : min (getD a 0 0) 6 ≤ i → i < min (getD b 0 0) 6 → lex orderKey (drop i (pathIn a)) (drop i (pathIn b)) ≡ Ordering·lt
+  pub paths-shorter : min (getD a 0 0) maxDepth ≤ i → i < min (getD b 0 0) maxDepth → lex orderKey (drop i (pathIn a)) (drop i (pathIn b)) ≡ Ordering·lt
   unfolding pathIn
   paths-shorter p q = lex-shorter orderKey [] _ _ i (rw length-counted p) (rw length-counted q)
 
-  pub paths-longer : i < min (getD a 0 0) 6 → min (getD b 0 0) 6 ≤ i → lex orderKey (drop i (pathIn a)) (drop i (pathIn b)) ≡ Ordering·gt
+  pub paths-longer : i < min (getD a 0 0) maxDepth → min (getD b 0 0) maxDepth ≤ i → lex orderKey (drop i (pathIn a)) (drop i (pathIn b)) ≡ Ordering·gt
   unfolding pathIn
   paths-longer p q = lex-longer orderKey [] _ _ i (rw length-counted p) (rw length-counted q)
 
-  pub paths-end : min (getD a 0 0) 6 ≤ i → min (getD b 0 0) 6 ≤ i → lex orderKey (drop i (pathIn a)) (drop i (pathIn b)) ≡ Ordering·eq
+  pub paths-end : min (getD a 0 0) maxDepth ≤ i → min (getD b 0 0) maxDepth ≤ i → lex orderKey (drop i (pathIn a)) (drop i (pathIn b)) ≡ Ordering·eq
   unfolding pathIn
   paths-end p q = lex-end orderKey [] _ _ i (rw length-counted p) (rw length-counted q)
 
   -- x and y are the keys at i, and the answer r of their comparison was matched with v
-  pub paths-step : {x y : Bytes} {r v : Order} → i < min (getD a 0 0) 6 → i < min (getD b 0 0) 6
-      → x ≡ nameIn (take 17 (drop (i * 17 + 1) a)) → y ≡ nameIn (take 17 (drop (i * 17 + 1) b)) → r ≡ orderOf (orderKey x y) → r ≡ v
+  pub paths-step : {x y : Bytes} {r v : Order} → i < min (getD a 0 0) maxDepth → i < min (getD b 0 0) maxDepth
+      → x ≡ nameIn (take keyRow (drop (i * keyRow + 1) a)) → y ≡ nameIn (take keyRow (drop (i * keyRow + 1) b)) → r ≡ orderOf (orderKey x y) → r ≡ v
       → lex orderKey (drop i (pathIn a)) (drop i (pathIn b)) ≡ andThen (orderIn v) (lex orderKey (drop (i + 1) (pathIn a)) (drop (i + 1) (pathIn b)))
   unfolding pathIn lex
   paths-step {x} {y} p q e f h t =
-      rw (counted-step nameIn 17 6 a i p, counted-step nameIn 17 6 b i q, ← e, ← f, order-told (orderKey x y) h t)
+      rw (counted-step nameIn keyRow maxDepth a i p, counted-step nameIn keyRow maxDepth b i q, ← e, ← f, order-told (orderKey x y) h t)

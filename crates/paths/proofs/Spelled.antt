@@ -1,23 +1,20 @@
 -- Rows behind a byte that says how many there are, spelled one behind the other, as a path's keys are: how a loop writes them, and how long all of it is.
-use Prim.Native.Nat.{ℕ, _+_, _*_, _≤_, _<_, min}
-use mathlib.Core.Path.{_≡_, refl, sym}
+use Prim.Native.Nat.{ℕ, zero, suc, _+_, _*_, _≤_, _<_, min}
+use mathlib.Core.Path.{_≡_, refl}
 use mathlib.Core.List.{List, [], _∷_, _++_, map, map-append, append-nil}
-use native.Mathlib.Nat.{add-zero, mul-le-mul-right}
+use native.Mathlib.Nat.{suc-mul}
 use native.Mathlib.Omega.{arith}
 use lib.ListN.{length, getD, take, drop, length-take, length-append}
-use Rattle.rows.specs.Rows.{rows, Wrote}
-use Rattle.rows.proofs.Rows.{length-rows}
-use Rattle.rows.proofs.Writing.{written-none}
+use Rattle.rows.specs.Rows.{rows}
 use Rattle.model.specs.Base.{Bytes, text, joined, between}
 use Rattle.model.specs.Paths.{stepText, nameText, keysText}
 use Rattle.model.proofs.Lists.{joined-append}
 use Rattle.model.proofs.Spelling.{keyText, keys-text}
-use Rattle.paths.specs.Layout.{nameIn, counted, pathIn}
-use Rattle.paths.proofs.Counted.{counted-more, counted-all}
-
--- no text is written
-pub wrote-none : (at : ℕ) (o : Bytes) → Wrote at [] o at o
-wrote-none at o = (sym (add-zero at), sym (written-none at o))
+use Rattle.paths.specs.Layout.{pathIn}
+use Rattle.layout.specs.Layout.{keyRow, nameIn, counted}
+use Rattle.layout.proofs.Named.{name-length}
+use Rattle.layout.proofs.Counts.{counted-more, counted-all}
+use Rattle.model.specs.Limits.{maxKey, maxPathText, maxDepth}
 
 module _ {A : Type 0} (decode : Bytes → A) (k m : ℕ) (spell : A → Bytes) where
   -- the text of the first i
@@ -35,29 +32,21 @@ module _ {A : Type 0} (decode : Bytes → A) (k m : ℕ) (spell : A → Bytes) w
   spelled-all s i h = rw (counted-all decode k m s i h)
 
   -- where each is spelled with at most b bytes
-  module _ (b : ℕ) (short : (r : Bytes) → length (spell (decode r)) ≤ b) where
-    rows-length : (rs : List Bytes) → length (joined (map spell (map decode rs))) ≤ length rs * b
-    unfolding joined
-    rows-length [] = omega arith
-    rows-length (r ∷ rs) = rw length-append (omega (arith, short r, rows-length rs))
+  module _ (b : ℕ) (short : (xs : Bytes) → length (spell (decode (take k xs))) ≤ b) where
+    rows-length : (j n : ℕ) (xs : Bytes) → length (joined (map spell (map decode (take j (rows k n xs))))) ≤ n * b
+    unfolding joined rows
+    rows-length zero n xs = omega arith
+    rows-length (suc j) zero xs = omega arith
+    rows-length (suc j) (suc n) xs = rw length-append (omega (arith, short xs, rows-length j n (drop k xs), suc-mul n b))
 
     pub spelled-length : (s : Bytes) → length (joined (map spell (counted decode k m s))) ≤ m * b
     unfolding counted
-    spelled-length s =
-        let n = min (getD s 0 0) m in
-        let rs = take n (rows k m (drop 1 s)) in
-        let l : length rs ≤ m = simp (length-take, length-rows) (omega arith) in
-        omega (arith, rows-length rs, mul-le-mul-right b l)
+    spelled-length s = rows-length (min (getD s 0 0) m) m (drop 1 s)
 
--- a name has at most 16 bytes
-pub name-length : (name row : Bytes) → name ≡ nameIn row → length name ≤ 16
-unfolding nameIn
-name-length name row h = rw (h, length-take) (omega arith)
-
--- a path in a slot is spelled with at most 121 bytes
-pub path-length : (s : Bytes) → length (keysText (pathIn s)) ≤ 121
+-- a path in a slot is spelled with at most as many bytes as a policy path
+pub path-length : (s : Bytes) → length (keysText (pathIn s)) ≤ maxPathText
 unfolding pathIn text keyText stepText nameText between
-path-length s = rw keys-text (omega (arith, spelled-length nameIn 17 6 keyText 20 short s))
+path-length s = rw keys-text (omega (arith, spelled-length nameIn keyRow maxDepth keyText (maxKey + 4) short s))
   where
-    short : (r : Bytes) → length (keyText (nameIn r)) ≤ 20
-    short r = simp length-append (omega (arith, name-length _ r refl))
+    short : (xs : Bytes) → length (keyText (nameIn (take keyRow xs))) ≤ maxKey + 4
+    short xs = simp length-append (omega (arith, name-length maxKey (take keyRow xs) refl (simp length-take (omega arith))))

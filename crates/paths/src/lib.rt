@@ -1,3 +1,3 @@
-// Names and fields' paths in slots of bytes: read, spelled and ordered.
+// Keys and fields' paths in slots of bytes: read, spelled and ordered.
 pub mod field;
-pub mod layout;
+pub mod key;

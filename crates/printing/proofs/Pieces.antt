@@ -9,12 +9,13 @@ use Rattle.model.specs.Opening.{fault}
 use Rattle.model.specs.Serving.{tableLine}
 use Rattle.model.specs.Program.{printFault}
 use Rattle.model.proofs.Reading.{decimal-length}
+use Rattle.printing.specs.Printed.{mostDigits, numbered}
 
--- a usize has at most 20 digits
-pub usize-length : (n : ℕ) → n < 2 ^ 64 → length (decimal n) ≤ 20
+pub usize-length : (n : ℕ) → n < 2 ^ 64 → length (decimal n) ≤ mostDigits
 usize-length n h = decimal-length n 19 (omega arith)
 
-pub numbered-pieces : (w : Bytes) (n : ℕ) → tableLine (w ∷ decimal n ∷ []) ≡ w ++ (text ";" ++ (decimal n ++ text "\n"))
+-- a word with its `;` is a mark
+pub numbered-pieces : (w : Bytes) (n : ℕ) → tableLine (w ∷ decimal n ∷ []) ≡ numbered (w ++ text ";") n
 unfolding tableLine between
 numbered-pieces w n = simp append-assoc
 

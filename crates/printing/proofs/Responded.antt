@@ -12,7 +12,7 @@ use denote.Enum.Declared.{tagOf}
 use Rattle.rows.specs.Positions.{runEnd}
 use Rattle.rows.proofs.Positions.{run-within}
 use Rattle.model.specs.Base.{Bytes, text, joined, after, cut}
-use Rattle.model.specs.Limits.{listRoom}
+use Rattle.model.specs.Limits.{listRoom, maxLine, maxUsers}
 use Rattle.model.specs.Values.{Value, valueText}
 use Rattle.model.specs.Fields.{Keys}
 use Rattle.model.specs.Paths.{keysText}
@@ -29,7 +29,7 @@ use Rattle.model.proofs.Reading.{some-same, bind-some, check-some, either-some,
 use Rattle.model.proofs.Spelling.{keys-as-written, value-as-written}
 use Rattle.model.proofs.Decisions.{decided}
 use Rattle.lexical.proofs.Slices.{after-yes}
-use Rattle.lines.specs.Cells.{isNot}
+use Rattle.lexical.specs.Classes.{isNot}
 use Rattle.requests.proofs.Cuts.{cut-none, cut-here}
 use Rattle.requests.proofs.FirstOf.{is-some}
 use Rattle.deliveries.specs.Receivers.{deliveryOf}
@@ -51,7 +51,7 @@ login-push h = let z : _≡_ {A = ℕ} 0 1 = cc in absurd (omega arith)
 
 module _ (t : Bytes) (n : ℕ) (p : Keys) (v : Value) where
   -- no other reader reads a push
-  push-read : requestOf t ≡ some (push n p v) → (length t ≤ 256) × (readPush t ≡ some (push n p v))
+  push-read : requestOf t ≡ some (push n p v) → (length t ≤ maxLine) × (readPush t ≡ some (push n p v))
   unfolding requestOf readLogin readGet
   push-read asks = check-some _ _ _ asks λ short either. (
     leb-true _ _ short,
@@ -73,7 +73,7 @@ module _ (t : Bytes) (n : ℕ) (p : Keys) (v : Value) where
       k r (q .0) behind (first ∙ ap (λ (rest : Bytes). some (q .0, rest)) spelled)
 
   module _ (asks : requestOf t ≡ some (push n p v)) where
-    pub line-long : (5 ≤ length t) × (length t ≤ 256)
+    pub line-long : (5 ≤ length t) × (length t ≤ maxLine)
     unfolding text
     line-long =
         let (short, reads) = push-read asks in
@@ -111,8 +111,8 @@ module _ (s : State) (b : Bytes) (l : List ℕ) where
   shown-fits (push n p v) (shows x) h = absurd (decided s (push n p v) _ _ h)
   shown-fits q (stores i a f) h = omega arith
 
-  told-fits : ((i : ℕ) (p : Keys) → length (receivers s i p) ≤ 32) → (q : Request) (c : Change) → decide s q (roomFor q b l) ≡ done c
-      → (length (notified s c) ≤ 32) × (length (notified s c) ≤ length l)
+  told-fits : ((i : ℕ) (p : Keys) → length (receivers s i p) ≤ maxUsers) → (q : Request) (c : Change) → decide s q (roomFor q b l) ≡ done c
+      → (length (notified s c) ≤ maxUsers) × (length (notified s c) ≤ length l)
   unfolding notified
   told-fits few q (enters i a) h = (omega arith, omega arith)
   told-fits few q (shows x) h = (omega arith, omega arith)
@@ -216,7 +216,7 @@ module _ (s : State) (t b : Bytes) (l : List ℕ) (r : Reply) (s₁ : State) (b�
       (ap answerIn is)
 
   -- path and value of a push stand behind the first `;` from 5 on
-  pub pushed-long : {k : ℕ} → r ≡ Pushed k → (5 ≤ length t) × (length t ≤ 256)
+  pub pushed-long : {k : ℕ} → r ≡ Pushed k → (5 ≤ length t) × (length t ≤ maxLine)
   pushed-long is = let (n, p, v, asks) = pushed-line is in line-long t n p v asks
 
   pub pushed-inside : {k : ℕ} → r ≡ Pushed k → {a : ℕ} → a ≡ runEnd (isNot 0x3B) t 5 → a < length t
@@ -242,13 +242,13 @@ module _ (s : State) (t b : Bytes) (l : List ℕ) (r : Reply) (s₁ : State) (b�
 -- a push reaches at most 32 sessions, and the list has room for them
 module _ (tables : Bytes) (logins : List ℕ) (fields t b : Bytes) (l : List ℕ) (r : Reply) (s₁ : State) (b₁ : Bytes) (l₁ : List ℕ)
     (left : outcomeIn r s₁ b₁ l₁ ≡ outcome (stateIn tables logins fields) (line t b l)) where
-  few : (i : ℕ) (p : Keys) → length (receivers (stateIn tables logins fields) i p) ≤ 32
+  few : (i : ℕ) (p : Keys) → length (receivers (stateIn tables logins fields) i p) ≤ maxUsers
   unfolding stateIn
   few i p = rw receivers-of (receivers-few tables _ i p)
 
-  pub pushed-few : {k : ℕ} → r ≡ Pushed k → (k ≤ 32) × (k ≤ length l) × (k ≤ length l₁)
+  pub pushed-few : {k : ℕ} → r ≡ Pushed k → (k ≤ maxUsers) × (k ≤ length l) × (k ≤ length l₁)
   unfolding outcomeIn unchanged conclude
   pushed-few {k} is = rw (ap toldIn is) at
-      (by-reply _ t b l r s₁ b₁ l₁ left (λ o. (o .told ≤ 32) × (o .told ≤ length l) × (o .told ≤ length (o .list)))
+      (by-reply _ t b l r s₁ b₁ l₁ left (λ o. (o .told ≤ maxUsers) × (o .told ≤ length l) × (o .told ≤ length (o .list)))
       (λ e. (omega arith, omega arith, omega arith))
       (λ q c asks h. let (less, room) = told-fits _ b l few q c h in (less, room, rw (length-over _ l room) room)))

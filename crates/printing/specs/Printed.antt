@@ -1,15 +1,45 @@
--- What is printed for an opening, and what a reply may say of a buffer.
-use Prim.Native.Nat.{ℕ, _≤_}
+-- What is printed, how long it is, and what a reply may say of a buffer.
+use Prim.Native.Nat.{ℕ, _+_, _*_, _≤_}
 use mathlib.Core.Path.{_≡_}
-use mathlib.Core.List.{List, []}
-use Rattle.model.specs.Base.{Bytes}
+use mathlib.Core.List.{List, [], _++_}
+use Rattle.model.specs.Base.{Bytes, text, decimal}
+use Rattle.model.specs.Limits.{maxCopy}
 use Rattle.model.specs.Opening.{State, fault}
-use Rattle.model.specs.Serving.{Outcome}
-use Rattle.model.specs.Program.{printFault}
+use Rattle.model.specs.Serving.{Act, Outcome, outcome}
+use Rattle.model.specs.Program.{printFault, printed}
+use Rattle.model.specs.Claims.{eventIn}
+use Rattle.rows.specs.Rows.{Wrote}
+use Rattle.deliveries.specs.Receivers.{deliveriesText}
 use Rattle.opening.specs.declared.answer.Opening.{Opening}
 use Rattle.opening.specs.declared.answer.Opening.the-variants as opening
 use Rattle.server.specs.declared.answer.Reply.{Reply}
 use Rattle.server.specs.declared.answer.Reply.the-variants as reply
+
+-- ── Lengths, in bytes ──
+-- `OK;` and `NO;`
+abbrev pub markLength : ℕ
+markLength = 3
+
+-- the digits of a number of 64 bits
+abbrev pub mostDigits : ℕ
+mostDigits = 20
+
+-- a mark, a number and 0A
+abbrev pub mostNumbered : ℕ
+mostNumbered = markLength + mostDigits + 1
+
+-- a mark, and three numbers, each with a `;` or 0A behind it
+abbrev pub mostFault : ℕ
+mostFault = markLength + 3 * (mostDigits + 1)
+
+-- for a line: the answer, a copy behind it, the deliveries
+abbrev pub mostPrinted : ℕ
+mostPrinted = mostNumbered + maxCopy + deliveriesText
+
+-- ── Texts ──
+-- a mark, a number and 0A
+abbrev pub numbered : Bytes → ℕ → Bytes
+numbered mark n = mark ++ (decimal n ++ text "\n")
 
 -- "a refused opening prints `NO;number;text;line`"
 abbrev pub openingText : Opening → Bytes
@@ -26,3 +56,9 @@ Inside (reply.Pushed k) room = Unit {0}
 -- the state, the buffer and the list that an act leaves
 abbrev pub Left : Outcome → State → Bytes → List ℕ → Type 0
 Left o s b l = (s ≡ o .state) × (b ≡ o .buffer) × (l ≡ o .list)
+
+-- an act in a state: what it leaves, and what is printed for it, n bytes, written over the start of `before` as far as there is room
+pub record Responds (s : State) (a : Act) (after : State) (buffer : Bytes) (list : List ℕ) (before : Bytes) (n : ℕ) (out : Bytes) : Type 0 where
+  pub left : Left (outcome s a) after buffer list
+  pub wrote : Wrote 0 (printed (eventIn s a)) before n out
+  pub short : n ≤ mostPrinted

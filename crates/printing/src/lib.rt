@@ -1,57 +1,53 @@
 // All that the program prints: for a line, and for a refused opening.
+use buffers::put;
+use buffers::put_byte;
+use buffers::put_decimal;
+pub use copies::COPY;
 use deliveries::put_deliveries;
-use lines::until;
+use lexical::slice::until;
 use opening::answer::Opening;
 use server::answer::Reply;
 use server::open::LOGINS;
 use server::open::RECORD;
 use server::open::TABLES;
 use server::request::request;
-use values::write::put;
-use values::write::put_byte;
-use values::write::put_decimal;
+use tables::memory::USERS;
 ghost use mathlib.Core.Path.{_≡_};
-ghost use mathlib.Core.List.{[], _∷_};
-ghost use Prim.Native.Nat.{_+_, _≤_, _<_, _^_};
+ghost use Prim.Native.Nat.{_+_, _≤_};
 ghost use lib.ListN.{length};
 ghost use Rattle.rows.specs.Rows.{Wrote};
-ghost use Rattle.model.specs.Base.{decimal};
+ghost use Rattle.model.specs.Limits.{maxCopy};
 ghost use Rattle.model.specs.Serving as serving;
-ghost use Rattle.model.specs.Program.{printAnswer, printed};
-ghost use Rattle.model.specs.Claims.{eventIn};
+ghost use Rattle.model.specs.Program.{printAnswer};
 ghost use Rattle.opening.specs.Memory.{stateIn};
 ghost use Rattle.server.specs.Replies.{answerIn};
-ghost use Rattle.printing.specs.Printed.{Inside, Left, openingText};
+ghost use Rattle.printing.specs.Printed.{markLength, mostNumbered, mostFault, numbered, openingText, Inside, Responds};
 
-// A copy never exceeds this many bytes.
-pub const COPY: usize = 51069;
+// A push never reaches more sessions than there are users.
+pub const LIST: usize = USERS;
 
-// A push never reaches more sessions.
-pub const LIST: usize = 32;
-
-// `word;number` and 0A.
-fn put_numbered(out: &mut [u8], word: &[u8], n: usize) -> usize
-    requires { ⌜ length (now word) ≤ 16 ⌝ }
-    ensures { λ r. ⌜ Wrote 0 (serving.tableLine (now (word .entry) ∷ decimal n ∷ [])) (now (out .entry)) r (now (out .exit)) ⌝ }
-    ensures { λ r. ⌜ r ≤ 38 ⌝ }
+// `OK;` or `NO;`, a number and 0A.
+fn put_numbered(out: &mut [u8], mark: &[u8], n: usize) -> usize
+    requires { ⌜ length (now mark) ≡ markLength ⌝ }
+    ensures { λ r. ⌜ Wrote 0 (numbered (now (mark .entry)) n) (now (out .entry)) r (now (out .exit)) ⌝ }
+    ensures { λ r. ⌜ r ≤ mostNumbered ⌝ }
 {
-    let mut to = put(out, 0, word);
-    to = put_byte(out, to, b';');
+    let mut to = put(out, 0, mark);
     to = put_decimal(out, to, n);
     put_byte(out, to, b'\n')
 }
 
 // The answer; behind a length, as many first bytes of the buffer.
 fn put_answer(out: &mut [u8], reply: Reply, buffer: &[u8]) -> usize
-    requires { ⌜ (length (now buffer) ≡ 51069) × Inside reply (length (now buffer)) ⌝ }
+    requires { ⌜ (length (now buffer) ≡ maxCopy) × Inside reply (length (now buffer)) ⌝ }
     ensures { λ r. ⌜ Wrote 0 (printAnswer (now (buffer .entry)) (answerIn reply)) (now (out .entry)) r (now (out .exit)) ⌝ }
-    ensures { λ r. ⌜ r ≤ 51107 ⌝ }
+    ensures { λ r. ⌜ r ≤ maxCopy + mostNumbered ⌝ }
 {
     match reply {
-        Reply::Refused(e) => put_numbered(out, b"NO", e),
-        Reply::Session(n) => put_numbered(out, b"OK", n as usize),
+        Reply::Refused(e) => put_numbered(out, b"NO;", e),
+        Reply::Session(n) => put_numbered(out, b"OK;", n as usize),
         Reply::Length(n) => {
-            let to = put_numbered(out, b"OK", n);
+            let to = put_numbered(out, b"OK;", n);
             put(out, to, &buffer[..n])
         }
         Reply::Pushed(_) => put(out, 0, b"OK\n"),
@@ -68,9 +64,12 @@ pub fn respond(
     list: &mut [u32; LIST],
     out: &mut [u8],
 ) -> usize
-    ensures { λ _. ⌜ Left (serving.outcome (stateIn (now (tables .entry)) (now (logins .entry)) (now (fields .entry))) (serving.line (now (line .entry)) (now (buffer .entry)) (now (list .entry)))) (stateIn (now (tables .entry)) (now (logins .exit)) (now (fields .exit))) (now (buffer .exit)) (now (list .exit)) ⌝ }
-    ensures { λ r. ⌜ Wrote 0 (printed (eventIn (stateIn (now (tables .entry)) (now (logins .entry)) (now (fields .entry))) (serving.line (now (line .entry)) (now (buffer .entry)) (now (list .entry))))) (now (out .entry)) r (now (out .exit)) ⌝ }
-    ensures { λ r. ⌜ r ≤ 65536 ⌝ }
+    ensures { λ r. ⌜ Responds
+        (stateIn (now (tables .entry)) (now (logins .entry)) (now (fields .entry)))
+        (serving.line (now (line .entry)) (now (buffer .entry)) (now (list .entry)))
+        (stateIn (now (tables .entry)) (now (logins .exit)) (now (fields .exit)))
+        (now (buffer .exit)) (now (list .exit))
+        (now (out .entry)) r (now (out .exit)) ⌝ }
 {
     let reply = request(tables, logins, fields, line, buffer, list);
     let to = put_answer(out, reply, buffer);
@@ -84,7 +83,7 @@ pub fn respond(
 // `NO;number;text;line` for a refused opening; nothing for an accepted one.
 pub fn put_opening(out: &mut [u8], opened: Opening) -> usize
     ensures { λ r. ⌜ Wrote 0 (openingText opened) (now (out .entry)) r (now (out .exit)) ⌝ }
-    ensures { λ r. ⌜ r ≤ 66 ⌝ }
+    ensures { λ r. ⌜ r ≤ mostFault ⌝ }
 {
     let Opening::Refused(number, text, line) = opened else {
         return 0;

@@ -1,20 +1,19 @@
 -- What a push is decided to be, by the answers about the session, the right, the field and the quota.
-use Prim.Native.Nat.{ℕ, _*_, _-_, _≤_, _<_}
+use Prim.Native.Nat.{ℕ, _*_, _≤_, _<_}
 use mathlib.Core.Path.{_≡_, refl, sym, _∙_}
 use mathlib.Core.Bool.{Bool, true, false, not, _&&_}
 use mathlib.Core.List.{List}
 use borrow.Author.Tests.{le-leb, lt-leb}
 use lib.Dec.{leb}
-use lib.ListN.{length, getD, take, drop}
-use Rattle.rows.proofs.Parts.{tail-part}
+use lib.ListN.{getD, take, drop}
 use Rattle.model.specs.Base.{Bytes}
 use Rattle.model.specs.Values.{Value}
-use Rattle.model.specs.Fields.{Keys, Fields, holds}
+use Rattle.model.specs.Fields.{Keys, Fields, holds, fieldOf}
 use Rattle.model.specs.Refusals.{Result, refused, done, _>>_, refuse_if_}
 use Rattle.model.specs.Tables.{User, Rule}
 use Rattle.model.specs.Opening.{LoginState, emptyLogin}
 use Rattle.model.specs.Serving.{Change, stores, creating, indexIn, decidePush}
-use Rattle.tables.specs.Memory.{userIn, usersIn, policyIn, tablesIn}
+use Rattle.tables.specs.Memory.{userRow, usersBytes, userIn, usersIn, policyIn, tablesIn}
 use Rattle.model.specs.Rights.{mayWrite}
 use Rattle.record.specs.declared.table.Place.{Place}
 use Rattle.record.specs.declared.table.Place.the-variants.{At, Before}
@@ -30,12 +29,12 @@ use Rattle.pushes.specs.Rulings.{pushDecided}
 ruling : List Rule → LoginState → ℕ → Bool → Keys → Value → User → Result ℕ Change
 ruling rs a i held p v u =
     (refuse 16 if not (mayWrite rs u p)) >> ((refuse 17 if not held && leb (u .quota) (a .created)) >>
-    done (stores i (creating a held) (record { path = p; value = v })))
+    done (stores i (creating a held) (fieldOf p v)))
 
 module _ (s : Bytes) (ls : List LoginState) (n : ℕ) {o : SessionAt} (found : o ≡ sessionAnswer (hasSession (usersIn s) ls n) n) where
   module _ (fs : Fields) (p : Keys) (v : Value) where
     push-decides : pushDecided (tablesIn s) ls fs n p v
-        ≡ inSession (usersIn s) ls n (ruling (policyIn (drop 19104 s)) (getD ls (indexIn n) emptyLogin) (indexIn n) (holds p fs) p v)
+        ≡ inSession (usersIn s) ls n (ruling (policyIn (drop usersBytes s)) (getD ls (indexIn n) emptyLogin) (indexIn n) (holds p fs) p v)
     unfolding tablesIn pushDecided decidePush ruling
     push-decides = refl
 
@@ -47,21 +46,22 @@ module _ (s : Bytes) (ls : List LoginState) (n : ℕ) {o : SessionAt} (found : o
   module _ {i : ℕ} (at : o ≡ Of i) where
     -- ── The right: r says whether that user may write the path p ──
     module _
-        {row : Bytes}
-        (is : row ≡ take 597 (drop (i * 597) s))
+        {row policy : Bytes}
+        (is : row ≡ take userRow (drop (i * userRow) s))
+        (part : policy ≡ drop usersBytes s)
         (p : Keys)
         {r : Bool}
-        (may : r ≡ mayWrite (policyIn (take (length s - 19104) (drop 19104 s))) (userIn row) p)
+        (may : r ≡ mayWrite (policyIn policy) (userIn row) p)
         (fs : Fields)
         (v : Value)
       where
         ruled : pushDecided (tablesIn s) ls fs n p v
             ≡ ((refuse 16 if not r) >> ((refuse 17 if not (holds p fs) && leb (userIn row .quota) (getD ls i emptyLogin .created))
-            >> done (stores i (creating (getD ls i emptyLogin) (holds p fs)) (record { path = p; value = v }))))
+            >> done (stores i (creating (getD ls i emptyLogin) (holds p fs)) (fieldOf p v))))
         unfolding ruling
         ruled =
             let (known, index) = session-known s ls n found at in
-            let writes = rw (tail-part 19104 s) at may in
+            let writes = rw part at may in
             push-decides fs p v ∙ in-session (usersIn s) ls n _ (session-user s ls n found at is) known ∙ rw (← index, writes)
 
         pub no-right : r ≡ false → pushDecided (tablesIn s) ls fs n p v ≡ refused 16
@@ -70,7 +70,7 @@ module _ (s : Bytes) (ls : List LoginState) (n : ℕ) {o : SessionAt} (found : o
 
         -- ── The field: a is the user's login state, and l where a search for the path ended ──
         module _ (right : r ≡ true) {a : LoginState} (state : a ≡ getD ls i emptyLogin) {k : ℕ} {l : Place} (place : l ≡ placeIn 0 p fs) where
-          pub stored-held : l ≡ At k → pushDecided (tablesIn s) ls fs n p v ≡ done (stores i a (record { path = p; value = v }))
+          pub stored-held : l ≡ At k → pushDecided (tablesIn s) ls fs n p v ≡ done (stores i a (fieldOf p v))
           unfolding creating _>>_ refuse_if_
           stored-held e = ruled ∙ rw (right, at-holds p fs k (sym place ∙ e), ← state)
 
@@ -84,6 +84,6 @@ module _ (s : Bytes) (ls : List LoginState) (n : ℕ) {o : SessionAt} (found : o
             quota-reached h = ruled ∙ rw (right, absent, ← state, ← quota, le-leb _ _ h)
 
             pub stored-new : a .created < q → {b : LoginState} → b ≡ creating a false
-                → pushDecided (tablesIn s) ls fs n p v ≡ done (stores i b (record { path = p; value = v }))
+                → pushDecided (tablesIn s) ls fs n p v ≡ done (stores i b (fieldOf p v))
             unfolding _>>_ refuse_if_
             stored-new h c = ruled ∙ rw (right, absent, ← state, ← quota, lt-leb _ _ h, c)

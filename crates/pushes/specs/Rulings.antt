@@ -3,21 +3,25 @@ use Prim.Native.Nat.{ℕ}
 use mathlib.Core.Path.{_≡_}
 use mathlib.Core.List.{List}
 use lib.ListN.{getD}
+use Rattle.model.specs.Base.{Bytes}
 use Rattle.model.specs.Values.{Value}
-use Rattle.model.specs.Fields.{Keys, Fields, holds}
+use Rattle.model.specs.Fields.{Keys, Fields, holds, fieldOf}
 use Rattle.model.specs.Refusals.{Result, refused, done, _>>=_, _or_}
 use Rattle.model.specs.Tables.{Tables, userAt}
 use Rattle.model.specs.Opening.{LoginState, emptyLogin}
 use Rattle.model.specs.Serving.{Change, stores, indexIn, decidePush}
+use Rattle.paths.specs.Layout.{pathIn}
+use Rattle.tables.specs.Memory.{tablesIn}
+use Rattle.record.specs.Slots.{fieldsIn}
 use Rattle.record.specs.Search.{placeIn}
-use Rattle.sessions.specs.Logins.{stateOf}
+use Rattle.sessions.specs.Logins.{loginsIn, stateOf}
 use Rattle.pushes.specs.declared.Ruling.{Ruling}
 use Rattle.pushes.specs.declared.Ruling.the-variants.{Refused, Stores}
 
 -- the refusal, or the change for a path and a value
 abbrev pub rulingAnswer : Ruling → Keys → Value → Result ℕ Change
 rulingAnswer (Refused e) p v = refused e
-rulingAnswer (Stores i a l) p v = done (stores i (stateOf a) (record { path = p; value = v }))
+rulingAnswer (Stores i a l) p v = done (stores i (stateOf a) (fieldOf p v))
 
 -- a field is stored where the search for its path ends
 abbrev pub PlaceFound : Ruling → Keys → Fields → Type 0
@@ -30,3 +34,8 @@ pushDecided t ls fs n p v = do
   let i = indexIn n
   u ← userAt (t .users) i or 14
   decidePush (t .policy) i u (getD ls i emptyLogin) (holds p fs) n p v
+
+-- the ruling on a push at a path says what is decided, whatever the value, and where the search for the path ends
+pub record RuledAs (tables : Bytes) (logins : List ℕ) (fields : Bytes) (n : ℕ) (path : Bytes) (r : Ruling) : Type 0 where
+  pub answers : (v : Value) → rulingAnswer r (pathIn path) v ≡ pushDecided (tablesIn tables) (loginsIn logins) (fieldsIn fields) n (pathIn path) v
+  pub place : PlaceFound r (pathIn path) (fieldsIn fields)

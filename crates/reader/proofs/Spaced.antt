@@ -1,34 +1,42 @@
 -- Tokens of record text by positions: what a reader reads, with the blanks behind it.
-use Prim.Native.Nat.{ℕ, _+_, _-_, _≤_, _<_}
+use Prim.Native.Nat.{ℕ, suc, _+_, _-_, _≤_, _<_}
 use mathlib.Core.Path.{_≡_, refl, sym, ap, _∙_}
 use mathlib.Core.Option.{Option, none, some}
-use mathlib.Core.List.{[], _∷_}
+use mathlib.Core.Bool.{Bool, true, false, not}
+use mathlib.Core.List.{List, [], _∷_}
 use native.Mathlib.Omega.{arith}
+use types.Run.{OneOf}
+use denote.Enum.Declared.{tagOf}
+use borrow.Author.Tests.{eq-eqb, eqb-true, not-true}
+use lib.Dec.{eqb}
 use lib.ListN.{length, getD, take, drop, length-drop}
-use Rattle.rows.specs.Positions.{Reader, Reads, placed, runEnd, LeavesEnd}
-use Rattle.rows.proofs.Positions.{run-within, placed-reads, placed-none, none-placed, reads-placed}
-use Rattle.model.specs.Base.{Bytes, text, _>>=_, _>>_, check, after, span}
+use Rattle.rows.specs.Positions.{Reader, Reads, behind, placed, runEnd, LeavesEnd}
+use Rattle.rows.proofs.Positions.{here, over, run-within, placed-reads, placed-none, none-placed, reads-placed}
+use Rattle.model.specs.Base.{Bytes, text, any, if_then_else_, _>>=_, _>>_, check, after, span}
 use Rattle.model.specs.Names.{nameByte, isKey}
 use Rattle.model.specs.Values.{readValue}
 use Rattle.model.specs.Paths.{readQuoted}
 use Rattle.model.specs.RecordText.{isBlank, skip, token, readKey}
-use Rattle.model.proofs.Lists.{none-some}
+use Rattle.model.proofs.Lists.{by-cases, none-some}
 use Rattle.model.proofs.Reading.{bind-some, some-same, after-some, span-joins}
 use Rattle.lexical.specs.declared.class.Class.the-variants.{Name}
-use Rattle.lexical.specs.declared.class.End.{End}
-use Rattle.lexical.specs.declared.class.End.the-variants.{At, Bad}
 use Rattle.values.specs.declared.value.Scalar.{Scalar}
 use Rattle.values.specs.declared.value.ValueAt.{ValueAt}
 use Rattle.values.specs.declared.value.ValueAt.the-variants as value-at
 use Rattle.lexical.specs.Classes.{readBetween}
 use Rattle.values.specs.Scalars.{valueIn, valueAnswer}
-use Rattle.lexical.proofs.Runs.{span-at, after-here, rest-of, bind-same, bind-bind, check-bind}
+use Rattle.lexical.proofs.Classes.{differs, keyed}
+use Rattle.lexical.proofs.Runs.{span-at, rest-of, bind-same, bind-bind, check-bind}
 use Rattle.lexical.proofs.Between.{Stands, Quoted, between-gives, between-leaves, quoted-between}
 use Rattle.values.proofs.Values.{told, value-leaves}
 use Rattle.lexical.proofs.Readers.{rest-on, leaves-bind, leaves-word, leaves-some}
-use Rattle.reader.specs.Tokens.{readToken, readScalar, readMember, endAnswer, keyAnswer, MemberInText}
+use Rattle.reader.specs.Tokens.{isStructural, readStructural, readToken, readScalar, readMember, tokenAnswer, keyAnswer, MemberInText}
+use Rattle.reader.specs.declared.tokens.TokenAt.{TokenAt}
+use Rattle.reader.specs.declared.tokens.TokenAt.the-variants.{Open, Close, Colon, Comma, Bad}
+use Rattle.reader.proofs.tokens.TokenAt.{the-type}
 use Rattle.reader.specs.declared.tokens.KeyAt.{KeyAt}
 use Rattle.reader.specs.declared.tokens.KeyAt.the-variants as key-at
+use Rattle.model.specs.Limits.{maxKey}
 
 -- ── Blanks ──
 pub skip-at : (s : Bytes) (at e : ℕ) → e ≡ runEnd isBlank s at → skip (drop at s) ≡ drop e s
@@ -88,17 +96,49 @@ module _ (b : ℕ) where
   pub token-leaves : LeavesEnd (readToken b)
   token-leaves = spaced-leaves _ _ byte-spaced (leaves-word (b ∷ []) _ (leaves-some tt))
 
-  module _ (s : Bytes) (at : ℕ) where
-    pub token-not : after (b ∷ []) (drop at s) ≡ none → none ≡ placed (readToken b) s at
-    unfolding _>>=_
-    token-not h = spaced-none (readByte b) (readToken b) byte-spaced s at (rw h)
+-- ── The tokens of one byte ──
+-- what was read, where it is the given one
+abbrev only : ℕ → ℕ × Bytes → Option (Unit {0} × Bytes)
+only b t = if eqb b (t .0) then some (tt, t .1) else none
 
-    pub token-is : at < length s → getD s at 0 ≡ b → (n : ℕ) → n ≡ runEnd isBlank s (at + 1) → some (tt, n) ≡ placed (readToken b) s at
-    unfolding _>>=_
-    token-is h e = spaced-reads (readByte b) (readToken b) byte-spaced s at tt (at + 1) (record { from = omega arith; to = omega arith; is = rw (after-here b s at h e) })
+structural-given : (b : ℕ) → isStructural b ≡ true → (x : Bytes) → readToken b x ≡ (readStructural x >>= only b)
+unfolding readToken token after readStructural _>>=_
+structural-given b h [] = refl
+structural-given b h (c ∷ s) = by-cases (eqb b c)
+    (λ e. let k : isStructural c ≡ true = rw (eqb-true b c e) at h in rw (k, e))
+    (λ e. by-cases (isStructural c) (λ k. rw (k, e)) (λ k. rw (k, e)))
+
+structural-leaves : LeavesEnd readStructural
+unfolding readStructural
+structural-leaves [] t h = none-some h
+structural-leaves (b ∷ s) t h = by-cases (isStructural b)
+    (λ k.
+    let w = skip-leaves s in
+    let same : _≡_ {A = ℕ × Bytes} (b, skip s) t = some-same (rw k at h) in
+    (suc (w .0), omega (arith, w .1), sym (ap (λ (u : ℕ × Bytes). u .1) same) ∙ w .2))
+    (λ k. none-some (rw k at h))
+
+module _ (s : Bytes) (at : ℕ) where
+  pub structural-over : length s ≤ at → none ≡ placed readStructural s at
+  unfolding readStructural
+  structural-over h = sym (placed-none readStructural s at (rw (over s at h)))
+
+  pub structural-not : at < length s → isStructural (getD s at 0) ≡ false → none ≡ placed readStructural s at
+  unfolding readStructural
+  structural-not h k = sym (placed-none readStructural s at (rw (here 0 s at h, k)))
+
+  pub structural-is : at < length s → (n : ℕ) → n ≡ runEnd isBlank s (at + 1) → (b : ℕ) → isStructural b ≡ true → getD s at 0 ≡ b → some (b, n) ≡ placed readStructural s at
+  unfolding readStructural
+  structural-is h n is b k e =
+      let w = run-within isBlank s (at + 1) n is (omega arith) in
+      sym (placed-reads readStructural s at b n (record {
+        from = omega arith;
+        to = w .1;
+        is = rw (here 0 s at h, e, k, skip-at s (at + 1) n is);
+      }))
 
 -- ── A key, and a value ──
-pub key-spaced : (s : Bytes) → readKey s ≡ (readBetween Name 0x22 1 16 s >>= λ t. some (t .0, skip (t .1)))
+pub key-spaced : (s : Bytes) → readKey s ≡ (readBetween Name 0x22 1 maxKey s >>= λ t. some (t .0, skip (t .1)))
 unfolding readKey readQuoted token text
 key-spaced s =
     bind-same (after (0x22 ∷ []) s) _ _ (λ s₁. let (k, r) = span nameByte s₁ in ap (λ (o : Option (Bytes × Bytes)). check (isKey k) >> o) (blanks-last k (after (0x22 ∷ []) r)) ∙ sym (check-bind (isKey k) _ _))
@@ -106,11 +146,11 @@ key-spaced s =
     ∙ ap (λ (o : Option (Bytes × Bytes)). o >>= λ t. some (t .0, skip (t .1))) (quoted-between 0x22 s)
 
 pub key-leaves : LeavesEnd readKey
-key-leaves = spaced-leaves _ _ key-spaced (between-leaves Name 0x22 1 16)
+key-leaves = spaced-leaves _ _ key-spaced (between-leaves Name 0x22 1 maxKey)
 
 module _ (s : Bytes) (at : ℕ) where
   -- a key that stands in quotes
-  pub key-is : (e : ℕ) → Stands Name 0x22 1 16 s at e → (n : ℕ) → n ≡ runEnd isBlank s e → keyAnswer s (key-at.At (at + 1) (e - 1) n) ≡ placed readKey s at
+  pub key-is : (e : ℕ) → Stands Name 0x22 1 maxKey s at e → (n : ℕ) → n ≡ runEnd isBlank s e → keyAnswer s (key-at.At (at + 1) (e - 1) n) ≡ placed readKey s at
   key-is e q n is =
       let m : e - 1 - (at + 1) ≡ e - 2 - at = omega arith in
       rw m (spaced-reads _ _ key-spaced s at _ e (q .reads) n is)
@@ -123,12 +163,77 @@ pub scalar-leaves : LeavesEnd readScalar
 scalar-leaves = spaced-leaves _ _ scalar-spaced value-leaves
 
 -- ── For a caller: what an answer says ──
-module _ (f : Reader ℕ (Unit {0})) (s : Bytes) (at : ℕ) (x : End) (answer : endAnswer x ≡ placed f s at) where
-  pub end-bad : x ≡ Bad → f (drop at s) ≡ none
-  end-bad i = none-placed f s at (told endAnswer answer i)
+-- the tokens of one byte in the order of the variants; a number behind them is none
+structurals : Bytes
+structurals = 0x7B ∷ 0x7D ∷ 0x3A ∷ 0x2C ∷ []
 
-  pub end-reads : LeavesEnd f → at ≤ length s → (e : ℕ) → x ≡ At e → Reads f s at tt e
-  end-reads leaves h e i = reads-placed f s at leaves h tt e (told endAnswer answer i)
+-- the answer's token is b
+answers : ℕ → Option (ℕ × ℕ) → Bool
+answers b none = false
+answers b (some p) = eqb b (p .0)
+
+variant-not : (b : ℕ) (x : TokenAt) → true ≡ not (eqb b (getD structurals (tagOf the-type x) 0)) → answers b (tokenAnswer x) ≡ false
+unfolding structurals answers
+variant-not b (Open e) h = not-true _ (sym h)
+variant-not b (Close e) h = not-true _ (sym h)
+variant-not b (Colon e) h = not-true _ (sym h)
+variant-not b (Comma e) h = not-true _ (sym h)
+variant-not b Bad h = refl
+
+module _ (s : Bytes) (at : ℕ) (x : TokenAt) (answer : tokenAnswer x ≡ placed readStructural s at) where
+  module _ (b : ℕ) (k : isStructural b ≡ true) where
+    structural-stands : at ≤ length s → (e : ℕ) → tokenAnswer x ≡ some (b, e) → Reads (readToken b) s at tt e
+    unfolding _>>=_
+    structural-stands h e i =
+        let r = reads-placed readStructural s at structural-leaves h b e (sym answer ∙ i) in
+        record { from = r .from; to = r .to; is = structural-given b k (drop at s) ∙ rw (r .is, eq-eqb b b refl) }
+
+    structural-other : answers b (tokenAnswer x) ≡ false → readToken b (drop at s) ≡ none
+    unfolding _>>=_ placed behind answers
+    structural-other n = structural-given b k (drop at s) ∙ go (readStructural (drop at s)) (sym answer)
+      where
+        go : (o : Option (ℕ × Bytes)) → behind s o ≡ tokenAnswer x → (o >>= only b) ≡ none
+        go none i = refl
+        go (some t) i = rw (rw (← i) at n)
+
+  -- a token that the code's `let` told
+  module _ (h : at ≤ length s) (e : ℕ) where
+    pub open-stands : x ≡ Open e → Reads (readToken 0x7B) s at tt e
+    unfolding isStructural
+    open-stands i = structural-stands 0x7B refl h e (ap tokenAnswer i)
+
+    pub close-stands : x ≡ Close e → Reads (readToken 0x7D) s at tt e
+    unfolding isStructural
+    close-stands i = structural-stands 0x7D refl h e (ap tokenAnswer i)
+
+    pub colon-stands : x ≡ Colon e → Reads (readToken 0x3A) s at tt e
+    unfolding isStructural
+    colon-stands i = structural-stands 0x3A refl h e (ap tokenAnswer i)
+
+    pub comma-stands : x ≡ Comma e → Reads (readToken 0x2C) s at tt e
+    unfolding isStructural
+    comma-stands i = structural-stands 0x2C refl h e (ap tokenAnswer i)
+
+  -- a token that is none of the variants that the code's `else` tells by their numbers
+  no-structural : (b : ℕ) → isStructural b ≡ true → (ks : List ℕ) → any (differs (λ n. not (eqb b (getD structurals n 0))) true) ks ≡ false → OneOf ks (tagOf the-type x)
+      → readToken b (drop at s) ≡ none
+  no-structural b k ks t h = structural-other b k (variant-not b x (keyed (λ n. not (eqb b (getD structurals n 0))) true ks t _ h))
+
+  pub no-open : OneOf (1 ∷ 2 ∷ 3 ∷ 4 ∷ []) (tagOf the-type x) → readToken 0x7B (drop at s) ≡ none
+  unfolding isStructural any structurals
+  no-open = no-structural 0x7B refl (1 ∷ 2 ∷ 3 ∷ 4 ∷ []) refl
+
+  pub no-close : OneOf (0 ∷ 2 ∷ 3 ∷ 4 ∷ []) (tagOf the-type x) → readToken 0x7D (drop at s) ≡ none
+  unfolding isStructural any structurals
+  no-close = no-structural 0x7D refl (0 ∷ 2 ∷ 3 ∷ 4 ∷ []) refl
+
+  pub no-colon : OneOf (0 ∷ 1 ∷ 3 ∷ 4 ∷ []) (tagOf the-type x) → readToken 0x3A (drop at s) ≡ none
+  unfolding isStructural any structurals
+  no-colon = no-structural 0x3A refl (0 ∷ 1 ∷ 3 ∷ 4 ∷ []) refl
+
+  pub no-comma : OneOf (0 ∷ 1 ∷ 2 ∷ 4 ∷ []) (tagOf the-type x) → readToken 0x2C (drop at s) ≡ none
+  unfolding isStructural any structurals
+  no-comma = no-structural 0x2C refl (0 ∷ 1 ∷ 2 ∷ 4 ∷ []) refl
 
 module _ (f : Reader ℕ Bytes) (s : Bytes) (at : ℕ) (x : KeyAt) (answer : keyAnswer s x ≡ placed f s at) where
   pub key-bad : x ≡ key-at.Bad → f (drop at s) ≡ none
@@ -208,14 +313,14 @@ member-moves s at name v r =
     omega (arith, token-shortens 0x3A (t .1) u m, ap length (w .2), length-drop (w .0) (drop at s), ap (λ (p : Bytes × Bytes). length (p .1)) same, length-drop at s, length-drop v s, r .to)
 
 -- a member's key stands between its quotes
-pub member-quoted : (l name r : Bytes) → readMember l ≡ some (name, r) → (r₁ : Bytes) × Quoted Name 0x22 1 16 l name r₁
+pub member-quoted : (l name r : Bytes) → readMember l ≡ some (name, r) → (r₁ : Bytes) × Quoted Name 0x22 1 maxKey l name r₁
 unfolding readMember
 member-quoted l name r h =
     bind-some (readKey l) _ _ h λ t i j.
     bind-some _ _ _ j λ u m n.
-    bind-some (readBetween Name 0x22 1 16 l) _ _ (sym (key-spaced l) ∙ i) λ q v w.
+    bind-some (readBetween Name 0x22 1 maxKey l) _ _ (sym (key-spaced l) ∙ i) λ q v w.
     let e : q .0 ≡ name = ap (λ (p : Bytes × Bytes). p .0) (some-same w) ∙ ap (λ (p : Bytes × Bytes). p .0) (some-same n) in
-    (q .1, rw e at (between-gives Name 0x22 1 16 l (q .0) (q .1) v))
+    (q .1, rw e at (between-gives Name 0x22 1 maxKey l (q .0) (q .1) v))
 
 -- a member whose key stands from `from` to `to`, and what it holds from v on
 pub record MemberStands (s : Bytes) (at from to v : ℕ) : Type 0 where

@@ -17,6 +17,7 @@ use Rattle.lexical.specs.declared.class.Class.the-variants.{Name}
 use Rattle.lexical.proofs.Between.{Quoted}
 use Rattle.lexical.proofs.Slices.{after-short}
 use Rattle.reader.specs.Summaries.{standsAtOne}
+use Rattle.model.specs.Limits.{maxKey}
 
 -- ── A loop over the positions: what stands at the next, and none left ──
 module _ (w s : Bytes) (at : List ℕ) (i : ℕ) where
@@ -64,7 +65,7 @@ unfolding standsAtOne among keysIn any
 names-none s k h = refl
 
 module _ (s : Bytes) (xs : List ℕ) (m : Members) (named : Names s xs m)
-    (name r : Bytes) (i : ℕ) (q : Quoted Name 0x22 1 16 (drop i s) name r) (from : ℕ) (next : from ≡ i + 1) where
+    (name r : Bytes) (i : ℕ) (q : Quoted Name 0x22 1 maxKey (drop i s) name r) (from : ℕ) (next : from ≡ i + 1) where
   behind-quote : drop from s ≡ name ++ 0x22 ∷ r
   behind-quote = rw next (sym (drop-drop 1 i s) ∙ ap (drop 1) (q .is))
 

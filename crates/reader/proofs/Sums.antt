@@ -10,8 +10,9 @@ use lib.ListN.{length, take, drop, set}
 use lib.Seq.{take-take, take-set-le, take-suc-set, drop-append-le, length-take-le}
 use Rattle.rows.proofs.Rows.{drop-take}
 use Rattle.model.specs.Base.{Bytes, among}
+use Rattle.model.specs.Limits.{maxText}
 use Rattle.model.specs.RecordText.{Node, Members, noMembers, member, keysIn, twiceIn, twice, countIn, count}
-use Rattle.reader.specs.Summaries.{standsAtOne, summary, FieldsWithin}
+use Rattle.reader.specs.Summaries.{keysRoom, memberBytes, standsAtOne, summary, FieldsWithin}
 use Rattle.reader.specs.declared.grammar.ObjectAt.{ObjectAt}
 use Rattle.reader.specs.declared.grammar.ObjectAt.the-variants.{At, Bad}
 use Rattle.reader.proofs.Spaced.{MemberStands, member-quoted}
@@ -39,15 +40,15 @@ positions-more top keys now n a above room same =
 
 -- the members m of the object that begins at `at` end before i, and the table has the positions of their keys from `top` to n
 pub record Sums (s : Bytes) (at top : ℕ) (keys₀ keys : List ℕ) (n fields : ℕ) (doubled : Bool) (m : Members) (i : ℕ) : Type 0 where
-  pub long : length keys ≡ 16384
+  pub long : length keys ≡ keysRoom
   pub above : top ≤ n
-  pub room : 4 * n ≤ i
+  pub room : memberBytes * n ≤ i
   pub kept : take top keys ≡ take top keys₀
   pub names : Names s (take (n - top) (drop top keys)) m
   pub within : at + fields ≤ i
   pub sums : summary m ≡ (fields, doubled)
 
-pub sums-start : (s : Bytes) (at top : ℕ) (keys : List ℕ) (o : ℕ) → length keys ≡ 16384 → 4 * top ≤ at → at ≤ o → Sums s at top keys keys top 0 false noMembers o
+pub sums-start : (s : Bytes) (at top : ℕ) (keys : List ℕ) (o : ℕ) → length keys ≡ keysRoom → memberBytes * top ≤ at → at ≤ o → Sums s at top keys keys top 0 false noMembers o
 unfolding summary count twice
 sums-start s at top keys o l r f = record {
   long = l;
@@ -78,8 +79,8 @@ module _ (s : Bytes) (at top : ℕ) (keys₀ keys : List ℕ) (n fields : ℕ) (
       ∙ rw same (take-take top (n + 1) (set keys n a) (omega (arith, before .above)) ∙ take-set-le top keys n a (before .above) ∙ before .kept)
 
   -- a member more: its key stands from `from` to `to`, and what it holds ends at e
-  module _ (short : length s ≤ 65536) (from to v : ℕ) (key : MemberStands s i from to v) where
-    pub sums-room : n < 16384
+  module _ (short : length s ≤ maxText) (from to v : ℕ) (key : MemberStands s i from to v) where
+    pub sums-room : n < keysRoom
     sums-room = omega (arith, before .room, key .quote, key .least, key .colon, key .reads .to)
 
     sums-seen : standsAtOne (take (to + 1 - from) (drop from s)) s (take (n - top) (drop top keys)) ≡ among (take (to - from) (drop from s)) (keysIn m)
@@ -88,7 +89,7 @@ module _ (s : Bytes) (at top : ℕ) (keys₀ keys : List ℕ) (n fields : ℕ) (
         word-seen s _ m (before .names) _ (q .0) i (q .1) from (key .quote) to (omega (arith, key .least)) (omega (arith, key .colon, key .reads .to)) refl
 
     pub sums-more : (seen : Bool) → seen ≡ standsAtOne (take (to + 1 - from) (drop from s)) s (take (n - top) (drop top keys))
-        → (now : List ℕ) → length now ≡ 16384 → take (n + 1) now ≡ take (n + 1) (set keys n from)
+        → (now : List ℕ) → length now ≡ keysRoom → take (n + 1) now ≡ take (n + 1) (set keys n from)
         → (a : Node) (e more : ℕ) (again : Bool) → v ≤ e → i + more ≤ e → nodeSummary a ≡ (more, again)
         → Sums s at top keys₀ now (n + 1) (fields + more) (seen || again || doubled) (member m (take (to - from) (drop from s)) a) e
     sums-more seen is now l same a e more again f w is-sum =

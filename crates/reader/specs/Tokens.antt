@@ -1,31 +1,45 @@
 -- Tokens of record text: their readers, and what the answers say.
 use Prim.Native.Nat.{ℕ, _+_, _-_, _≤_, _<_}
 use mathlib.Core.Path.{_≡_}
+use mathlib.Core.Bool.{Bool, _||_}
 use mathlib.Core.Option.{Option, none, some}
 use mathlib.Core.List.{[], _∷_}
+use lib.Dec.{eqb}
 use lib.ListN.{length, take, drop}
 use Rattle.rows.specs.Positions.{Reader}
-use Rattle.model.specs.Base.{Bytes, text, _>>=_, _<|>_}
+use Rattle.model.specs.Base.{Bytes, text, if_then_else_, _>>=_, _<|>_}
 use Rattle.model.specs.Limits.{maxDepth}
 use Rattle.model.specs.Values.{Value, readValue}
 use Rattle.model.specs.RecordText.{Members, skip, token, readKey, readObject, readEmpty}
-use Rattle.lexical.specs.declared.class.End.{End}
-use Rattle.lexical.specs.declared.class.End.the-variants as end
 use Rattle.reader.specs.declared.tokens.KeyAt.{KeyAt}
 use Rattle.reader.specs.declared.tokens.KeyAt.the-variants as key-at
+use Rattle.reader.specs.declared.tokens.TokenAt.{TokenAt}
+use Rattle.reader.specs.declared.tokens.TokenAt.the-variants as token-at
 
--- a token of one byte
+-- RFC 8259's structural characters, of which the grammar has these: each is a token of one byte
+unfoldable pub isStructural : ℕ → Bool
+isStructural b = eqb b 0x7B || eqb b 0x7D || eqb b 0x3A || eqb b 0x2C
+
+-- any of them, with the blanks behind it
+unfoldable pub readStructural : Bytes → Option (ℕ × Bytes)
+readStructural [] = none
+readStructural (b ∷ s) = if isStructural b then some (b, skip s) else none
+
+-- which one was read, and where the next token stands
+abbrev pub tokenAnswer : TokenAt → Option (ℕ × ℕ)
+tokenAnswer (token-at.Open e) = some (0x7B, e)
+tokenAnswer (token-at.Close e) = some (0x7D, e)
+tokenAnswer (token-at.Colon e) = some (0x3A, e)
+tokenAnswer (token-at.Comma e) = some (0x2C, e)
+tokenAnswer token-at.Bad = none
+
+-- a given token of one byte
 unfoldable pub readToken : ℕ → Bytes → Option (Unit {0} × Bytes)
 readToken b s = token (b ∷ []) s >>= λ r. some (tt, r)
 
 -- a value, with the blanks behind it
 unfoldable pub readScalar : Bytes → Option (Value × Bytes)
 readScalar s = readValue s >>= λ t. some (t .0, skip (t .1))
-
--- where a reader ends
-abbrev pub endAnswer : End → Option (Unit {0} × ℕ)
-endAnswer (end.At e) = some (tt, e)
-endAnswer end.Bad = none
 
 abbrev pub keyAnswer : Bytes → KeyAt → Option (Bytes × ℕ)
 keyAnswer s (key-at.At a e n) = some (take (e - a) (drop a s), n)

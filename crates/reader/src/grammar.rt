@@ -1,23 +1,28 @@
 // The grammar of records: whether a text is one, how many fields it has, and whether a key stands twice in one object.
 use crate::keys::note_key;
 use crate::tokens::KeyAt;
+use crate::tokens::TokenAt;
 use crate::tokens::leaf_at;
 use crate::tokens::member_at;
 use crate::tokens::token_at;
 use lexical::class::Class;
-use lexical::class::End;
 use lexical::class::run;
+use lexical::limits::MAX_DEPTH;
+use lexical::limits::MAX_TEXT;
 use values::value::ValueAt;
 ghost use mathlib.Core.Path.{_≡_};
 ghost use Prim.Native.Nat.{_*_, _≤_};
 ghost use lib.ListN.{length, take};
 ghost use Rattle.rows.specs.Positions.{placed};
+ghost use Rattle.model.specs.Limits.{maxText};
 ghost use Rattle.model.specs.RecordText.{readObject};
 ghost use Rattle.reader.specs.Tokens.{mapped, readTop};
-ghost use Rattle.reader.specs.Summaries.{summary, objectAnswer, FieldsWithin, readingOf, readAnswer};
+ghost use Rattle.reader.specs.Summaries.{memberBytes, keysRoom, summary, objectAnswer, FieldsWithin, readingOf, readAnswer};
 
-// Room for the keys of a text: a key and its colon take four bytes of at most 65,536.
-pub const KEYS: usize = 16384;
+// A key, its quotes and its colon take at least these bytes: so many keys a text has at most.
+const MEMBER: usize = 4;
+
+pub const KEYS: usize = MAX_TEXT / MEMBER;
 
 // Where an object ends, how many fields it has, and whether a key stands twice in it or in an object in it.
 pub enum ObjectAt {
@@ -34,7 +39,7 @@ pub enum RecordRead {
 
 // An object with members, in which at most `depth` keys stand one inside the other; `keys` has those of the objects around it before `top`.
 fn object_at(s: &[u8], at: usize, depth: usize, keys: &mut [u16], top: usize) -> ObjectAt
-    requires { ⌜ (at ≤ length (now s)) × (length (now s) ≤ 65536) × (length (now keys) ≡ 16384) × (4 * top ≤ at) ⌝ }
+    requires { ⌜ (at ≤ length (now s)) × (length (now s) ≤ maxText) × (length (now keys) ≡ keysRoom) × (memberBytes * top ≤ at) ⌝ }
     ensures { λ r. ⌜ objectAnswer r ≡ placed (mapped summary (readObject depth)) (now (s .entry)) at ⌝ }
     ensures { λ r. ⌜ FieldsWithin at r ⌝ }
     ensures { λ r. ⌜ take top (now (keys .exit)) ≡ take top (now (keys .entry)) ⌝ }
@@ -42,7 +47,7 @@ fn object_at(s: &[u8], at: usize, depth: usize, keys: &mut [u16], top: usize) ->
     if depth == 0 {
         return ObjectAt::Bad;
     }
-    let End::At(open) = token_at(s, at, b'{') else {
+    let TokenAt::Open(open) = token_at(s, at) else {
         return ObjectAt::Bad;
     };
     let mut i = open;
@@ -65,8 +70,9 @@ fn object_at(s: &[u8], at: usize, depth: usize, keys: &mut [u16], top: usize) ->
         };
         fields += more;
         twice = seen | again | twice;
-        let End::At(next) = token_at(s, e, b',') else {
-            let End::At(close) = token_at(s, e, b'}') else {
+        let token = token_at(s, e);
+        let TokenAt::Comma(next) = token else {
+            let TokenAt::Close(close) = token else {
                 return ObjectAt::Bad;
             };
             return ObjectAt::At(close, fields, twice);
@@ -77,22 +83,22 @@ fn object_at(s: &[u8], at: usize, depth: usize, keys: &mut [u16], top: usize) ->
 
 // The object of a record, which may be empty.
 fn top_at(s: &[u8], at: usize) -> ObjectAt
-    requires { ⌜ (at ≤ length (now s)) × (length (now s) ≤ 65536) ⌝ }
+    requires { ⌜ (at ≤ length (now s)) × (length (now s) ≤ maxText) ⌝ }
     ensures { λ r. ⌜ objectAnswer r ≡ placed (mapped summary readTop) (now (s .entry)) at ⌝ }
 {
-    let End::At(open) = token_at(s, at, b'{') else {
+    let TokenAt::Open(open) = token_at(s, at) else {
         return ObjectAt::Bad;
     };
-    if let End::At(e) = token_at(s, open, b'}') {
+    if let TokenAt::Close(e) = token_at(s, open) {
         return ObjectAt::At(e, 0, false);
     }
     let mut keys = [0u16; KEYS];
-    object_at(s, at, 6, &mut keys, 0)
+    object_at(s, at, MAX_DEPTH, &mut keys, 0)
 }
 
 // What a text says of itself as a record.
 pub fn read_summary(s: &[u8]) -> RecordRead
-    requires { ⌜ length (now s) ≤ 65536 ⌝ }
+    requires { ⌜ length (now s) ≤ maxText ⌝ }
     ensures { λ r. ⌜ readAnswer r ≡ readingOf (now (s .entry)) ⌝ }
 {
     let at = run(s, 0, Class::Blank);

@@ -3,6 +3,7 @@ use lexical::slice::starts;
 ghost use mathlib.Core.Path.{_≡_};
 ghost use Prim.Native.Nat.{_-_, _≤_, _<_};
 ghost use lib.ListN.{length, take, drop, set};
+ghost use Rattle.model.specs.Limits.{maxText};
 ghost use Rattle.reader.specs.Summaries.{standsAtOne};
 
 // Whether the word w stands at one of the positions.
@@ -25,7 +26,7 @@ pub fn stands_at_one(w: &[u8], s: &[u8], at: &[u16]) -> bool
 
 // Whether the word from `from` to `end` stands at one of the positions from `top` to `n`; its own position is put behind them.
 pub fn note_key(s: &[u8], from: usize, end: usize, keys: &mut [u16], top: usize, n: usize) -> bool
-    requires { ⌜ (from < end) × (end ≤ length (now s)) × (length (now s) ≤ 65536) × (top ≤ n) × (n < length (now keys)) ⌝ }
+    requires { ⌜ (from < end) × (end ≤ length (now s)) × (length (now s) ≤ maxText) × (top ≤ n) × (n < length (now keys)) ⌝ }
     ensures { λ r. ⌜ r ≡ standsAtOne (take (end - from) (drop from (now (s .entry)))) (now (s .entry)) (take (n - top) (drop top (now (keys .entry)))) ⌝ }
     ensures { λ r. ⌜ now (keys .exit) ≡ set (now (keys .entry)) n from ⌝ }
 {

@@ -3,6 +3,7 @@ use lexical::class::Class;
 use lexical::class::End;
 use lexical::class::between;
 use lexical::class::run;
+use lexical::limits::MAX_KEY;
 use values::value::ValueAt;
 use values::value::value_at;
 ghost use mathlib.Core.Path.{_≡_};
@@ -11,7 +12,16 @@ ghost use lib.ListN.{length};
 ghost use Rattle.rows.specs.Positions.{placed};
 ghost use Rattle.model.specs.RecordText.{readKey};
 ghost use Rattle.values.specs.Scalars.{valueAnswer, AnswerInText};
-ghost use Rattle.reader.specs.Tokens.{readToken, readScalar, endAnswer, keyAnswer, readMember, KeyInText, MemberInText};
+ghost use Rattle.reader.specs.Tokens.{readStructural, readScalar, tokenAnswer, keyAnswer, readMember, KeyInText, MemberInText};
+
+// A token of one byte, and where the next token stands.
+pub enum TokenAt {
+    Open(usize),
+    Close(usize),
+    Colon(usize),
+    Comma(usize),
+    Bad,
+}
 
 // A key is a part of the text: where it begins and ends, and where the next token stands.
 pub enum KeyAt {
@@ -19,19 +29,23 @@ pub enum KeyAt {
     Bad,
 }
 
-// One given byte.
-pub fn token_at(s: &[u8], at: usize, b: u8) -> End
+// The token of one byte that stands at a position.
+pub fn token_at(s: &[u8], at: usize) -> TokenAt
     requires { ⌜ at ≤ length (now s) ⌝ }
-    ensures { λ r. ⌜ endAnswer r ≡ placed (readToken b) (now (s .entry)) at ⌝ }
+    ensures { λ r. ⌜ tokenAnswer r ≡ placed readStructural (now (s .entry)) at ⌝ }
 {
     if s.len() <= at {
-        return End::Bad;
+        return TokenAt::Bad;
     }
-    if s[at] != b {
-        return End::Bad;
+    let b = s[at];
+    let next = run(s, at + 1, Class::Blank);
+    match b {
+        b'{' => TokenAt::Open(next),
+        b'}' => TokenAt::Close(next),
+        b':' => TokenAt::Colon(next),
+        b',' => TokenAt::Comma(next),
+        _ => TokenAt::Bad,
     }
-    let to = run(s, at + 1, Class::Blank);
-    End::At(to)
 }
 
 // A key in quotes.
@@ -40,7 +54,7 @@ pub fn key_at(s: &[u8], at: usize) -> KeyAt
     ensures { λ r. ⌜ keyAnswer (now (s .entry)) r ≡ placed readKey (now (s .entry)) at ⌝ }
     ensures { λ r. ⌜ KeyInText at r (now (s .entry)) ⌝ }
 {
-    let End::At(e) = between(s, at, b'"', Class::Name, 1, 16) else {
+    let End::At(e) = between(s, at, b'"', Class::Name, 1, MAX_KEY) else {
         return KeyAt::Bad;
     };
     let to = run(s, e, Class::Blank);
@@ -56,7 +70,7 @@ pub fn member_at(s: &[u8], at: usize) -> KeyAt
     let KeyAt::At(from, to, e) = key_at(s, at) else {
         return KeyAt::Bad;
     };
-    let End::At(v) = token_at(s, e, b':') else {
+    let TokenAt::Colon(v) = token_at(s, e) else {
         return KeyAt::Bad;
     };
     KeyAt::At(from, to, v)

@@ -1,6 +1,5 @@
 -- Laws of the table and its slots.
 pub mod Search
-pub mod Changes
 pub mod Places
 pub mod Stores
 pub mod Slots

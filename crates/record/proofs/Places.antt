@@ -9,13 +9,10 @@ use lib.ListN.{length, getD, set}
 use Rattle.rows.specs.Rows.{insertAt}
 use Rattle.model.specs.Base.{isSome}
 use Rattle.model.specs.Values.{Value, truth}
-use Rattle.model.specs.Fields.{Keys, Field, Fields, orderPath, byOrder, valueAt, holds, put}
+use Rattle.model.specs.Fields.{Keys, Field, Fields, orderPath, byOrder, valueAt, holds, put, fieldOf}
 use Rattle.model.proofs.Order.{by-three, put-less, put-same, put-more, value-less, value-same, value-more}
 use Rattle.record.specs.declared.table.Place.the-variants.{At, Before}
 use Rattle.record.specs.Search.{placeIn}
-
-abbrev pub field : Keys → Value → Field
-field p v = record { path = p; value = v }
 
 -- a search from the place j on that ends at i, d fields further on
 record FoundAt (p : Keys) (fs : Fields) (j i : ℕ) : Type 0 where
@@ -23,14 +20,14 @@ record FoundAt (p : Keys) (fs : Fields) (j i : ℕ) : Type 0 where
   place : i ≡ j + d
   within : d < length fs
   value : (z : Field) → valueAt p fs ≡ some (getD fs d z .value)
-  stored : (v : Value) → put (field p v) fs ≡ set fs d (field p v)
+  stored : (v : Value) → put (fieldOf p v) fs ≡ set fs d (fieldOf p v)
 
 record FoundBefore (p : Keys) (fs : Fields) (j i : ℕ) : Type 0 where
   d : ℕ
   place : i ≡ j + d
   within : d ≤ length fs
   value : valueAt p fs ≡ none
-  stored : (v : Value) → put (field p v) fs ≡ insertAt d (field p v) fs
+  stored : (v : Value) → put (fieldOf p v) fs ≡ insertAt d (fieldOf p v) fs
 
 at-before : {C : Type 0} (i j : ℕ) → At i ≡ Before j → C
 at-before i j h = let z : _≡_ {A = ℕ} 0 1 = cc in absurd (omega arith)
@@ -55,14 +52,14 @@ module _ (p : Keys) where
       (λ o. at-before i j (sym e ∙ place-less g gs j o))
       (λ o. let h = sym (place-same g gs j o) ∙ e in
       let s : j ≡ i = cc in
-      record { d = 0; place = omega arith; within = omega arith; value = λ z. value-same p g gs o; stored = λ v. put-same (field p v) g gs o })
+      record { d = 0; place = omega arith; within = omega arith; value = λ z. value-same p g gs o; stored = λ v. put-same (fieldOf p v) g gs o })
       (λ o. let r = found-at gs (suc j) i (sym (place-more g gs j o) ∙ e) in
       record {
         d = suc (r .d);
         place = omega (arith, r .place);
         within = omega (arith, r .within);
         value = λ z. value-more p g gs o ∙ r .value z;
-        stored = λ v. put-more (field p v) g gs o ∙ ap (λ (l : Fields). g ∷ l) (r .stored v);
+        stored = λ v. put-more (fieldOf p v) g gs o ∙ ap (λ (l : Fields). g ∷ l) (r .stored v);
       })
 
   found-before : (fs : Fields) (j i : ℕ) → placeIn j p fs ≡ Before i → FoundBefore p fs j i
@@ -73,7 +70,7 @@ module _ (p : Keys) where
   found-before (g ∷ gs) j i e = by-three (orderPath p (g .path))
       (λ o. let h = sym (place-less g gs j o) ∙ e in
       let s : j ≡ i = cc in
-      record { d = 0; place = omega arith; within = omega arith; value = value-less p g gs o; stored = λ v. put-less (field p v) g gs o })
+      record { d = 0; place = omega arith; within = omega arith; value = value-less p g gs o; stored = λ v. put-less (fieldOf p v) g gs o })
       (λ o. at-before j i (sym (place-same g gs j o) ∙ e))
       (λ o. let r = found-before gs (suc j) i (sym (place-more g gs j o) ∙ e) in
       record {
@@ -81,7 +78,7 @@ module _ (p : Keys) where
         place = omega (arith, r .place);
         within = omega (arith, r .within);
         value = value-more p g gs o ∙ r .value;
-        stored = λ v. put-more (field p v) g gs o ∙ ap (λ (l : Fields). g ∷ l) (r .stored v);
+        stored = λ v. put-more (fieldOf p v) g gs o ∙ ap (λ (l : Fields). g ∷ l) (r .stored v);
       })
 
 -- of all the fields
@@ -99,12 +96,12 @@ module _ (p : Keys) (fs : Fields) (i : ℕ) where
     pub at-value : (z : Field) → valueAt p fs ≡ some (getD fs i z .value)
     at-value z = at-found .value z ∙ rw at-place
 
-    pub at-put : (v : Value) → put (field p v) fs ≡ set fs i (field p v)
+    pub at-put : (v : Value) → put (fieldOf p v) fs ≡ set fs i (fieldOf p v)
     at-put v = at-found .stored v ∙ rw at-place
 
     pub at-holds : holds p fs ≡ true
     unfolding holds isSome
-    at-holds = ap isSome (at-value (field p (truth false)))
+    at-holds = ap isSome (at-value (fieldOf p (truth false)))
 
   module _ (e : placeIn 0 p fs ≡ Before i) where
     before-found : FoundBefore p fs 0 i
@@ -119,7 +116,7 @@ module _ (p : Keys) (fs : Fields) (i : ℕ) where
     pub before-value : valueAt p fs ≡ none
     before-value = before-found .value
 
-    pub before-put : (v : Value) → put (field p v) fs ≡ insertAt i (field p v) fs
+    pub before-put : (v : Value) → put (fieldOf p v) fs ≡ insertAt i (fieldOf p v) fs
     before-put v = before-found .stored v ∙ rw before-place
 
     pub before-holds : holds p fs ≡ false

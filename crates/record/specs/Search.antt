@@ -3,11 +3,12 @@ use Prim.Native.Nat.{ℕ, suc}
 use mathlib.Core.List.{[], _∷_}
 use Rattle.model.specs.Base.{Bytes, if_then_else_}
 use Rattle.model.specs.Values.{Value}
-use Rattle.model.specs.Fields.{Keys, Fields, orderPath, byOrder, store}
+use Rattle.model.specs.Fields.{Keys, Fields, orderPath, byOrder, store, fieldOf}
 use Rattle.paths.specs.Layout.{pathIn}
 use Rattle.record.specs.declared.table.Place.{Place}
 use Rattle.record.specs.declared.table.Place.the-variants.{At, Before}
-use Rattle.record.specs.Slots.{heldValue, fieldIn, isEmpty}
+use Rattle.record.specs.Slots.{heldValue, fieldIn}
+use Rattle.layout.specs.Layout.{isEmpty}
 
 -- where the path p stands, or before which place it belongs, counted from i on
 unfoldable pub placeIn : ℕ → Keys → Fields → Place
@@ -18,6 +19,6 @@ placeIn i p (g ∷ gs) = let r = placeIn (suc i) p gs in byOrder (orderPath p (g
 unfoldable pub storedIn : Bytes → Fields → Fields
 storedIn slot fs = if isEmpty slot then fs else store (fieldIn slot) fs
 
--- the fields, once a value is stored at the path of a slot, in which it has 34 bytes of room
+-- the fields, once a value is stored at the path of a slot
 unfoldable pub storedAt : Bytes → Value → Fields → Fields
-storedAt path v fs = if isEmpty path then fs else store (record { path = pathIn path; value = heldValue v }) fs
+storedAt path v fs = if isEmpty path then fs else store (fieldOf (pathIn path) (heldValue v)) fs

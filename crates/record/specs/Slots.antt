@@ -1,44 +1,52 @@
 -- What the bytes of a table of fields mean, whatever they are.
-use Prim.Native.Nat.{ℕ, min}
+use Prim.Native.Nat.{ℕ, _+_, _*_, min}
 use mathlib.Core.Option.{Option, none, some}
-use mathlib.Core.Bool.{Bool, false}
+use mathlib.Core.Bool.{false}
 use mathlib.Core.List.{[]}
-use lib.Dec.{eqb}
 use lib.ListN.{getD, take, drop}
-use Rattle.rows.specs.Rows.{table}
+use Rattle.layout.specs.Layout.{table}
 use Rattle.model.specs.Base.{Bytes}
-use Rattle.model.specs.Limits.{maxFields}
+use Rattle.model.specs.Limits.{maxString, maxFields}
 use Rattle.model.specs.Values.{Value, truth, readValue, valueText}
-use Rattle.model.specs.Fields.{Field, Fields}
-use Rattle.paths.specs.Layout.{pathIn}
+use Rattle.model.specs.Fields.{Field, Fields, fieldOf}
+use Rattle.paths.specs.Layout.{pathSlot, pathIn}
 
+-- ── Sizes, in bytes ──
+-- room for the text of a value: the longest string in quotes
+abbrev pub valueRoom : ℕ
+valueRoom = maxString + 2
+
+-- a slot: the path, how long the value's text is, and the text
+abbrev pub slotBytes : ℕ
+slotBytes = pathSlot + 1 + valueRoom
+
+abbrev pub recordBytes : ℕ
+recordBytes = maxFields * slotBytes
+
+-- ── Meanings ──
 -- the value at the start of a text; false where there is none
 abbrev pub valueOr : Option (Value × Bytes) → Value
 valueOr none = truth false
 valueOr (some t) = t .0
 
--- a slot of 138 bytes: the path, how long the value's text is, and the text
+-- the text of a slot's value
 unfoldable pub textIn : Bytes → Bytes
-textIn s = take (min (getD s 103 0) 34) (drop 104 s)
+textIn s = take (min (getD s pathSlot 0) valueRoom) (drop (1 + pathSlot) s)
 
 unfoldable pub valueIn : Bytes → Value
 valueIn s = valueOr (readValue (textIn s))
 
--- what a slot holds of a value that was written into it: all of it, if its text has at most 34 bytes
+-- what a slot holds of a value that was written into it: all of it, if its text has room
 unfoldable pub heldValue : Value → Value
-heldValue v = valueOr (readValue (take 34 (valueText v)))
+heldValue v = valueOr (readValue (take valueRoom (valueText v)))
 
 unfoldable pub fieldIn : Bytes → Field
-fieldIn s = record { path = pathIn s; value = valueIn s }
+fieldIn s = fieldOf (pathIn s) (valueIn s)
 
--- a slot without keys
-unfoldable pub isEmpty : Bytes → Bool
-isEmpty s = eqb (getD s 0 0) 0
-
--- the fields of a table: 256 slots, up to the first that is empty
+-- the fields of a table: those of the slots before the first that is empty
 unfoldable pub fieldsIn : Bytes → Fields
-fieldsIn s = table isEmpty fieldIn 138 maxFields s
+fieldsIn s = table fieldIn slotBytes maxFields s
 
 -- the i-th of some fields, where there is one
 unfoldable pub fieldAt : ℕ → Fields → Field
-fieldAt i fs = getD fs i (record { path = []; value = truth false })
+fieldAt i fs = getD fs i (fieldOf [] (truth false))

@@ -1,4 +1,3 @@
 // The record: the table of its fields, sorted by path, and the slot of one.
-pub mod field;
 pub mod slot;
 pub mod table;

@@ -24,7 +24,7 @@ use Rattle.values.proofs.Values.{value-bad, value-reads}
 use Rattle.paths.specs.declared.field.PathRead.{PathRead}
 use Rattle.paths.specs.Layout.{pathIn}
 use Rattle.paths.specs.Fields.{pathAnswer}
-use Rattle.lines.specs.Cells.{isNot}
+use Rattle.lexical.specs.Classes.{isNot}
 use Rattle.requests.proofs.Cuts.{cut-none, cut-here}
 
 -- ── A line that begins with another word ──

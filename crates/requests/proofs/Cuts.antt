@@ -10,7 +10,7 @@ use Rattle.rows.specs.Positions.{run, runEnd}
 use Rattle.rows.proofs.Positions.{here, over, run-part, run-rest}
 use Rattle.model.specs.Base.{Bytes, _>>=_, inFront, cut}
 use Rattle.model.proofs.Lists.{by-cases}
-use Rattle.lines.specs.Cells.{isNot}
+use Rattle.lexical.specs.Classes.{isNot}
 
 -- the bytes before the first c, and then the text's end or that c with what follows
 cutOf : Bytes → Bytes → Option (Bytes × Bytes)

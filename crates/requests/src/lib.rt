@@ -1,14 +1,17 @@
 // A request line taken apart.
+use buffers::copy;
 use lexical::class::is_name;
+use lexical::limits::MAX_LINE;
+use lexical::limits::MAX_SESSION;
 use lexical::number::Natural;
 use lexical::number::number;
 use lexical::slice::starts;
-use lines::until;
+use lexical::slice::until;
+use paths::field::PATH;
 use paths::field::read_path;
 use values::value::Scalar;
 use values::value::ValueAt;
 use values::value::value_at;
-use values::write::copy;
 ghost use mathlib.Core.Path.{_≡_};
 ghost use Rattle.model.specs.Fields.{Keys};
 ghost use Rattle.model.specs.Requests.{readLogin, readGet, readPush, requestOf};
@@ -58,14 +61,14 @@ fn get_line(line: &[u8]) -> Parsed
     if !starts(line, 0, b"GET;") {
         return Parsed::Bad;
     }
-    let Natural::Is(session) = number(&line[4..], 4294967295) else {
+    let Natural::Is(session) = number(&line[4..], MAX_SESSION) else {
         return Parsed::Bad;
     };
     Parsed::Is(Request::Get(session as u32))
 }
 
 // `PUSH;session;path;value`, the path read into the slot
-fn push_line(line: &[u8], path: &mut [u8; 103]) -> Parsed
+fn push_line(line: &[u8], path: &mut [u8; PATH]) -> Parsed
     ensures { λ r. ⌜ parsedAnswer (now (line .entry)) (pathIn (now (path .exit))) r ≡ readPush (now (line .entry)) ⌝ }
     ensures { λ r. ⌜ ParsedInText r (now (line .entry)) ⌝ }
 {
@@ -81,7 +84,7 @@ fn push_line(line: &[u8], path: &mut [u8; 103]) -> Parsed
     if b == line.len() {
         return Parsed::Bad;
     }
-    let Natural::Is(session) = number(&line[5..a], 4294967295) else {
+    let Natural::Is(session) = number(&line[5..a], MAX_SESSION) else {
         return Parsed::Bad;
     };
     let read = read_path(&line[from..b]);
@@ -100,11 +103,11 @@ fn push_line(line: &[u8], path: &mut [u8; 103]) -> Parsed
 }
 
 // What a line asks for.
-pub fn parse(line: &[u8], path: &mut [u8; 103]) -> Parsed
+pub fn parse(line: &[u8], path: &mut [u8; PATH]) -> Parsed
     ensures { λ r. ⌜ parsedAnswer (now (line .entry)) (pathIn (now (path .exit))) r ≡ requestOf (now (line .entry)) ⌝ }
     ensures { λ r. ⌜ ParsedInText r (now (line .entry)) ⌝ }
 {
-    if 256 < line.len() {
+    if MAX_LINE < line.len() {
         return Parsed::Bad;
     }
     let login = login_line(line);

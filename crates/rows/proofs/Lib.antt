@@ -1,6 +1,5 @@
 -- Laws that other crates use.
 pub mod Rows
-pub mod Table
 pub mod Moves
 pub mod Writing
 pub mod Parts

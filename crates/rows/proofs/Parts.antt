@@ -36,9 +36,6 @@ module _ {ℓ} {A : Type ℓ} (a k : ℕ) (xs : List A) where
       pub length-replaced : length (replaced a k ys xs) ≡ length xs
       length-replaced = simp (length-append, length-take, length-drop) (omega arith)
 
-      pub before-replaced : take a (replaced a k ys xs) ≡ take a xs
-      before-replaced = take-at (take a xs) (ys ++ drop k (drop a xs)) a (length-take-le a xs (omega arith))
-
       from-part : drop a (replaced a k ys xs) ≡ ys ++ drop k (drop a xs)
       from-part = drop-at (take a xs) (ys ++ drop k (drop a xs)) a (length-take-le a xs (omega arith))
 

@@ -6,10 +6,10 @@ use mathlib.Core.Option.{Option, none, some}
 use mathlib.Core.List.{List, [], _∷_, _++_}
 use native.Mathlib.Numerals.{add-one}
 use native.Mathlib.Omega.{arith}
-use lib.ListN.{length, getD, take, drop, length-drop, take-append-drop, drop-of-length-le}
+use lib.ListN.{length, getD, take, drop, length-drop, drop-of-length-le}
 use lib.Seq.{drop-cons, drop-drop}
 use Rattle.rows.specs.Rows.{upTo}
-use Rattle.rows.specs.Positions.{Reader, Reads, behind, placed, LeavesEnd, Takes, Answers, Ends, one, run, runEnd}
+use Rattle.rows.specs.Positions.{Reader, Reads, behind, placed, LeavesEnd, run, runEnd}
 use Rattle.rows.proofs.Rows.{upTo-prefix, length-upTo}
 
 module _ {ℓ} {A : Type ℓ} where
@@ -23,9 +23,6 @@ module _ {ℓ} {A : Type ℓ} where
   -- the rest at a later position, and what stands between
   pub rest-from : (s : List A) (at e : ℕ) → at ≤ e → drop (e - at) (drop at s) ≡ drop e s
   rest-from s at e h = let q : at + (e - at) ≡ e = omega arith in rw (drop-drop, q)
-
-  pub rest-split : (s : List A) (at e : ℕ) → at ≤ e → take (e - at) (drop at s) ++ drop e s ≡ drop at s
-  rest-split s at e h = rw (← rest-from s at e h) (take-append-drop (e - at) (drop at s))
 
   -- the rest determines the position
   pub same-position : (s : List A) (a b : ℕ) → a ≤ length s → b ≤ length s → drop a s ≡ drop b s → a ≡ b
@@ -63,46 +60,11 @@ module _ {E : Type 0} (ok : E → Bool) (s : List E) where
         let n : length (run ok (drop at s)) ≡ e - at = omega arith in
         rw n (rest-from s at e (omega arith))
 
--- a test at the head of the rest: it passes, it does not, or there is none
-module _ {E : Type 0} (ok : E → Bool) (s : List E) (at : ℕ) where
-  pub one-yes : (z : E) → at < length s → ok (getD s at z) ≡ true → Takes (one ok) s at (getD s at z) (at + 1)
-  unfolding one
-  one-yes z h e = (omega arith, record { from = omega arith; to = omega arith; is = rw (here z s at h, e) })
-
-  pub one-no : (z : E) → at < length s → ok (getD s at z) ≡ false → one ok (drop at s) ≡ none
-  unfolding one
-  one-no z h e = rw (here z s at h, e)
-
-  pub one-over : length s ≤ at → one ok (drop at s) ≡ none
-  unfolding one
-  one-over h = rw (over s at h)
-
--- a reader reads one thing and ends at one position
-pub reads-once : {E A : Type 0} {f : Reader E A} {s : List E} {at : ℕ} {a b : A} {e i : ℕ}
-    → Reads f s at a e → Reads f s at b i → (a ≡ b) × (e ≡ i)
-reads-once {E} {A} {s = s} {a = a} {b = b} {e = e} {i = i} p q =
-    let r : _≡_ {A = A × List E} (a, drop e s) (b, drop i s) = cc in
-    let t = ap (λ (t : A × List E). t .1) r in
-    (ap (λ (t : A × List E). t .0) r, same-position s e i (p .to) (q .to) t)
-
--- a reader f that goes on as g from a later position: what it reads, where it ends, which answers are right
+-- a reader f that goes on as g from a later position: what it reads, and where it ends
 pub reads-as : {E A B : Type 0} {f : Reader E A} {g : Reader E B} {s : List E} {at m : ℕ} {a : A} {b : B} {e : ℕ}
     → at ≤ m → ((r : List E) → g (drop m s) ≡ some (b, r) → f (drop at s) ≡ some (a, r))
     → Reads g s m b e → Reads f s at a e
 reads-as {s = s} {e = e} later on d = record { from = omega (arith, d .from); to = d .to; is = on (drop e s) (d .is) }
-
-pub ends-as : {E A B : Type 0} (f : Reader E A) (g : Reader E B) (s : List E) (at m : ℕ) → at ≤ m
-    → ((b : B) (r : List E) → g (drop m s) ≡ some (b, r) → (a : A) × (f (drop at s) ≡ some (a, r)))
-    → (g (drop m s) ≡ none → f (drop at s) ≡ none) → (o : Option ℕ) → Ends g s m o → Ends f s at o
-ends-as f g s at m later on off none d = off d
-ends-as f g s at m later on off (some e) d =
-    let r = on (d .0) (drop e s) (d .1 .1 .is) in
-    (r .0, (omega (arith, d .1 .0), record { from = omega (arith, d .1 .0); to = d .1 .1 .to; is = r .1 }))
-
-pub answers-as : {E A : Type 0} (f g : Reader E A) (s : List E) (at m : ℕ) → at ≤ m
-    → f (drop at s) ≡ g (drop m s) → (o : Option (A × ℕ)) → Answers g s m o → Answers f s at o
-answers-as f g s at m later e none d = e ∙ d
-answers-as f g s at m later e (some p) d = (omega (arith, d .0), reads-as later (λ r x. e ∙ x) (d .1))
 
 -- ── Readers by positions ──
 position : {A : Type 0} (a b : A) (m n : ℕ) → _≡_ {A = Option (A × ℕ)} (some (a, m)) (some (b, n)) → (a ≡ b) × (m ≡ n)

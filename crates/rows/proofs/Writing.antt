@@ -58,21 +58,6 @@ module _ {ℓ} {A : Type ℓ} where
   take-written n i [] l h = refl
   take-written n i (x ∷ xs) l h = take-written n (suc i) xs (set l i x) (omega arith) ∙ take-set-le n l i x h
 
-  pub drop-written : (n i : ℕ) (xs l : List A) → i + length xs ≤ n → drop n (written i xs l) ≡ drop n l
-  unfolding written
-  drop-written n i [] l h = refl
-  drop-written n i (x ∷ xs) l h =
-      drop-written n (suc i) xs (set l i x) (omega arith) ∙ drop-set-lt n l i x (omega arith)
-
-  -- a text that is inside is read back
-  pub read-written : (i : ℕ) (xs l : List A) → i + length xs ≤ length l
-      → take (length xs) (drop i (written i xs l)) ≡ xs
-  read-written i xs l h =
-      let rest = drop (i + length xs) l in
-      let all = take-all (length l - i) xs (omega arith) in
-      let past = drop-at (take i l) (xs ++ rest) i (length-take-le i l (omega arith)) in
-      rw (written-clipped i xs l, all, past) (take-append-seam xs rest)
-
   -- a count cut to the length of a list takes, and drops, what the whole count does
   pub take-clipped : (k n : ℕ) (xs : List A) → n ≡ min (length xs) k → take n xs ≡ take k xs
   take-clipped k n xs h = rw h (go k xs)

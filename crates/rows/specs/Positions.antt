@@ -30,27 +30,11 @@ placed f s at = behind s (f (drop at s))
 abbrev pub LeavesEnd : {E A : Type 0} → Reader E A → Type 0
 LeavesEnd {E} {A} f = (s : List E) (t : A × List E) → f s ≡ some t → (n : ℕ) × (n ≤ length s) × (t .1 ≡ drop n s)
 
-module _ {E A : Type 0} (f : Reader E A) (s : List E) (at : ℕ) where
-  -- the same, of a reader that takes at least one element
-  abbrev pub Takes : A → ℕ → Type 0
-  Takes a e = (at < e) × Reads f s at a e
-
-  -- an answer is right of f: what it reads and where it ends, or that it reads nothing
-  abbrev pub Answers : Option (A × ℕ) → Type 0
-  Answers none = f (drop at s) ≡ none
-  Answers (some p) = Takes (p .0) (p .1)
-
-  -- the same of an answer that does not say what was read
-  abbrev pub Ends : Option ℕ → Type 0
-  Ends none = f (drop at s) ≡ none
-  Ends (some e) = (a : A) × Takes a e
+-- the same, of a reader that takes at least one element
+abbrev pub Takes : {E A : Type 0} → Reader E A → List E → ℕ → A → ℕ → Type 0
+Takes f s at a e = (at < e) × Reads f s at a e
 
 module _ {E : Type 0} (ok : E → Bool) where
-  -- one element that passes
-  unfoldable pub one : Reader E E
-  one [] = none
-  one (x ∷ xs) = cond (ok x) (some (x, xs)) none
-
   -- the longest beginning of elements that all pass
   abbrev pub run : List E → List E
   run xs = upTo (λ x. not (ok x)) xs

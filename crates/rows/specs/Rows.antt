@@ -1,8 +1,8 @@
--- Rows of a fixed size in a flat list and what they mean; elements put in, taken out and written over.
+-- Rows of a fixed size in a flat list; elements put in, taken out and written over.
 use Prim.Native.Nat.{ℕ, zero, suc, _+_}
 use mathlib.Core.Path.{_≡_}
 use mathlib.Core.Bool.{Bool, cond}
-use mathlib.Core.List.{List, [], _∷_, _++_, map}
+use mathlib.Core.List.{List, [], _∷_, _++_}
 use lib.ListN.{length, take, drop}
 use lib.Seq.{sets}
 
@@ -36,7 +36,3 @@ module _ {ℓ} {A : Type ℓ} where
   -- what every writer answers: where the text xs ends, and what the buffer o then holds
   abbrev pub Wrote : ℕ → List A → List A → ℕ → List A → Type ℓ
   Wrote at xs o e p = (e ≡ at + length xs) × (p ≡ written at xs o)
-
--- what the first n rows of k elements mean: those before the first that is a stop, decoded
-unfoldable pub table {ℓ κ} : {A : Type ℓ} {B : Type κ} → (List A → Bool) → (List A → B) → ℕ → ℕ → List A → List B
-table stop decode k n xs = map decode (upTo stop (rows k n xs))

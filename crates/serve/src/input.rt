@@ -1,7 +1,7 @@
 // Requests from standard input: each line is answered before more input is waited for.
+use lexical::slice::until;
 use libc::STDIN_FILENO;
 use libc::STDOUT_FILENO;
-use lines::until;
 use printing::COPY;
 use printing::LIST;
 use printing::respond;

@@ -1,5 +1,5 @@
 -- What a request leaves, from what its parts answer: a refusal keeps all, a login changes the login states, a shown text the buffer.
-use Prim.Native.Nat.{ℕ, zero, suc, _*_, _-_, _≤_, _<_}
+use Prim.Native.Nat.{ℕ, zero, suc, _*_, _≤_, _<_}
 use mathlib.Core.Path.{_≡_, refl, ap, _∙_}
 use mathlib.Core.Option.{none, some}
 use mathlib.Core.List.{List, [], _∷_, _++_}
@@ -10,8 +10,8 @@ use lib.ListN.{length, take, drop, replicate}
 use lib.Seq.{take-all, drop-nil}
 use Rattle.rows.specs.Rows.{written, Wrote}
 use Rattle.rows.proofs.Writing.{written-clipped}
-use Rattle.rows.proofs.Parts.{tail-part}
 use Rattle.model.specs.Base.{Bytes}
+use Rattle.model.specs.Limits.{maxFields}
 use Rattle.model.specs.Fields.{Fields}
 use Rattle.model.specs.SavedText.{saved}
 use Rattle.model.specs.Refusals.{Result, refused, done, _>>_, refuse_if_}
@@ -22,7 +22,7 @@ use Rattle.model.specs.Serving.{Change, enters, shows, stores, loginAt, copyOf,
 use Rattle.model.specs.Serving.{decideShow, decideGet, decideSave, roomFor, decide}
 use Rattle.model.specs.Serving.{apply, notified, shown, answerOf, over, unchanged, conclude, served, save, outcome}
 use Rattle.model.proofs.Decisions.{decided}
-use Rattle.tables.specs.Memory.{userIn, usersIn, policyIn, tablesIn}
+use Rattle.tables.specs.Memory.{userRow, usersBytes, userIn, usersIn, policyIn, tablesIn}
 use Rattle.record.specs.Slots.{fieldsIn}
 use Rattle.record.proofs.Stores.{fields-fit}
 use Rattle.writer.specs.Selected.{selected}
@@ -114,7 +114,7 @@ module _ (s : State) (b : Bytes) (l : List ℕ) (c : Bytes) {p : Bytes} (kept : 
 module _ (tables : Bytes) (logins : List ℕ) (fields : Bytes) (n : ℕ) {o : SessionAt}
     (answer : o ≡ sessionAnswer (hasSession (usersIn tables) (loginsIn logins) n) n) (b : Bytes) (l : List ℕ) where
   copied : ℕ → User → Result ℕ Change
-  copied room u = decideShow (copyOf (policyIn (drop 19104 tables)) u (readable (policyIn (drop 19104 tables)) u (fieldsIn fields))) room
+  copied room u = decideShow (copyOf (policyIn (drop usersBytes tables)) u (readable (policyIn (drop usersBytes tables)) u (fieldsIn fields))) room
 
   get-decides : (room : ℕ) → decide (stateIn tables logins fields) (get n) room ≡ inSession (usersIn tables) (loginsIn logins) n (copied room)
   unfolding decide decideGet stateIn tablesIn loginAt copied
@@ -126,8 +126,8 @@ module _ (tables : Bytes) (logins : List ℕ) (fields : Bytes) (n : ℕ) {o : Se
       request-refused _ b l (get n) (get-decides (length b) ∙ no-session _ _ n (copied (length b)) (session-unknown tables _ n answer is))
 
   -- the user's row and the policy are parts of the tables, and `marks` selects the fields that the user may read
-  module _ {i : ℕ} {row policy : Bytes} (marks : Bytes) (is : o ≡ Of i) (at : row ≡ take 597 (drop (i * 597) tables))
-      (part : policy ≡ take (length tables - 19104) (drop 19104 tables))
+  module _ {i : ℕ} {row policy : Bytes} (marks : Bytes) (is : o ≡ Of i) (at : row ≡ take userRow (drop (i * userRow) tables))
+      (part : policy ≡ drop usersBytes tables)
       (selects : selected marks (fieldsIn fields) ≡ readable (policyIn policy) (userIn row) (fieldsIn fields)) where
     abbrev copy : Bytes
     copy = copyOf (policyIn policy) (userIn row) (selected marks (fieldsIn fields))
@@ -135,9 +135,8 @@ module _ (tables : Bytes) (logins : List ℕ) (fields : Bytes) (n : ℕ) {o : Se
     get-shows : conclude (stateIn tables logins fields) b l (decideShow copy (length b)) ≡ served (stateIn tables logins fields) b l (some (get n))
     unfolding served roomFor copied
     get-shows =
-        let policy-is = part ∙ tail-part 19104 tables in
         let user = session-user tables _ n answer is at in
-        rw (selects, policy-is, get-decides (length b), in-session _ _ n (copied (length b)) user (session-known tables _ n answer is .0))
+        rw (selects, part, get-decides (length b), in-session _ _ n (copied (length b)) user (session-known tables _ n answer is .0))
 
     module _ {p : Bytes} (kept : p ≡ b) where
       pub get-refused : {k : ℕ} {e : Bytes} → Wrote 0 copy [] k e → length p < k
@@ -158,7 +157,7 @@ all-selected (suc k) [] h = refl
 all-selected (suc k) (f ∷ fs) h = ap (λ (l : Fields). f ∷ l) (all-selected k fs (omega arith))
 
 pub save-shows : (tables : Bytes) (logins : List ℕ) (fields b : Bytes)
-    → conclude (stateIn tables logins fields) b [] (decideShow (saved (selected (replicate 256 1) (fieldsIn fields))) (length b))
+    → conclude (stateIn tables logins fields) b [] (decideShow (saved (selected (replicate maxFields 1) (fieldsIn fields))) (length b))
     ≡ outcome (stateIn tables logins fields) (save b)
 unfolding outcome decideSave stateIn
-save-shows tables logins fields b = rw (all-selected 256 (fieldsIn fields) (fields-fit fields))
+save-shows tables logins fields b = rw (all-selected maxFields (fieldsIn fields) (fields-fit fields))

@@ -1,21 +1,16 @@
 // The saved text of the whole record.
 use crate::answer::Reply;
 use crate::open::RECORD;
+use record::table::SLOTS;
 use writer::saved::MOST_SAVED;
 use writer::saved::put_saved;
-ghost use mathlib.Core.Path.{_≡_};
-ghost use mathlib.Core.List.{List, []};
-ghost use Prim.Native.Nat.{ℕ};
-ghost use Rattle.model.specs.Base.{Bytes};
-ghost use Rattle.model.specs.Serving.{save, outcome};
-ghost use Rattle.opening.specs.Memory.{stateIn};
-ghost use Rattle.server.specs.Replies.{outcomeIn};
+ghost use Rattle.server.specs.Replies.{Saved};
 
 // Save, with any buffer: the text is written if it fits. It is measured only where there is no room for the longest.
 pub fn save(fields: &[u8; RECORD], buffer: &mut [u8]) -> Reply
-    ensures { λ r. ⌜ ((tables : Bytes) (logins : List ℕ) → outcomeIn r (stateIn tables logins (now (fields .entry))) (now (buffer .exit)) [] ≡ outcome (stateIn tables logins (now (fields .entry))) (save (now (buffer .entry)))) ⌝ }
+    ensures { λ r. ⌜ Saved (now (fields .entry)) (now (buffer .entry)) r (now (buffer .exit)) ⌝ }
 {
-    let all = [1u8; 256];
+    let all = [1u8; SLOTS];
     if buffer.len() < MOST_SAVED {
         let length = put_saved(&mut buffer[..0], 0, fields, &all);
         if buffer.len() < length {

@@ -6,7 +6,6 @@ use mathlib.Core.Option.{Option, none, some}
 use mathlib.Core.List.{List}
 use native.Mathlib.Omega.{arith}
 use lib.ListN.{length, getD, take, drop}
-use Rattle.rows.specs.Rows.{rows, upTo}
 use Rattle.model.specs.Base.{Bytes}
 use Rattle.model.specs.Limits.{maxUsers}
 use Rattle.model.specs.Refusals.{Result, refused, _>>=_, _>>_, refuse_if_, _or_}
@@ -14,9 +13,9 @@ use Rattle.model.specs.Tables.{User, userAt}
 use Rattle.model.specs.Opening.{LoginState, emptyLogin}
 use Rattle.model.specs.Serving.{Change, isSession, indexIn}
 use Rattle.model.proofs.Lists.{never, elem-below}
-use Rattle.steps.specs.Environments.{isEmptyRow}
-use Rattle.tables.specs.Memory.{userIn, usersIn}
-use Rattle.tables.proofs.Tabled.{length-decoded, counted-within}
+use Rattle.layout.specs.Layout.{inUse}
+use Rattle.tables.specs.Memory.{userRow, usersBytes, userIn, usersIn}
+use Rattle.layout.proofs.Used.{length-table, counted-fit}
 use Rattle.tables.proofs.Users.{user-inside, user-some}
 use Rattle.sessions.specs.declared.SessionAt.{SessionAt}
 use Rattle.sessions.specs.declared.SessionAt.the-variants.{Of, Unknown}
@@ -57,20 +56,20 @@ module _ (s : Bytes) (ls : List LoginState) (n : ℕ) {o : SessionAt} (answer : 
         go true h = (refl, (cc))
         go false h = let z : _≡_ {A = ℕ} 0 1 = cc in absurd (omega arith)
 
-    session-counted : i < length (upTo isEmptyRow (rows 597 maxUsers s))
+    session-counted : i < length (inUse userRow maxUsers s)
     unfolding hasSession sessionIs userAt usersIn
     session-counted = go (userAt (usersIn s) (indexIn n)) refl
       where
-        go : (o : Option User) → userAt (usersIn s) (indexIn n) ≡ o → i < length (upTo isEmptyRow (rows 597 maxUsers s))
+        go : (o : Option User) → userAt (usersIn s) (indexIn n) ≡ o → i < length (inUse userRow maxUsers s)
         go none e = never (sym (session-known .0) ∙ rw e)
         go (some u) e =
-            omega (arith, session-known .1, elem-below (usersIn s) (indexIn n) u e, length-decoded isEmptyRow userIn 597 maxUsers s)
+            omega (arith, session-known .1, elem-below (usersIn s) (indexIn n) u e, length-table userIn userRow maxUsers s)
 
-    pub session-below : i < 32
-    session-below = omega (arith, session-counted, counted-within isEmptyRow userIn 597 maxUsers s refl)
+    pub session-below : i < maxUsers
+    session-below = omega (arith, session-counted, counted-fit userRow maxUsers s refl)
 
-    pub session-inside : 19104 ≤ length s → i * 597 + 597 ≤ length s
+    pub session-inside : usersBytes ≤ length s → i * userRow + userRow ≤ length s
     session-inside h = user-inside s refl i session-counted h
 
-    pub session-user : {row : Bytes} → row ≡ take 597 (drop (i * 597) s) → userAt (usersIn s) (indexIn n) ≡ some (userIn row)
+    pub session-user : {row : Bytes} → row ≡ take userRow (drop (i * userRow) s) → userAt (usersIn s) (indexIn n) ≡ some (userIn row)
     session-user at = rw (← session-known .1) (user-some s refl i session-counted at)

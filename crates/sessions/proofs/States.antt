@@ -12,25 +12,24 @@ use mir.Val.{boolByte}
 use lib.Dec.{eqb}
 use lib.ListN.{length, getD, getElem?, take, drop, set}
 use lib.Seq.{sets, sets-eq, drop-drop}
-use Rattle.rows.specs.Rows.{rows, upTo, replaced}
+use Rattle.rows.specs.Rows.{rows, replaced}
 use Rattle.rows.proofs.Rows.{length-rows, row-at, rows-set, map-set, getD-map}
 use Rattle.rows.proofs.Parts.{part-at, part-part}
 use Rattle.model.specs.Base.{Bytes, firstFrom, _==_}
-use Rattle.model.specs.Limits.{maxUsers, maxLogins}
+use Rattle.model.specs.Limits.{maxUsers, perUser, maxLogins}
 use Rattle.model.specs.Refusals.{refused, done, _>>=_, _>>_, refuse_if_, _or_}
 use Rattle.model.specs.Tables.{User, userAt, userNamed}
 use Rattle.model.specs.Opening.{LoginState, emptyLogin}
 use Rattle.model.specs.Serving.{enters, decideLogin, isSession, indexIn, sessionNumber}
 use Rattle.model.proofs.Lists.{by-cases, elem-below}
-use Rattle.paths.specs.Layout.{nameIn}
-use Rattle.steps.specs.Environments.{isEmptyRow}
-use Rattle.tables.specs.Memory.{userIn, usersIn, userAnswer}
-use Rattle.tables.specs.declared.layout.UserAt.{UserAt}
-use Rattle.tables.specs.declared.layout.UserAt.the-variants.{At, Unknown}
-use Rattle.tables.proofs.Tabled.{length-decoded, counted-within}
+use Rattle.layout.specs.Layout.{inUse, nameRow, nameIn}
+use Rattle.tables.specs.Memory.{userRow, keyAt, userIn, usersIn, userAnswer}
+use Rattle.tables.specs.declared.memory.UserAt.{UserAt}
+use Rattle.tables.specs.declared.memory.UserAt.the-variants.{At, Unknown}
+use Rattle.layout.proofs.Used.{length-table, counted-fit}
 use Rattle.tables.proofs.Users.{user-none, user-some}
 use Rattle.sessions.specs.declared.LoginState as code
-use Rattle.sessions.specs.Logins.{loginIn, loginsIn, stateOf, entered, loginDecided, sessionIs, hasSession}
+use Rattle.sessions.specs.Logins.{loginRow, loginNumbers, loginIn, loginsIn, stateOf, entered, loginDecided, sessionIs, hasSession}
 
 -- ── A login state in its three numbers ──
 -- a flag is stored as 1 or 0
@@ -38,28 +37,28 @@ flag : (b : Bool) → not (eqb (boolByte b) 0) ≡ b
 flag true = refl
 flag false = refl
 
-module _ (s : List ℕ) (i : ℕ) (below : i < 32) where
+module _ (s : List ℕ) (i : ℕ) (below : i < maxUsers) where
   -- three numbers read
   pub state-read : getD (loginsIn s) i emptyLogin
-      ≡ record { logins = getD s (i * 3) 0; isOpen = not (eqb (getD s (i * 3 + 1) 0) 0); created = getD s (i * 3 + 2) 0 }
+      ≡ record { logins = getD s (i * loginRow) 0; isOpen = not (eqb (getD s (i * loginRow + 1) 0) 0); created = getD s (i * loginRow + 2) 0 }
   unfolding loginsIn loginIn
   state-read =
-      let l : i < length (rows 3 32 s) = rw length-rows below in
-      let at = part-at (i * 3) 3 s 0 in
-      getD-map loginIn i (rows 3 32 s) emptyLogin [] l
-      ∙ rw (row-at 3 i 32 s [] below, at 0 (omega arith), at 1 (omega arith), at 2 (omega arith), add-zero)
+      let l : i < length (rows loginRow maxUsers s) = rw length-rows below in
+      let at = part-at (i * loginRow) loginRow s 0 in
+      getD-map loginIn i (rows loginRow maxUsers s) emptyLogin [] l
+      ∙ rw (row-at loginRow i maxUsers s [] below, at 0 (omega arith), at 1 (omega arith), at 2 (omega arith), add-zero)
 
   -- three numbers stored
-  pub state-put : length s ≡ 96 → (a : ℕ) (b : Bool) (c : ℕ)
-      → loginsIn (set (set (set s (i * 3) a) (i * 3 + 1) (boolByte b)) (i * 3 + 2) c)
+  pub state-put : length s ≡ loginNumbers → (a : ℕ) (b : Bool) (c : ℕ)
+      → loginsIn (set (set (set s (i * loginRow) a) (i * loginRow + 1) (boolByte b)) (i * loginRow + 2) c)
       ≡ set (loginsIn s) i (record { logins = a; isOpen = b; created = c })
   unfolding loginsIn loginIn
   state-put long a b c =
       let row = a ∷ boolByte b ∷ c ∷ [] in
-      let e : sets s (i * 3) row ≡ replaced (i * 3) 3 row s = sets-eq row s (i * 3) (omega arith) ∙ rw (append-assoc, drop-drop) in
-      rw (add-one (i * 3), add-two (i * 3), e, rows-set 3 i 32 row s refl below (omega arith), map-set, flag b)
+      let e : sets s (i * loginRow) row ≡ replaced (i * loginRow) loginRow row s = sets-eq row s (i * loginRow) (omega arith) ∙ rw (append-assoc, drop-drop) in
+      rw (add-one (i * loginRow), add-two (i * loginRow), e, rows-set loginRow i maxUsers row s refl below (omega arith), map-set, flag b)
 
--- ── One login more; the count ends at 65,535 ──
+-- ── One login more; up to the last ──
 abbrev pub capped : ℕ → ℕ
 capped n = min (suc n) maxLogins
 
@@ -104,32 +103,32 @@ module _ (s n : Bytes) {o : UserAt} {i : ℕ} (at : o ≡ At i) (found : o ≡ u
           (t .1, e ∙ rw (← q), ap (λ (m : ℕ). getElem? (usersIn s) m) (sym p) ∙ el)
 
   -- the index is that of a user's row
-  found-counted : i < length (upTo isEmptyRow (rows 597 maxUsers s))
+  found-counted : i < length (inUse userRow maxUsers s)
   unfolding usersIn
   found-counted =
       let (u, e, el) = found-elem in
-      omega (arith, elem-below (usersIn s) i u el, length-decoded isEmptyRow userIn 597 maxUsers s)
+      omega (arith, elem-below (usersIn s) i u el, length-table userIn userRow maxUsers s)
 
-  pub found-below : i < 32
-  found-below = omega (arith, found-counted, counted-within isEmptyRow userIn 597 maxUsers s refl)
+  pub found-below : i < maxUsers
+  found-below = omega (arith, found-counted, counted-fit userRow maxUsers s refl)
 
   -- the row at the index is that user's
-  found-row : userNamed n (usersIn s) ≡ some (i, userIn (take 597 (drop (i * 597) s)))
+  found-row : userNamed n (usersIn s) ≡ some (i, userIn (take userRow (drop (i * userRow) s)))
   unfolding userAt
   found-row =
       let (u, e, el) = found-elem in
-      let row = userIn (take 597 (drop (i * 597) s)) in
+      let row = userIn (take userRow (drop (i * userRow) s)) in
       let at : getElem? (usersIn s) i ≡ some row = user-some s refl i found-counted refl in
       let q : u ≡ row = cc in
       e ∙ rw q
 
   -- ── A login of that user, whose key was compared with k ──
-  module _ (ls : List LoginState) (k : Bytes) {key : Bytes} {r : Bool} (is : key ≡ nameIn (take 17 (drop (i * 597 + 34) s))) (same : r ≡ (key == k)) where
+  module _ (ls : List LoginState) (k : Bytes) {key : Bytes} {r : Bool} (is : key ≡ nameIn (take nameRow (drop (i * userRow + keyAt) s))) (same : r ≡ (key == k)) where
     -- the comparison stands for the key's
     login-is : loginDecided (usersIn s) ls n k
         ≡ ((refuse 12 if not r) >> ((refuse 13 if getD ls i emptyLogin .isOpen) >> done (enters i (entered (getD ls i emptyLogin)))))
     unfolding loginDecided decideLogin entered userIn _>>=_ _or_ _>>_ refuse_if_
-    login-is = rw (found-row, part-part (i * 597) 597 s 34 17 (omega arith), ← is, ← same)
+    login-is = rw (found-row, part-part (i * userRow) userRow s keyAt nameRow (omega arith), ← is, ← same)
 
     -- the key is another; the user's login state is a, with a session or without
     pub wrong-key : r ≡ false → loginDecided (usersIn s) ls n k ≡ refused 12
@@ -156,26 +155,26 @@ login-unknown s n at found ls k = go (userNamed n (usersIn s)) refl (sym at ∙ 
     go (some t) e f = let z : _≡_ {A = ℕ} 0 1 = cc in absurd (omega arith)
 
 -- ── A session's number: m users were counted ──
-module _ (s : Bytes) (ls : List LoginState) (n : ℕ) {m : ℕ} (counted : m ≡ length (upTo isEmptyRow (rows 597 maxUsers s))) where
+module _ (s : Bytes) (ls : List LoginState) (n : ℕ) {m : ℕ} (counted : m ≡ length (inUse userRow maxUsers s)) where
   -- the number's index is a user's, or nobody's
-  pub session-user : n / 65536 < m → n / 65536 < 32
-  session-user h = omega (arith, counted-within isEmptyRow userIn 597 maxUsers s counted)
+  pub session-user : n / perUser < m → n / perUser < maxUsers
+  session-user h = omega (arith, counted-fit userRow maxUsers s counted)
 
-  pub session-none : m ≤ n / 65536 → hasSession (usersIn s) ls n ≡ false
+  pub session-none : m ≤ n / perUser → hasSession (usersIn s) ls n ≡ false
   unfolding hasSession sessionIs indexIn
-  session-none h = rw (user-none s counted (n / 65536) h)
+  session-none h = rw (user-none s counted (n / perUser) h)
 
   -- it is a user's, whose login state is a: no session is open, one of another number r, or the one of the number n
-  module _ (below : n / 65536 < m) {a : LoginState} (state : a ≡ getD ls (n / 65536) emptyLogin) where
-    session-is : hasSession (usersIn s) ls n ≡ (a .isOpen && eqb (sessionNumber (n / 65536) a) n)
+  module _ (below : n / perUser < m) {a : LoginState} (state : a ≡ getD ls (n / perUser) emptyLogin) where
+    session-is : hasSession (usersIn s) ls n ≡ (a .isOpen && eqb (sessionNumber (n / perUser) a) n)
     unfolding hasSession sessionIs indexIn isSession
-    session-is = rw (user-some s counted (n / 65536) below refl, ← state)
+    session-is = rw (user-some s counted (n / perUser) below refl, ← state)
 
     pub session-closed : a .isOpen ≡ false → hasSession (usersIn s) ls n ≡ false
     session-closed h = session-is ∙ rw h
 
-    pub session-other : a .isOpen ≡ true → {r : ℕ} → r ≡ sessionNumber (n / 65536) a → (r ≡ n → ⊥) → hasSession (usersIn s) ls n ≡ false
+    pub session-other : a .isOpen ≡ true → {r : ℕ} → r ≡ sessionNumber (n / perUser) a → (r ≡ n → ⊥) → hasSession (usersIn s) ls n ≡ false
     session-other h e f = session-is ∙ rw (← e, h, ne-eqb _ n f)
 
-    pub session-open : a .isOpen ≡ true → {r : ℕ} → r ≡ sessionNumber (n / 65536) a → r ≡ n → hasSession (usersIn s) ls n ≡ true
+    pub session-open : a .isOpen ≡ true → {r : ℕ} → r ≡ sessionNumber (n / perUser) a → r ≡ n → hasSession (usersIn s) ls n ≡ true
     session-open h e f = session-is ∙ rw (← e, h, eq-eqb _ n f)

@@ -1,5 +1,5 @@
 -- What the numbers of the login states mean, whatever they are.
-use Prim.Native.Nat.{ℕ}
+use Prim.Native.Nat.{ℕ, _*_}
 use mathlib.Core.Path.{_≡_}
 use mathlib.Core.Bool.{Bool, true, false, not}
 use mathlib.Core.List.{List, map}
@@ -14,19 +14,29 @@ use Rattle.model.specs.Tables.{User, userAt, userNamed}
 use Rattle.model.specs.Opening.{LoginState, emptyLogin}
 use Rattle.model.specs.Serving as serving
 use Rattle.model.specs.Serving.{Change, enters, shows, stores, isSession, indexIn, sessionNumber, decideLogin}
+use Rattle.tables.specs.Memory.{usersIn}
 use Rattle.sessions.specs.declared.LoginState as code
 use Rattle.sessions.specs.declared.LoginReply.{LoginReply}
 use Rattle.sessions.specs.declared.LoginReply.the-variants as login
 use Rattle.sessions.specs.declared.SessionAt.{SessionAt}
 use Rattle.sessions.specs.declared.SessionAt.the-variants as session
 
+-- ── Sizes, in numbers ──
+-- a login state: the logins, whether a session is open, the fields created
+abbrev pub loginRow : ℕ
+loginRow = 3
+
+abbrev pub loginNumbers : ℕ
+loginNumbers = maxUsers * loginRow
+
+-- ── Meanings ──
 -- a login state in three numbers
 unfoldable pub loginIn : List ℕ → LoginState
 loginIn row = record { logins = getD row 0 0; isOpen = not (eqb (getD row 1 0) 0); created = getD row 2 0 }
 
--- one for each of the 32 user indices
+-- one for each user index
 unfoldable pub loginsIn : List ℕ → List LoginState
-loginsIn s = map loginIn (rows 3 maxUsers s)
+loginsIn s = map loginIn (rows loginRow maxUsers s)
 
 unfoldable pub stateOf : code.LoginState → LoginState
 stateOf s = record { logins = s .logins; isOpen = s .is_open; created = s .created }
@@ -60,6 +70,12 @@ abbrev pub LoginKept : LoginReply → List ℕ → List ℕ → Type 0
 LoginKept (login.Session n) before now = Unit {0}
 LoginKept (login.Refused e) before now = now ≡ before
 
+-- a login of a name with a key: what is decided for it is answered and done, and a refusal keeps every number
+pub record LoggedIn (tables : Bytes) (before : List ℕ) (name key : Bytes) (r : LoginReply) (after : List ℕ) : Type 0 where
+  pub answers : r ≡ loginAnswer (loginDecided (usersIn tables) (loginsIn before) name key)
+  pub leaves : loginsIn after ≡ loginsAfter (loginsIn before) (loginDecided (usersIn tables) (loginsIn before) name key)
+  pub kept : LoginKept r before after
+
 -- ── A session's number ──
 unfoldable pub sessionIs : Option User → ℕ → LoginState → ℕ → Bool
 sessionIs none i a n = false
@@ -72,3 +88,7 @@ hasSession us ls n = sessionIs (userAt us (indexIn n)) (indexIn n) (getD ls (ind
 abbrev pub sessionAnswer : Bool → ℕ → SessionAt
 sessionAnswer true n = session.Of (indexIn n)
 sessionAnswer false n = session.Unknown
+
+-- the user whose open session has the number n, by the arrays
+abbrev pub sessionOf : Bytes → List ℕ → ℕ → SessionAt
+sessionOf tables logins n = sessionAnswer (hasSession (usersIn tables) (loginsIn logins) n) n

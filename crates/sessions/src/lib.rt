@@ -1,19 +1,31 @@
-// Login states: for each of 32 user indices the logins, whether a session is open, and the fields created.
+// Login states: for each user index the logins, whether a session is open, and the fields created.
+use layout::name::NAME_ROW;
+use layout::name::name_from;
+use layout::table::row_count;
 use lexical::slice::same;
-use paths::layout::name_from;
-use tables::layout::USER;
-use tables::layout::USERS;
-use tables::layout::UserAt;
-use tables::layout::find_user;
-use tables::layout::row_count;
+use tables::memory::KEY;
+use tables::memory::TABLES;
+use tables::memory::USER;
+use tables::memory::USERS;
+use tables::memory::UserAt;
+use tables::memory::find_user;
 ghost use mathlib.Core.Path.{_≡_};
-ghost use Prim.Native.Nat.{suc, min, _≤_, _<_};
-ghost use lib.ListN.{length, getD, set};
-ghost use Rattle.model.specs.Limits.{maxLogins};
+ghost use Prim.Native.Nat.{suc, min, _<_};
+ghost use lib.ListN.{getD, set};
+ghost use Rattle.model.specs.Limits.{maxUsers, maxLogins};
 ghost use Rattle.model.specs.Opening.{emptyLogin};
 ghost use Rattle.model.specs.Serving.{sessionNumber};
-ghost use Rattle.tables.specs.Memory.{usersIn};
-ghost use Rattle.sessions.specs.Logins.{loginsIn, stateOf, entered, loginDecided, loginAnswer, loginsAfter, LoginKept, hasSession, sessionAnswer};
+ghost use Rattle.sessions.specs.Logins.{loginsIn, stateOf, entered, LoggedIn, sessionOf};
+
+// A login state: the logins, whether a session is open, the fields created.
+pub const LOGIN_ROW: usize = 3;
+
+pub const LOGINS: usize = USERS * LOGIN_ROW;
+
+// A session's number: the user's index times this, and the logins, which end at the last number below it.
+const PER_USER: u32 = 65536;
+
+const MOST_LOGINS: u16 = 65535;
 
 pub struct LoginState {
     pub logins: u16,
@@ -34,11 +46,11 @@ pub enum SessionAt {
 }
 
 // The login state at an index.
-pub fn state_at(logins: &[u16], i: usize) -> LoginState
-    requires { ⌜ (length (now logins) ≡ 96) × (i < 32) ⌝ }
+pub fn state_at(logins: &[u16; LOGINS], i: usize) -> LoginState
+    requires { ⌜ i < maxUsers ⌝ }
     ensures { λ r. ⌜ stateOf r ≡ getD (loginsIn (now (logins .entry))) i emptyLogin ⌝ }
 {
-    let at = i * 3;
+    let at = i * LOGIN_ROW;
     LoginState {
         logins: logins[at],
         is_open: logins[at + 1] != 0,
@@ -47,29 +59,30 @@ pub fn state_at(logins: &[u16], i: usize) -> LoginState
 }
 
 // The login state at an index becomes this one.
-pub fn put_state(logins: &mut [u16], i: usize, state: LoginState)
-    requires { ⌜ (length (now logins) ≡ 96) × (i < 32) ⌝ }
+pub fn put_state(logins: &mut [u16; LOGINS], i: usize, state: LoginState)
+    requires { ⌜ i < maxUsers ⌝ }
     ensures { λ _. ⌜ loginsIn (now (logins .exit)) ≡ set (loginsIn (now (logins .entry))) i (stateOf state) ⌝ }
 {
-    let at = i * 3;
-    logins[at] = state.logins;
-    logins[at + 1] = state.is_open as u16;
-    logins[at + 2] = state.created;
+    let numbers: &mut [u16] = logins; // a slice, of which the proof knows how long it is
+    let at = i * LOGIN_ROW;
+    numbers[at] = state.logins;
+    numbers[at + 1] = state.is_open as u16;
+    numbers[at + 2] = state.created;
 }
 
 // The session number of a login state at an index.
 pub fn number(i: usize, state: LoginState) -> u32
-    requires { ⌜ i < 32 ⌝ }
+    requires { ⌜ i < maxUsers ⌝ }
     ensures { λ r. ⌜ r ≡ sessionNumber i (stateOf state) ⌝ }
 {
-    65536 * (i as u32) + (state.logins as u32)
+    PER_USER * (i as u32) + (state.logins as u32)
 }
 
-// One login more; the count ends at 65,535.
+// One login more, up to the last.
 fn one_more(logins: u16) -> u16
     ensures { λ r. ⌜ r ≡ min (suc logins) maxLogins ⌝ }
 {
-    if logins < 65535 {
+    if logins < MOST_LOGINS {
         return logins + 1;
     }
     logins
@@ -93,16 +106,19 @@ fn entered(state: LoginState) -> LoginState
 }
 
 // LOGIN: 12 user unknown or key wrong; 13 the user has a session.
-pub fn login(users: &[u8], logins: &mut [u16], name: &[u8], key: &[u8]) -> LoginReply
-    requires { ⌜ (19104 ≤ length (now users)) × (length (now users) ≤ 65536) × (length (now logins) ≡ 96) ⌝ }
-    ensures { λ r. ⌜ r ≡ loginAnswer (loginDecided (usersIn (now (users .entry))) (loginsIn (now (logins .entry))) (now (name .entry)) (now (key .entry))) ⌝ }
-    ensures { λ r. ⌜ loginsIn (now (logins .exit)) ≡ loginsAfter (loginsIn (now (logins .entry))) (loginDecided (usersIn (now (users .entry))) (loginsIn (now (logins .entry))) (now (name .entry)) (now (key .entry))) ⌝ }
-    ensures { λ r. ⌜ LoginKept r (now (logins .entry)) (now (logins .exit)) ⌝ }
+pub fn login(
+    tables: &[u8; TABLES],
+    logins: &mut [u16; LOGINS],
+    name: &[u8],
+    key: &[u8],
+) -> LoginReply
+    ensures { λ r. ⌜ LoggedIn (now (tables .entry)) (now (logins .entry))
+        (now (name .entry)) (now (key .entry)) r (now (logins .exit)) ⌝ }
 {
-    let UserAt::At(i) = find_user(users, name) else {
+    let UserAt::At(i) = find_user(tables, name) else {
         return LoginReply::Refused(12);
     };
-    if !same(name_from(users, i * USER + 34), key) {
+    if !same(name_from(tables, i * USER + KEY, NAME_ROW), key) {
         return LoginReply::Refused(12); // as for an unknown user
     }
     let state = state_at(logins, i);
@@ -115,12 +131,11 @@ pub fn login(users: &[u8], logins: &mut [u16], name: &[u8], key: &[u8]) -> Login
 }
 
 // The user whose open session has the number n.
-pub fn session(users: &[u8], logins: &[u16], n: u32) -> SessionAt
-    requires { ⌜ (19104 ≤ length (now users)) × (length (now users) ≤ 65536) × (length (now logins) ≡ 96) ⌝ }
-    ensures { λ r. ⌜ r ≡ sessionAnswer (hasSession (usersIn (now (users .entry))) (loginsIn (now (logins .entry))) n) n ⌝ }
+pub fn session(tables: &[u8; TABLES], logins: &[u16; LOGINS], n: u32) -> SessionAt
+    ensures { λ r. ⌜ r ≡ sessionOf (now (tables .entry)) (now (logins .entry)) n ⌝ }
 {
-    let i = (n / 65536) as usize;
-    if row_count(users, USER, USERS) <= i {
+    let i = (n / PER_USER) as usize;
+    if row_count(tables, USER, USERS) <= i {
         return SessionAt::Unknown;
     }
     let state = state_at(logins, i);

@@ -10,13 +10,14 @@ use lib.Seq.{take-all}
 use borrow.Author.Tests.{le-leb, lt-leb}
 use Rattle.rows.specs.Positions.{Reads}
 use Rattle.model.specs.Base.{Bytes, _>>=_, _>>_, check}
-use Rattle.model.specs.Limits.{maxDepth, maxPathText}
+use Rattle.model.specs.Limits.{maxKey, maxDepth, maxPathText}
 use Rattle.model.specs.Paths.{Step, Steps, names, asSteps, stepsText, readStep, readPath, stepsOf}
-use Rattle.paths.specs.Layout.{nameIn, pathIn}
+use Rattle.paths.specs.Layout.{pathIn}
+use Rattle.layout.specs.Layout.{keyRow, nameIn}
 use Rattle.steps.specs.Steps.{stepsIn, stepsAnswer}
 use Rattle.steps.specs.declared.policy.StepsRead.{StepsRead}
-use Rattle.paths.proofs.Counted.{counted-more}
-use Rattle.paths.proofs.Spelled.{name-length}
+use Rattle.layout.proofs.Counts.{counted-more}
+use Rattle.layout.proofs.Named.{name-length}
 use Rattle.paths.proofs.WholePaths.{left, left-step}
 
 -- a step is pushed behind the steps p where there is room: then they are p₁
@@ -31,13 +32,13 @@ module _ (p p₁ : Steps) (a : Step) (pushed : p₁ ≡ take maxDepth (p ++ a �
 
 -- the steps p are the first i keys of a field's path, and the key behind them is pushed as a list of one
 pub key-step-turn : (slot : Bytes) (i : ℕ) → i < min (getD slot 0 0) maxDepth → (p p₁ : Steps) → p ≡ asSteps (take i (pathIn slot))
-    → (key : Bytes) → key ≡ nameIn (take 17 (drop (i * 17 + 1) slot)) → (ns : List Bytes) → ns ≡ take 16 key ∷ []
+    → (key : Bytes) → key ≡ nameIn (take keyRow (drop (i * keyRow + 1) slot)) → (ns : List Bytes) → ns ≡ take maxKey key ∷ []
     → p₁ ≡ take maxDepth (p ++ names ns ∷ []) → p₁ ≡ asSteps (take (i + 1) (pathIn slot))
 unfolding asSteps pathIn
 key-step-turn slot i h p p₁ inv key is ns one pushed =
     let room : length p < maxDepth = rw inv (simp (length-map, length-take) (omega arith)) in
-    let whole = take-all 16 key (name-length key _ is) in
-    step-pushed p p₁ (names ns) pushed room ∙ rw (inv, one, whole, is, counted-more nameIn 17 maxDepth slot i h, map-append)
+    let whole = take-all maxKey key (name-length maxKey _ is (simp length-take (omega arith))) in
+    step-pushed p p₁ (names ns) pushed room ∙ rw (inv, one, whole, is, counted-more nameIn keyRow maxDepth slot i h, map-append)
 
 -- ── A path of at most 121 bytes in the standard spelling ──
 module _ (s : Bytes) (r : StepsRead) (answer : stepsAnswer r ≡ readPath readStep s) where

@@ -13,7 +13,7 @@ use Rattle.rows.specs.Positions.{Reader, Reads, placed, runEnd, LeavesEnd, Take
 use Rattle.rows.proofs.Positions.{here, run-within, placed-reads, placed-none, none-placed, reads-placed}
 use Rattle.model.specs.Base.{Bytes, Opened, text, any, all, range, isSome, _>>=_, _<|>_, after, ifAfter, within, isDigit}
 use Rattle.model.specs.Names.{nameByte, isNameOf, isName, isKey, isLetter, plainByte, isPlain}
-use Rattle.model.specs.Limits.{maxListed, maxKey}
+use Rattle.model.specs.Limits.{maxName, maxListed, maxKey}
 use Rattle.model.specs.Paths.{Step, Operator, names, wildcard, environment, equals, isIn, operatorText, identifierByte, startsWell}
 use Rattle.model.specs.Paths.{readQuoted, readEither, inBrackets, readWildcard, readIdentifier, readDotted, readEnvironment, readNames, readList, readSelector, readStep}
 use Rattle.model.proofs.Lists.{by-cases, never, none-some, all-imp, all-true, true-all, any-range}
@@ -27,7 +27,7 @@ use Rattle.lexical.proofs.Slices.{after-at, after-no}
 use Rattle.lexical.proofs.Between.{scan-bad, scan-at, scan-within, between-gives, between-leaves, quoted-between}
 use Rattle.steps.specs.Steps.{stepOf, stepAnswer}
 use Rattle.steps.specs.declared.step.StepRead.{StepRead}
-use Rattle.paths.proofs.Names.{push-whole}
+use Rattle.layout.proofs.Named.{push-whole}
 use Rattle.paths.proofs.InBrackets.{brackets-unopened, brackets-empty, brackets-unclosed, brackets-closed, brackets-leave, brackets-shorten}
 use Rattle.lexical.proofs.Readers.{placed-or, leaves-or, word-not, word-then, leaves-word, word-taken, leaves-if-word, leaves-some, leaves-bind, scanned, scanned-not, scanned-is, leaves-scanned}
 
@@ -78,16 +78,16 @@ module _ (p : ℕ → Bool) (named : (x : ℕ) → p x ≡ true → nameByte x �
   part-passes = rw (span-at p s at to is) at (span-passes p (drop at s))
 
   -- they are a name by their number alone
-  part-named : isNameOf 16 (take (to - at) (drop at s)) ≡ within 1 16 (to - at)
+  part-named : (most : ℕ) → isNameOf most (take (to - at) (drop at s)) ≡ within 1 most (to - at)
   unfolding isNameOf
-  part-named =
+  part-named most =
       let part = take (to - at) (drop at s) in
       let a : all nameByte part ≡ true = true-all nameByte part (all-imp _ _ named part (all-true p part part-passes)) in
       rw (part-length, a) (and-true _)
 
   -- a slot of such a name holds all of it
-  part-whole : to - at ≤ 16 → take 16 (take (to - at) (drop at s)) ≡ take (to - at) (drop at s)
-  part-whole h = take-all 16 _ (rw part-length h)
+  part-whole : to - at ≤ maxKey → take maxKey (take (to - at) (drop at s)) ≡ take (to - at) (drop at s)
+  part-whole h = take-all maxKey _ (rw part-length h)
 
 -- ── An identifier ──
 abbrev wellNamed : Bytes → Bool
@@ -97,34 +97,34 @@ abbrev oneName : Bytes → Step
 oneName n = names (n ∷ [])
 
 -- `scan` answers x
-module _ (s : Bytes) (at : ℕ) (l : at ≤ length s) (x : End) (answer : x ≡ scanEnd Identifier 1 16 s at) where
+module _ (s : Bytes) (at : ℕ) (l : at ≤ length s) (x : End) (answer : x ≡ scanEnd Identifier 1 maxKey s at) where
   pub identifier-misfit : x ≡ Bad → none ≡ placed readIdentifier s at
   unfolding readIdentifier scanned isKey
   identifier-misfit i =
       scanned-not identifierByte wellNamed oneName s at _ refl
-      (rw (part-named identifierByte identifier-name s at _ refl l, scan-bad Identifier 1 16 s at x answer i))
+      (rw (part-named identifierByte identifier-name s at _ refl l maxKey, scan-bad Identifier 1 maxKey s at x answer i))
 
   module _ (to : ℕ) (i : x ≡ At to) where
     ends : to ≡ runEnd identifierByte s at
-    ends = scan-at Identifier 1 16 s at x answer to i .0
+    ends = scan-at Identifier 1 maxKey s at x answer to i .0
 
     -- it is right by its first byte
     by-first : wellNamed (take (to - at) (drop at s)) ≡ not (isDigit (getD s at 0))
     unfolding isKey startsWell
     by-first =
-        let w = scan-within Identifier 1 16 s at x answer l to i in
+        let w = scan-within Identifier 1 maxKey s at x answer l to i in
         let n : to - at ≡ suc (to - at - 1) = omega arith in
         let f : startsWell (take (to - at) (drop at s)) ≡ not (isDigit (getD s at 0)) = rw (here 0 s at (omega arith), n) in
-        rw (part-named identifierByte identifier-name s at to ends l, scan-at Identifier 1 16 s at x answer to i .1, f)
+        rw (part-named identifierByte identifier-name s at to ends l maxKey, scan-at Identifier 1 maxKey s at x answer to i .1, f)
 
     pub identifier-digit : isDigit (getD s at 0) ≡ true → none ≡ placed readIdentifier s at
     unfolding readIdentifier scanned
     identifier-digit d = scanned-not identifierByte wellNamed oneName s at to ends (by-first ∙ rw d)
 
-    pub identifier-is : isDigit (getD s at 0) ≡ false → some (names (take 16 (take (to - at) (drop at s)) ∷ []), to) ≡ placed readIdentifier s at
+    pub identifier-is : isDigit (getD s at 0) ≡ false → some (names (take maxKey (take (to - at) (drop at s)) ∷ []), to) ≡ placed readIdentifier s at
     unfolding readIdentifier scanned
     identifier-is d =
-        let w = scan-within Identifier 1 16 s at x answer l to i in
+        let w = scan-within Identifier 1 maxKey s at x answer l to i in
         rw (part-whole identifierByte identifier-name s at to ends l (omega arith))
         (scanned-is identifierByte wellNamed oneName s at to ends l (by-first ∙ rw d))
 
@@ -138,25 +138,25 @@ module _ (o : Operator) (word : Bytes) (own : word ≡ operatorText o) (s : Byte
   environment-not h = word-not word _ s at h ∙ behind-word
 
   -- behind the word `scan` answers x
-  module _ (l : at ≤ length s) (h : isSome (after word (drop at s)) ≡ true) (x : End) (answer : x ≡ scanEnd Plain 1 16 s (at + length word)) where
+  module _ (l : at ≤ length s) (h : isSome (after word (drop at s)) ≡ true) (x : End) (answer : x ≡ scanEnd Plain 1 maxName s (at + length word)) where
     plain-fits : (to : ℕ) → to ≡ runEnd plainByte s (at + length word)
-        → isPlain (take (to - (at + length word)) (drop (at + length word) s)) ≡ within 1 16 (to - (at + length word))
+        → isPlain (take (to - (at + length word)) (drop (at + length word) s)) ≡ within 1 maxName (to - (at + length word))
     unfolding isPlain isName
     plain-fits to is =
         let m = after-at word s at l h .1 in
-        rw (part-named plainByte plain-name s (at + length word) to is m, part-passes plainByte plain-name s (at + length word) to is m) (and-true _)
+        rw (part-named plainByte plain-name s (at + length word) to is m maxName, part-passes plainByte plain-name s (at + length word) to is m) (and-true _)
 
     pub environment-misfit : x ≡ Bad → none ≡ placed (readEnvironment o) s at
     environment-misfit i =
-        scanned-not plainByte isPlain (environment o) s (at + length word) _ refl (plain-fits _ refl ∙ scan-bad Plain 1 16 s (at + length word) x answer i)
+        scanned-not plainByte isPlain (environment o) s (at + length word) _ refl (plain-fits _ refl ∙ scan-bad Plain 1 maxName s (at + length word) x answer i)
         ∙ word-then word _ s at l h ∙ behind-word
 
     pub environment-is : (to : ℕ) → x ≡ At to
-        → some (environment o (take 16 (take (to - (at + length word)) (drop (at + length word) s))), to) ≡ placed (readEnvironment o) s at
+        → some (environment o (take maxKey (take (to - (at + length word)) (drop (at + length word) s))), to) ≡ placed (readEnvironment o) s at
     environment-is to i =
         let m = after-at word s at l h .1 in
-        let (is, fits) = scan-at Plain 1 16 s (at + length word) x answer to i in
-        let w = scan-within Plain 1 16 s (at + length word) x answer m to i in
+        let (is, fits) = scan-at Plain 1 maxName s (at + length word) x answer to i in
+        let w = scan-within Plain 1 maxName s (at + length word) x answer m to i in
         rw (part-whole plainByte plain-name s (at + length word) to is m (omega arith))
         (scanned-is plainByte isPlain (environment o) s (at + length word) to is m (plain-fits to is ∙ fits)
         ∙ word-then word _ s at l h ∙ behind-word)
@@ -185,40 +185,40 @@ module _ (s : Bytes) (at : ℕ) where
 
 -- ── A name in either quote ──
 quoted-leaves : (q : ℕ) → LeavesEnd (readQuoted (q ∷ []))
-quoted-leaves q s t h = between-leaves Name q 1 16 s t (sym (quoted-between q s) ∙ h)
+quoted-leaves q s t h = between-leaves Name q 1 maxKey s t (sym (quoted-between q s) ∙ h)
 
 either-leaves : LeavesEnd readEither
 unfolding readEither text
 either-leaves = leaves-or (readQuoted (0x27 ∷ [])) (readQuoted (0x22 ∷ [])) (quoted-leaves 0x27) (quoted-leaves 0x22)
 
-either-gives : (s b r : Bytes) → readEither s ≡ some (b, r) → (length s ≡ length b + 2 + length r) × (1 ≤ length b) × (length b ≤ 16)
+either-gives : (s b r : Bytes) → readEither s ≡ some (b, r) → (length s ≡ length b + 2 + length r) × (1 ≤ length b) × (length b ≤ maxKey)
 unfolding readEither text
 either-gives s b r h = either-some _ _ _ h (by 0x22) (by 0x27)
   where
-    by : (q : ℕ) → readQuoted (q ∷ []) s ≡ some (b, r) → (length s ≡ length b + 2 + length r) × (1 ≤ length b) × (length b ≤ 16)
+    by : (q : ℕ) → readQuoted (q ∷ []) s ≡ some (b, r) → (length s ≡ length b + 2 + length r) × (1 ≤ length b) × (length b ≤ maxKey)
     by q e =
-        let g = between-gives Name q 1 16 s b r (sym (quoted-between q s) ∙ e) in
-        let w = within-bounds 1 16 _ (g .fits) in
+        let g = between-gives Name q 1 maxKey s b r (sym (quoted-between q s) ∙ e) in
+        let w = within-bounds 1 maxKey _ (g .fits) in
         (omega (arith, simp length-append at (ap length (g .is))), w .0, w .1)
 
 -- a name in quotes stands from `at` to e
 pub record NameStands (s : Bytes) (at e : ℕ) : Type 0 where
   pub at-least : at + 3 ≤ e
-  pub at-most : e ≤ at + 18
+  pub at-most : e ≤ at + 2 + maxKey
   pub reads : Reads readEither s at (take (e - 2 - at) (drop (at + 1) s)) e
 
 module _ (s : Bytes) (at : ℕ) where
-  either-placed : placed readEither s at ≡ (placed (readBetween Name 0x27 1 16) s at <|> placed (readBetween Name 0x22 1 16) s at)
+  either-placed : placed readEither s at ≡ (placed (readBetween Name 0x27 1 maxKey) s at <|> placed (readBetween Name 0x22 1 maxKey) s at)
   unfolding readEither text placed
   either-placed = placed-or (readQuoted (0x27 ∷ [])) (readQuoted (0x22 ∷ [])) s at ∙ rw (quoted-between 0x27, quoted-between 0x22)
 
   -- `between` answers x of single quotes
-  module _ (x : End) (answer : textAnswer s at x ≡ placed (readBetween Name 0x27 1 16) s at) where
+  module _ (x : End) (answer : textAnswer s at x ≡ placed (readBetween Name 0x27 1 maxKey) s at) where
     pub either-first : (e : ℕ) → x ≡ At e → textAnswer s at (At e) ≡ placed readEither s at
     unfolding textAnswer _<|>_
     either-first e i = sym (either-placed ∙ rw (← answer, i))
 
-    pub either-second : x ≡ Bad → (y : End) → textAnswer s at y ≡ placed (readBetween Name 0x22 1 16) s at → textAnswer s at y ≡ placed readEither s at
+    pub either-second : x ≡ Bad → (y : End) → textAnswer s at y ≡ placed (readBetween Name 0x22 1 maxKey) s at → textAnswer s at y ≡ placed readEither s at
     unfolding textAnswer _<|>_
     either-second i y a = a ∙ sym (either-placed ∙ rw (← answer, i))
 
@@ -261,7 +261,7 @@ module _ (s : Bytes) (from e : ℕ) (stands : NameStands s from e) (ns ns₁ : L
   name-pushed =
       let m : e - 1 - (from + 1) ≡ e - 2 - from = omega arith in
       let name = take (e - 2 - from) (drop (from + 1) s) in
-      pushed ∙ rw m (push-whole maxListed ns name (omega arith) (simp length-take (omega (arith, stands .at-most))))
+      pushed ∙ rw m (push-whole maxKey maxListed ns name (omega arith) (simp length-take (omega (arith, stands .at-most))))
 
   name-read : readNames (maxListed - n) ns (drop from s)
       ≡ ifAfter (after (0x2C ∷ []) (drop e s)) (readNames (maxListed - (n + 1)) ns₁) (some (ns₁, drop e s))

@@ -14,11 +14,11 @@ use Rattle.steps.specs.declared.step.Operator.the-variants.{Equals, In}
 use Rattle.steps.specs.declared.step.Kind.{Kind}
 use Rattle.steps.specs.declared.step.Kind.the-variants.{Names, Wildcard, Environment}
 use Rattle.steps.specs.declared.step.Step as code
-use Rattle.steps.specs.Steps.{namesIn, byKind, byteOf, kindOf, stepIn, stepOf}
+use Rattle.steps.specs.Steps.{stepRow, namesIn, byKind, byteOf, kindOf, stepIn, stepOf}
 
 -- the i-th row of a slot
-pub row-length : (s : Bytes) (i : ℕ) {row : Bytes} → i * 70 + 71 ≤ length s → row ≡ take 70 (drop (i * 70 + 1) s) → length row ≡ 70
-row-length s i h e = ap length e ∙ length-part (i * 70 + 1) 70 s (omega arith)
+pub row-length : (s : Bytes) (i : ℕ) {row : Bytes} → i * stepRow + 1 + stepRow ≤ length s → row ≡ take stepRow (drop (i * stepRow + 1) s) → length row ≡ stepRow
+row-length s i h e = ap length e ∙ length-part (i * stepRow + 1) stepRow s (omega arith)
 
 -- a row that is written whole
 pub row-filled : (xs row : Bytes) → length xs ≡ length row → written 0 xs row ≡ xs

@@ -7,19 +7,18 @@ use native.Mathlib.Omega.{arith}
 use lib.Dec.{ltb}
 use lib.ListN.{length, getD, take, drop, length-take, length-append, length-map, List·getD-eq-default}
 use borrow.Author.Tests.{ltb-true, ltb-false}
-use Rattle.rows.specs.Rows.{rows}
-use Rattle.rows.proofs.Rows.{length-rows}
 use Rattle.model.specs.Base.{Bytes, text, between}
 use Rattle.model.specs.Paths.{Operator, equals, isIn, operatorText, nameText, stepText}
 use Rattle.model.proofs.Lists.{by-cases}
-use Rattle.paths.specs.Layout.{nameIn, counted}
+use Rattle.layout.specs.Layout.{keyRow, nameIn, countedRows, counted}
 use Rattle.steps.specs.declared.step.Operator.the-variants.{Equals, In}
 use Rattle.steps.specs.declared.step.Kind.{Kind}
 use Rattle.steps.specs.declared.step.Kind.the-variants.{Names, Wildcard, Environment}
-use Rattle.steps.specs.Steps.{namesIn, byKind, kindOf, stepIn}
-use Rattle.paths.proofs.Counted.{length-counted, counted-at, counted-more, counted-all}
-use Rattle.paths.proofs.Spelled.{name-length}
+use Rattle.steps.specs.Steps.{spelledStep, namesIn, byKind, kindOf, stepIn}
+use Rattle.layout.proofs.Counts.{length-rows-counted, counted-short, length-counted, counted-at, counted-more, counted-all}
+use Rattle.layout.proofs.Named.{name-length}
 use Rattle.steps.proofs.StepRows.{step-told}
+use Rattle.model.specs.Limits.{maxKey, maxListed}
 
 -- ── Texts with a text between each two ──
 -- what stands before the text at the place i: nothing before the first
@@ -60,46 +59,46 @@ unfoldable pub spelledNames : List Bytes → Bytes
 spelledNames ns = between (text ",") (map nameText ns)
 
 -- the first i of the names in a slot, and one more
-pub names-step : (s : Bytes) (i : ℕ) → i < min (getD s 0 0) 4
+pub names-step : (s : Bytes) (i : ℕ) → i < min (getD s 0 0) maxListed
     → spelledNames (take (i + 1) (namesIn s))
-    ≡ spelledNames (take i (namesIn s)) ++ divider (text ",") i ++ nameText (nameIn (take 17 (drop (i * 17 + 1) s)))
+    ≡ spelledNames (take i (namesIn s)) ++ divider (text ",") i ++ nameText (nameIn (take keyRow (drop (i * keyRow + 1) s)))
 unfolding spelledNames namesIn
 names-step s i h =
-    let ns = counted nameIn 17 4 s in
+    let ns = counted nameIn keyRow maxListed s in
     let l : i < length ns = rw length-counted h in
     let n : length (map nameText (take i ns)) ≡ i = simp (length-map, length-take) (omega arith) in
-    rw (counted-more nameIn 17 4 s i h, map-append, between-more, n)
+    rw (counted-more nameIn keyRow maxListed s i h, map-append, between-more, n)
 
 -- all of them
-pub names-all : (s : Bytes) (i : ℕ) → min (getD s 0 0) 4 ≤ i → take i (namesIn s) ≡ namesIn s
+pub names-all : (s : Bytes) (i : ℕ) → min (getD s 0 0) maxListed ≤ i → take i (namesIn s) ≡ namesIn s
 unfolding namesIn
-names-all s i h = counted-all nameIn 17 4 s i h
+names-all s i h = counted-all nameIn keyRow maxListed s i h
 
--- at most four names of at most 16 bytes, in quotes, with commas between
-pub names-length : (s : Bytes) → length (spelledNames (namesIn s)) ≤ 76
+-- the names of a step, in quotes, with commas between
+pub names-length : (s : Bytes) → length (spelledNames (namesIn s)) ≤ maxListed * (maxKey + 3)
 unfolding spelledNames namesIn counted nameText text
 names-length s =
-    let n = min (getD s 0 0) 4 in
-    let rs = take n (rows 17 4 (drop 1 s)) in
-    let l : length rs ≤ 4 = simp (length-take, length-rows) (omega arith) in
-    rw (map-map nameText nameIn) (omega (arith, between-length (text ",") 19 (λ r. nameText (nameIn r)) short rs, mul-le-mul-right 19 l))
+    let rs = countedRows keyRow maxListed s in
+    let l : length rs ≤ maxListed = omega (arith, length-rows-counted keyRow maxListed s) in
+    rw (counted-short nameIn keyRow maxListed s, map-map nameText (λ r. nameIn (take keyRow r)))
+    (omega (arith, between-length (text ",") (maxKey + 3) (λ r. nameText (nameIn (take keyRow r))) short rs, mul-le-mul-right (maxKey + 3) l))
   where
-    short : (r : Bytes) → length (nameText (nameIn r)) + length (text ",") ≤ 19
-    short r = simp length-append (omega (arith, name-length _ r refl))
+    short : (r : Bytes) → length (nameText (nameIn (take keyRow r))) + length (text ",") ≤ (maxKey + 3)
+    short r = simp length-append (omega (arith, name-length maxKey (take keyRow r) refl (simp length-take (omega arith))))
 
 -- the first of them, if there is one
 module _ (s : Bytes) where
-  pub first-name : 0 < min (getD s 0 0) 4 → getD (namesIn s) 0 [] ≡ nameIn (take 17 (drop 1 s))
+  pub first-name : 0 < min (getD s 0 0) maxListed → getD (namesIn s) 0 [] ≡ nameIn (take keyRow (drop 1 s))
   unfolding namesIn
-  first-name h = counted-at nameIn 17 4 s 0 [] h
+  first-name h = counted-at nameIn keyRow maxListed s 0 [] h
 
-  pub first-none : min (getD s 0 0) 4 ≤ 0 → getD (namesIn s) 0 [] ≡ []
+  pub first-none : min (getD s 0 0) maxListed ≤ 0 → getD (namesIn s) 0 [] ≡ []
   unfolding namesIn
-  first-none h = List·getD-eq-default (counted nameIn 17 4 s) [] (rw length-counted h)
+  first-none h = List·getD-eq-default (counted nameIn keyRow maxListed s) [] (rw length-counted h)
 
-  pub first-length : length (getD (namesIn s) 0 []) ≤ 16
-  first-length = by-cases (ltb 0 (min (getD s 0 0) 4))
-      (λ e. name-length _ _ (first-name (ltb-true _ _ e)))
+  pub first-length : length (getD (namesIn s) 0 []) ≤ maxKey
+  first-length = by-cases (ltb 0 (min (getD s 0 0) maxListed))
+      (λ e. name-length maxKey _ (first-name (ltb-true _ _ e)) (simp length-take (omega arith)))
       (λ e. rw (first-none (ltb-false _ _ e)) (omega arith))
 
 -- ── Steps ──
@@ -110,12 +109,12 @@ operator-length equals = omega arith
 operator-length isIn = omega arith
 
 -- a step has at most 78 bytes, the longest one four names
-kind-length : (k : Kind) (s : Bytes) → length (stepText (byKind k (namesIn s))) ≤ 78
+kind-length : (k : Kind) (s : Bytes) → length (stepText (byKind k (namesIn s))) ≤ spelledStep
 unfolding stepText operatorText text
 kind-length Names s = unfold spelledNames in simp length-append (omega (arith, names-length s))
 kind-length Wildcard s = omega arith
 kind-length (Environment Equals) s = simp length-append (omega (arith, first-length s))
 kind-length (Environment In) s = simp length-append (omega (arith, first-length s))
 
-pub step-length : (row : Bytes) → length (stepText (stepIn row)) ≤ 78
+pub step-length : (row : Bytes) → length (stepText (stepIn row)) ≤ spelledStep
 step-length row = rw (step-told row refl refl) (kind-length (kindOf (getD row 0 0)) _)

@@ -1,21 +1,25 @@
 -- What a user's environment lines in memory mean.
+use Prim.Native.Nat.{ℕ, _+_, _*_}
 use mathlib.Core.List.{List}
-use mathlib.Core.Bool.{Bool}
-use lib.Dec.{eqb}
-use lib.ListN.{getD, take, drop}
-use Rattle.rows.specs.Rows.{table}
+use lib.ListN.{take, drop}
+use Rattle.layout.specs.Layout.{table, nameRow, keyRow, nameIn}
 use Rattle.model.specs.Base.{Bytes}
 use Rattle.model.specs.Limits.{maxBindings}
 use Rattle.model.specs.Tables.{Binding}
-use Rattle.paths.specs.Layout.{nameIn}
 
+-- ── Sizes, in bytes ──
+-- an environment line: rows of a name and a value
+abbrev pub bindingRow : ℕ
+bindingRow = nameRow + keyRow
+
+abbrev pub bindingsBytes : ℕ
+bindingsBytes = maxBindings * bindingRow
+
+-- ── Meanings ──
 -- a row of a name and a value
 unfoldable pub bindingIn : Bytes → Binding
-bindingIn row = record { name = nameIn (take 17 row); value = nameIn (drop 17 row) }
-
-unfoldable pub isEmptyRow : Bytes → Bool
-isEmptyRow row = eqb (getD row 0 0) 0
+bindingIn row = record { name = nameIn (take nameRow row); value = nameIn (take keyRow (drop nameRow row)) }
 
 -- up to the first row whose name is empty
 unfoldable pub bindingsIn : Bytes → List Binding
-bindingsIn s = table isEmptyRow bindingIn 34 maxBindings s
+bindingsIn s = table bindingIn bindingRow maxBindings s

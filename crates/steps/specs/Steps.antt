@@ -1,14 +1,14 @@
 -- What a step of the code means, and the answers of its readers.
-use Prim.Native.Nat.{ℕ}
+use Prim.Native.Nat.{ℕ, _+_, _*_}
 use mathlib.Core.Option.{Option, none, some}
 use mathlib.Core.List.{List, []}
 use lib.Dec.{eqb}
 use lib.ListN.{getD, drop}
 use Rattle.model.specs.Base.{Bytes, if_then_else_}
-use Rattle.model.specs.Limits.{maxListed, maxDepth}
+use Rattle.model.specs.Limits.{maxKey, maxListed, maxDepth}
 use Rattle.model.specs.Paths.{Step, names, wildcard, environment}
 use Rattle.model.specs.Paths as paths
-use Rattle.paths.specs.Layout.{nameIn, counted}
+use Rattle.layout.specs.Layout.{keyRow, nameIn, counted}
 use Rattle.steps.specs.declared.step.Operator.{Operator}
 use Rattle.steps.specs.declared.step.Operator.the-variants.{Equals, In}
 use Rattle.steps.specs.declared.step.Kind.{Kind}
@@ -17,13 +17,35 @@ use Rattle.steps.specs.declared.step.Step as code
 use Rattle.steps.specs.declared.step.StepRead.{StepRead}
 use Rattle.steps.specs.declared.policy.StepsRead.{StepsRead}
 
+-- ── Sizes, in bytes ──
+-- the names of a step: how many, and a row for each
+abbrev pub namesSlot : ℕ
+namesSlot = 1 + maxListed * keyRow
+
+-- a step: the byte of its kind, and the names
+abbrev pub stepRow : ℕ
+stepRow = 1 + namesSlot
+
+-- a policy path: how many steps, and a row for each
+abbrev pub stepsSlot : ℕ
+stepsSlot = 1 + maxDepth * stepRow
+
+-- a step in the standard spelling has at most these: names in quotes, commas and brackets
+abbrev pub spelledStep : ℕ
+spelledStep = maxListed * (maxKey + 3) + 2
+
+-- and a whole slot of steps, whatever it holds
+abbrev pub spelledSteps : ℕ
+spelledSteps = 1 + maxDepth * spelledStep
+
+-- ── Meanings ──
 abbrev pub operatorOf : Operator → paths.Operator
 operatorOf Equals = paths.equals
 operatorOf In = paths.isIn
 
 -- at most four names
 unfoldable pub namesIn : Bytes → List Bytes
-namesIn s = counted nameIn 17 maxListed s
+namesIn s = counted nameIn keyRow maxListed s
 
 -- a step, from its kind and the names beside it
 abbrev pub byKind : Kind → List Bytes → Step
@@ -45,9 +67,9 @@ kindOf b = if eqb b 1 then Wildcard else if eqb b 2 then Environment Equals else
 unfoldable pub stepIn : Bytes → Step
 stepIn row = byKind (kindOf (getD row 0 0)) (namesIn (drop 1 row))
 
--- a policy path: rows of 70 bytes
+-- a policy path
 unfoldable pub stepsIn : Bytes → paths.Steps
-stepsIn s = counted stepIn 70 maxDepth s
+stepsIn s = counted stepIn stepRow maxDepth s
 
 unfoldable pub stepOf : code.Step → Step
 stepOf t = byKind (t .kind) (namesIn (t .names))

@@ -1,14 +1,20 @@
-// A policy path: at most six steps in a slot of 421 bytes, a byte that says how many and rows of 70.
+// A policy path: at most six steps in a slot, a byte that says how many and a row for each.
 use crate::step::Kind;
+use crate::step::NAMES;
 use crate::step::Operator;
 use crate::step::Step;
 use crate::step::step_at;
+use buffers::put;
+use buffers::put_byte;
+use buffers::put_quoted;
+use layout::counted::count;
+use layout::counted::push_row;
+use layout::counted::row_at;
+use lexical::limits::MAX_DEPTH;
+use lexical::limits::MAX_LISTED;
+use lexical::limits::MAX_PATH_TEXT;
 use lexical::slice::is_at;
-use paths::layout::count;
-use paths::layout::name_at;
-use values::write::put;
-use values::write::put_byte;
-use values::write::put_quoted;
+use paths::key::key_at;
 ghost use mathlib.Core.Path.{_≡_};
 ghost use mathlib.Core.Option.{none};
 ghost use mathlib.Core.List.{[], _∷_, _++_};
@@ -16,11 +22,17 @@ ghost use Prim.Native.Nat.{_+_, _*_, _≤_, _<_, _^_};
 ghost use lib.ListN.{length, getD, take, drop};
 ghost use Rattle.rows.specs.Rows.{Wrote};
 ghost use Rattle.model.specs.Paths.{environment, operatorText, stepText, stepsText, readStep, readPath, stepsOf};
-ghost use Rattle.steps.specs.Steps.{operatorOf, namesIn, byKind, kindOf, byteOf, stepIn, stepsIn, stepOf, stepsAnswer};
+ghost use Rattle.steps.specs.Steps.{namesSlot, stepRow, stepsSlot, spelledStep, spelledSteps, operatorOf, namesIn, byKind, kindOf, byteOf, stepIn, stepsIn, stepOf, stepsAnswer};
+ghost use Rattle.model.specs.Limits.{maxDepth};
+
+// A step in a row: the byte of its kind, and its names. A slot: how many steps, and a row for each.
+pub const STEP: usize = 1 + NAMES;
+
+pub const STEPS: usize = 1 + MAX_DEPTH * STEP;
 
 pub struct StepsRead {
     pub ok: bool,
-    pub slot: [u8; 421],
+    pub slot: [u8; STEPS],
 }
 
 fn kind_byte(kind: Kind) -> u8
@@ -48,19 +60,9 @@ pub fn kind_of(b: u8) -> Kind
     }
 }
 
-// A step's row.
-pub fn row(slot: &[u8], i: usize) -> &[u8]
-    requires { ⌜ i * 70 + 71 ≤ length (now slot) ⌝ }
-    ensures { λ r. ⌜ now r ≡ take 70 (drop (i * 70 + 1) (now (slot .entry))) ⌝ }
-{
-    let start = i * 70 + 1;
-    let end = start + 70;
-    &slot[start..end]
-}
-
 // A step into its row.
 fn put_row(row: &mut [u8], step: Step)
-    requires { ⌜ length (now row) ≡ 70 ⌝ }
+    requires { ⌜ length (now row) ≡ stepRow ⌝ }
     ensures { λ _. ⌜ now (row .exit) ≡ byteOf (step .kind) ∷ step .names ⌝ }
 {
     let kind = step.kind;
@@ -71,42 +73,38 @@ fn put_row(row: &mut [u8], step: Step)
 
 // One step more, where there is room for it.
 pub fn push_step(slot: &mut [u8], step: Step)
-    requires { ⌜ 421 ≤ length (now slot) ⌝ }
-    ensures { λ _. ⌜ stepsIn (now (slot .exit)) ≡ take 6 (stepsIn (now (slot .entry)) ++ (stepOf step ∷ [])) ⌝ }
+    requires { ⌜ stepsSlot ≤ length (now slot) ⌝ }
+    ensures { λ _. ⌜ stepsIn (now (slot .exit)) ≡ take maxDepth (stepsIn (now (slot .entry)) ++ (stepOf step ∷ [])) ⌝ }
 {
-    let n = count(slot, 6);
-    if n < 6 {
-        let start = n * 70 + 1;
-        let end = start + 70;
-        put_row(&mut slot[start..end], step);
-        slot[0] = n as u8 + 1;
-    }
+    let mut row = [0u8; STEP];
+    put_row(&mut row, step);
+    push_row(slot, STEP, MAX_DEPTH, &row);
 }
 
 // The first of the names, or nothing.
 pub fn first_name(names: &[u8]) -> &[u8]
-    requires { ⌜ 69 ≤ length (now names) ⌝ }
+    requires { ⌜ namesSlot ≤ length (now names) ⌝ }
     ensures { λ r. ⌜ now r ≡ getD (namesIn (now (names .entry))) 0 [] ⌝ }
 {
-    if 0 < count(names, 4) {
-        return name_at(names, 0);
+    if 0 < count(names, MAX_LISTED) {
+        return key_at(names, 0);
     }
     &names[..0]
 }
 
 // A list of names in the standard spelling: in single quotes, with commas between.
 fn put_list(out: &mut [u8], at: usize, names: &[u8]) -> usize
-    requires { ⌜ (69 ≤ length (now names)) × (at + 90 < 2 ^ 64) ⌝ }
+    requires { ⌜ (namesSlot ≤ length (now names)) × (at + spelledStep < 2 ^ 64) ⌝ }
     ensures { λ r. ⌜ Wrote at (stepText (byKind Kind.Names (namesIn (now (names .entry))))) (now (out .entry)) r (now (out .exit)) ⌝ }
 {
-    let n = count(names, 4);
+    let n = count(names, MAX_LISTED);
     let mut to = put_byte(out, at, b'[');
     let mut i = 0;
     while i < n {
         if 0 < i {
             to = put_byte(out, to, b',');
         }
-        to = put_quoted(out, to, b'\'', name_at(names, i));
+        to = put_quoted(out, to, b'\'', key_at(names, i));
         i += 1;
     }
     put_byte(out, to, b']')
@@ -135,7 +133,7 @@ fn put_environment(out: &mut [u8], at: usize, operator: Operator, name: &[u8]) -
 
 // A step in the standard spelling.
 fn put_step(out: &mut [u8], at: usize, row: &[u8]) -> usize
-    requires { ⌜ (length (now row) ≡ 70) × (at + 90 < 2 ^ 64) ⌝ }
+    requires { ⌜ (length (now row) ≡ stepRow) × (at + spelledStep < 2 ^ 64) ⌝ }
     ensures { λ r. ⌜ Wrote at (stepText (stepIn (now (row .entry)))) (now (out .entry)) r (now (out .exit)) ⌝ }
 {
     let names = &row[1..];
@@ -148,15 +146,15 @@ fn put_step(out: &mut [u8], at: usize, row: &[u8]) -> usize
 
 // A policy path in the standard spelling.
 pub fn put_steps(out: &mut [u8], at: usize, slot: &[u8]) -> usize
-    requires { ⌜ (421 ≤ length (now slot)) × (at + 600 < 2 ^ 64) ⌝ }
+    requires { ⌜ (stepsSlot ≤ length (now slot)) × (at + spelledSteps < 2 ^ 64) ⌝ }
     ensures { λ r. ⌜ Wrote at (stepsText (stepsIn (now (slot .entry)))) (now (out .entry)) r (now (out .exit)) ⌝ }
-    ensures { λ r. ⌜ r ≤ at + 600 ⌝ }
+    ensures { λ r. ⌜ r ≤ at + spelledSteps ⌝ }
 {
-    let n = count(slot, 6);
+    let n = count(slot, MAX_DEPTH);
     let mut to = put_byte(out, at, b'$');
     let mut i = 0;
     while i < n {
-        to = put_step(out, to, row(slot, i));
+        to = put_step(out, to, row_at(slot, STEP, i));
         i += 1;
     }
     to
@@ -167,7 +165,7 @@ fn no_steps() -> StepsRead
 {
     StepsRead {
         ok: false,
-        slot: [0; 421],
+        slot: [0; STEPS],
     }
 }
 
@@ -178,11 +176,11 @@ fn read_all(s: &[u8]) -> StepsRead
     if !is_at(s, 0, b'$') {
         return no_steps();
     }
-    let mut slot = [0u8; 421];
+    let mut slot = [0u8; STEPS];
     let mut n: usize = 0;
     let mut at = 1;
     while at < s.len() {
-        if 6 <= n {
+        if MAX_DEPTH <= n {
             return no_steps();
         }
         let read = step_at(s, at);
@@ -200,7 +198,7 @@ fn read_all(s: &[u8]) -> StepsRead
     }
 }
 
-// A policy path, of at most 121 bytes in the standard spelling.
+// A policy path that is not too long in the standard spelling.
 pub fn read_steps(s: &[u8]) -> StepsRead
     ensures { λ r. ⌜ stepsAnswer r ≡ stepsOf (now (s .entry)) ⌝ }
 {
@@ -208,7 +206,7 @@ pub fn read_steps(s: &[u8]) -> StepsRead
     if path.ok {
         let slot = path.slot;
         let mut none = [0u8; 1];
-        if put_steps(&mut none[..0], 0, &slot) <= 121 {
+        if put_steps(&mut none[..0], 0, &slot) <= MAX_PATH_TEXT {
             return path;
         }
     }

@@ -1,12 +1,18 @@
 // Steps of a policy path: lists of names, wildcards and environment steps, read in every spelling.
+use layout::name::KEY_ROW;
+use layout::name::NAME_ROW;
 use lexical::class::Class;
 use lexical::class::End;
 use lexical::class::between;
 use lexical::class::is_digit;
 use lexical::class::scan;
+use lexical::limits::MAX_BINDINGS;
+use lexical::limits::MAX_KEY;
+use lexical::limits::MAX_LISTED;
+use lexical::limits::MAX_NAME;
 use lexical::slice::is_at;
 use lexical::slice::starts;
-use paths::layout::push_name;
+use paths::key::push_key;
 ghost use mathlib.Core.Path.{_≡_};
 ghost use mathlib.Core.Option.{none, some};
 ghost use mathlib.Core.List.{[], _∷_};
@@ -16,6 +22,17 @@ ghost use Rattle.rows.specs.Positions.{placed};
 ghost use Rattle.model.specs.Paths.{operatorText, readEither, inBrackets, readWildcard, readIdentifier, readEnvironment, readDotted, readList, readSelector, readStep};
 ghost use Rattle.lexical.specs.Classes.{textAnswer};
 ghost use Rattle.steps.specs.Steps.{operatorOf, namesIn, byKind, stepAnswer};
+ghost use Rattle.model.specs.Limits.{maxKey};
+
+// The names of a step: how many, and a row for each.
+pub const NAMES: usize = 1 + MAX_LISTED * KEY_ROW;
+
+// A user's environment lines: rows of a name and a value.
+pub const BINDING: usize = NAME_ROW + KEY_ROW;
+
+pub const BINDINGS: usize = MAX_BINDINGS;
+
+pub const ENVIRONMENT: usize = BINDINGS * BINDING;
 
 pub enum Operator {
     Equals,
@@ -31,7 +48,7 @@ pub enum Kind {
 // The names of a list, or the one of an environment step, stand beside the kind: how many, and four rows.
 pub struct Step {
     pub kind: Kind,
-    pub names: [u8; 69],
+    pub names: [u8; NAMES],
 }
 
 pub struct StepRead {
@@ -41,16 +58,16 @@ pub struct StepRead {
 }
 
 // A slot of one name.
-pub fn one_name(name: &[u8]) -> [u8; 69]
-    ensures { λ r. ⌜ namesIn r ≡ take 16 (now (name .entry)) ∷ [] ⌝ }
+pub fn one_name(name: &[u8]) -> [u8; NAMES]
+    ensures { λ r. ⌜ namesIn r ≡ take maxKey (now (name .entry)) ∷ [] ⌝ }
 {
-    let mut names = [0u8; 69];
-    push_name(&mut names, name, 4);
+    let mut names = [0u8; NAMES];
+    push_key(&mut names, name, MAX_LISTED);
     names
 }
 
 // A step that was read up to `to`.
-fn found(to: usize, kind: Kind, names: [u8; 69]) -> StepRead
+fn found(to: usize, kind: Kind, names: [u8; NAMES]) -> StepRead
     ensures { λ r. ⌜ stepAnswer r ≡ some (byKind kind (namesIn names), to) ⌝ }
 {
     let step = Step {
@@ -66,7 +83,7 @@ fn found(to: usize, kind: Kind, names: [u8; 69]) -> StepRead
 
 // A step of one name that was read up to `to`.
 fn found_one(to: usize, kind: Kind, name: &[u8]) -> StepRead
-    ensures { λ r. ⌜ stepAnswer r ≡ some (byKind kind (take 16 (now (name .entry)) ∷ []), to) ⌝ }
+    ensures { λ r. ⌜ stepAnswer r ≡ some (byKind kind (take maxKey (now (name .entry)) ∷ []), to) ⌝ }
 {
     let names = one_name(name);
     found(to, kind, names)
@@ -77,7 +94,7 @@ fn no_step() -> StepRead
 {
     let step = Step {
         kind: Kind::Wildcard,
-        names: [0; 69],
+        names: [0; NAMES],
     };
     StepRead {
         ok: false,
@@ -92,17 +109,17 @@ fn wildcard_at(s: &[u8], at: usize) -> StepRead
     ensures { λ r. ⌜ stepAnswer r ≡ placed readWildcard (now (s .entry)) at ⌝ }
 {
     if is_at(s, at, b'*') {
-        return found(at + 1, Kind::Wildcard, [0; 69]);
+        return found(at + 1, Kind::Wildcard, [0; NAMES]);
     }
     no_step()
 }
 
-// An identifier of 1 to 16 bytes that begins with no digit.
+// An identifier, no longer than a key, that begins with no digit.
 fn identifier_at(s: &[u8], at: usize) -> StepRead
     requires { ⌜ at ≤ length (now s) ⌝ }
     ensures { λ r. ⌜ stepAnswer r ≡ placed readIdentifier (now (s .entry)) at ⌝ }
 {
-    let End::At(to) = scan(s, at, Class::Identifier, 1, 16) else {
+    let End::At(to) = scan(s, at, Class::Identifier, 1, MAX_KEY) else {
         return no_step();
     };
     if is_digit(s[at]) {
@@ -120,7 +137,7 @@ fn environment_at(s: &[u8], at: usize, word: &[u8], operator: Operator) -> StepR
         return no_step();
     }
     let from = at + word.len();
-    let End::At(to) = scan(s, from, Class::Plain, 1, 16) else {
+    let End::At(to) = scan(s, from, Class::Plain, 1, MAX_NAME) else {
         return no_step();
     };
     found_one(to, Kind::Environment(operator), &s[from..to])
@@ -131,10 +148,10 @@ fn either_at(s: &[u8], at: usize) -> End
     requires { ⌜ at ≤ length (now s) ⌝ }
     ensures { λ r. ⌜ textAnswer (now (s .entry)) at r ≡ placed readEither (now (s .entry)) at ⌝ }
 {
-    if let End::At(e) = between(s, at, b'\'', Class::Name, 1, 16) {
+    if let End::At(e) = between(s, at, b'\'', Class::Name, 1, MAX_KEY) {
         return End::At(e);
     }
-    between(s, at, b'"', Class::Name, 1, 16)
+    between(s, at, b'"', Class::Name, 1, MAX_KEY)
 }
 
 // One to four names with commas between.
@@ -142,16 +159,16 @@ fn list_at(s: &[u8], at: usize) -> StepRead
     requires { ⌜ at ≤ length (now s) ⌝ }
     ensures { λ r. ⌜ stepAnswer r ≡ placed readList (now (s .entry)) at ⌝ }
 {
-    let mut names = [0u8; 69];
+    let mut names = [0u8; NAMES];
     let mut from = at;
     let mut n: usize = 0;
-    while n < 4 {
+    while n < MAX_LISTED {
         let End::At(e) = either_at(s, from) else {
             return no_step();
         };
         let a = from + 1;
         let b = e - 1;
-        push_name(&mut names, &s[a..b], 4);
+        push_key(&mut names, &s[a..b], MAX_LISTED);
         if !is_at(s, e, b',') {
             return found(e, Kind::Names, names);
         }

@@ -7,9 +7,8 @@ use mathlib.Core.List.{List, [], _∷_}
 use native.Mathlib.Omega.{arith}
 use lib.Dec.{eqb}
 use lib.ListN.{length, getD, getElem?, take, drop, replicate}
-use Rattle.rows.specs.Rows.{rows, upTo}
 use Rattle.rows.specs.Marks.{marked}
-use Rattle.rows.proofs.Table.{length-table}
+use Rattle.layout.proofs.Used.{table-fit}
 use Rattle.rows.proofs.Parts.{tail-part}
 use Rattle.rows.proofs.Marks.{passes, length-marked, marked-at}
 use Rattle.model.specs.Base.{Bytes, any}
@@ -19,10 +18,10 @@ use Rattle.model.specs.Tables.{User, Rule, userAt}
 use Rattle.model.specs.Rights.{mayRead}
 use Rattle.model.specs.Serving.{readsBy, readsAt}
 use Rattle.steps.specs.Steps.{stepsIn}
-use Rattle.steps.specs.Environments.{isEmptyRow}
+use Rattle.layout.specs.Layout.{inUse}
 use Rattle.matching.specs.Parts.{mayMatch}
 use Rattle.matching.proofs.Matched.{matches-not}
-use Rattle.tables.specs.Memory.{userIn, usersIn, ruleIn, policyIn, tablesIn}
+use Rattle.tables.specs.Memory.{userRow, usersBytes, ruleRow, pathAt, userIn, usersIn, ruleIn, policyIn, tablesIn}
 use Rattle.tables.specs.Grants.{givesRead, isMarked}
 use Rattle.tables.proofs.Policy.{rule-left, rules-over}
 
@@ -67,28 +66,28 @@ ReadersLeft s q p i marks =
     (length marks ≡ maxUsers) × ((j : ℕ) → readsAt (tablesIn s) j p ≡ (isMarked marks j || readsBy (drop i (policyIn q)) (userAt (usersIn s) j) p))
 
 -- nobody is marked at the start; the policy stands behind the users
-pub readers-start : (s q : Bytes) (p : Keys) → q ≡ drop 19104 s → ReadersLeft s q p 0 (replicate maxUsers 0)
+pub readers-start : (s q : Bytes) (p : Keys) → q ≡ drop usersBytes s → ReadersLeft s q p 0 (replicate maxUsers 0)
 unfolding ReadersLeft readsAt tablesIn
 readers-start s q p is = (refl, λ j. rw (unmarked maxUsers j, is))
 
 -- m rows were counted
-module _ (s q : Bytes) (p : Keys) {m : ℕ} (counted : m ≡ length (upTo isEmptyRow (rows 439 maxRules q))) (i : ℕ) (marks : Bytes) (left : ReadersLeft s q p i marks) where
+module _ (s q : Bytes) (p : Keys) {m : ℕ} (counted : m ≡ length (inUse ruleRow maxRules q)) (i : ℕ) (marks : Bytes) (left : ReadersLeft s q p i marks) where
   pub readers-end : m ≤ i → (j : ℕ) → isMarked marks j ≡ readsAt (tablesIn s) j p
   unfolding ReadersLeft
   readers-end h j = sym (left .1 j ∙ rw (rules-over q counted i h, reads-none) (or-false _))
 
   -- the line in the row at i may not match, or those whom it lets read are marked
-  module _ (below : i < m) {row : Bytes} (here : row ≡ take 439 (drop (i * 439) q)) where
-    pub readers-same : mayMatch (stepsIn (take (length row - 18) (drop 18 row))) p ≡ false → ReadersLeft s q p (i + 1) marks
+  module _ (below : i < m) {row : Bytes} (here : row ≡ take ruleRow (drop (i * ruleRow) q)) where
+    pub readers-same : mayMatch (stepsIn (take (length row - pathAt) (drop pathAt row))) p ≡ false → ReadersLeft s q p (i + 1) marks
     unfolding ReadersLeft ruleIn
     readers-same h =
-        let no : mayMatch (ruleIn row .path) p ≡ false = rw (tail-part 18 row) at h in
+        let no : mayMatch (ruleIn row .path) p ≡ false = rw (tail-part pathAt row) at h in
         (left .0, λ j. left .1 j ∙ rw (rule-left q counted i below here, reads-same p (ruleIn row) (drop (i + 1) (policyIn q)) (userAt (usersIn s) j) no))
 
     pub readers-more : {new : Bytes} → new ≡ marked (givesRead p (ruleIn row)) (usersIn s) marks → ReadersLeft s q p (i + 1) new
     unfolding ReadersLeft userAt usersIn
     readers-more e =
-        let fit : length (usersIn s) ≤ length marks = omega (arith, left .0, length-table isEmptyRow userIn 597 maxUsers s) in (
+        let fit : length (usersIn s) ≤ length marks = omega (arith, left .0, table-fit userIn userRow maxUsers s) in (
           rw (e, length-marked (givesRead p (ruleIn row)) (usersIn s) marks) (left .0),
           λ j. left .1 j ∙ rw (rule-left q counted i below here, reads-more p (ruleIn row), e, is-marked (givesRead p (ruleIn row)) (usersIn s) marks j fit, or-assoc),
         )

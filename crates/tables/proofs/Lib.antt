@@ -1,5 +1,4 @@
 -- Laws that the proofs cite, and callers too: tables of rows in memory, the users and the lines of a policy.
-pub mod Tabled
 pub mod Users
 pub mod Policy
 pub mod Given

@@ -6,7 +6,6 @@ use mathlib.Core.Option.{some}
 use mathlib.Core.List.{[], _∷_}
 use native.Mathlib.Omega.{arith}
 use lib.ListN.{length, take, drop}
-use Rattle.rows.specs.Rows.{rows, upTo}
 use Rattle.rows.proofs.Parts.{tail-part}
 use Rattle.model.specs.Base.{Bytes, if_then_else_, any}
 use Rattle.model.specs.Limits.{maxRules}
@@ -15,25 +14,25 @@ use Rattle.model.specs.Tables.{Rule}
 use Rattle.model.specs.Rights.{isWrite, conflict, conflictsWith}
 use Rattle.model.specs.Opening.{conflictFrom}
 use Rattle.steps.specs.Steps.{stepsIn}
-use Rattle.steps.specs.Environments.{isEmptyRow}
-use Rattle.tables.specs.Memory.{ruleIn, policyIn}
-use Rattle.tables.proofs.Tabled.{counted-within, row-left, row-more, rows-over}
+use Rattle.layout.specs.Layout.{inUse}
+use Rattle.tables.specs.Memory.{ruleRow, policyBytes, pathAt, ruleIn, policyIn}
+use Rattle.layout.proofs.Used.{used-fit, row-left, row-more, rows-over}
 
 -- m rows were counted
-module _ (s : Bytes) {m : ℕ} (counted : m ≡ length (upTo isEmptyRow (rows 439 maxRules s))) (i : ℕ) where
+module _ (s : Bytes) {m : ℕ} (counted : m ≡ length (inUse ruleRow maxRules s)) (i : ℕ) where
   pub rules-over : m ≤ i → drop i (policyIn s) ≡ []
   unfolding policyIn
-  rules-over h = rows-over isEmptyRow ruleIn 439 maxRules s counted i h
+  rules-over h = rows-over ruleIn ruleRow maxRules s counted i h
 
   module _ (below : i < m) where
-    pub rule-inside : length s ≡ 28096 → i * 439 + 439 ≤ length s
-    rule-inside h = omega (arith, counted-within isEmptyRow ruleIn 439 maxRules s counted)
+    pub rule-inside : length s ≡ policyBytes → i * ruleRow + ruleRow ≤ length s
+    rule-inside h = omega (arith, counted, used-fit ruleRow maxRules s)
 
     -- the line in the row at i
-    module _ {row : Bytes} (is : row ≡ take 439 (drop (i * 439) s)) where
+    module _ {row : Bytes} (is : row ≡ take ruleRow (drop (i * ruleRow) s)) where
       pub rule-left : drop i (policyIn s) ≡ ruleIn row ∷ drop (i + 1) (policyIn s)
       unfolding policyIn
-      rule-left = row-left isEmptyRow ruleIn 439 maxRules s counted i below is
+      rule-left = row-left ruleIn ruleRow maxRules s counted i below is
 
       -- it passes a test, or a later line does
       pub any-rule : (p : Rule → Bool) {r : Bool} → r ≡ p (ruleIn row)
@@ -46,17 +45,17 @@ module _ (s : Bytes) {m : ℕ} (counted : m ≡ length (upTo isEmptyRow (rows 43
         -- it is in conflict with the path q, or a later one of the first n lines is
         pub conflict-rule : (q : Steps) (n : ℕ) → i < n
             → any (conflictsWith q) (take (n - i) (drop i (policyIn s)))
-            ≡ ((w && conflict q (stepsIn (take (length row - 18) (drop 18 row)))) || any (conflictsWith q) (take (n - (i + 1)) (drop (i + 1) (policyIn s))))
+            ≡ ((w && conflict q (stepsIn (take (length row - pathAt) (drop pathAt row)))) || any (conflictsWith q) (take (n - (i + 1)) (drop (i + 1) (policyIn s))))
         unfolding any conflictsWith ruleIn
         conflict-rule q n h =
             let e : n - i ≡ suc (n - (i + 1)) = omega arith in
-            rw (tail-part 18 row, kind, e, rule-left)
+            rw (tail-part pathAt row, kind, e, rule-left)
 
         -- it is the first that is in conflict with an earlier one, or a later line is
         pub conflict-from : conflictFrom (i + 2) (take i (policyIn s)) (drop i (policyIn s))
-            ≡ (if w && any (conflictsWith (stepsIn (take (length row - 18) (drop 18 row)))) (take i (policyIn s)) then some (i + 2)
+            ≡ (if w && any (conflictsWith (stepsIn (take (length row - pathAt) (drop pathAt row)))) (take i (policyIn s)) then some (i + 2)
             else conflictFrom (i + 1 + 2) (take (i + 1) (policyIn s)) (drop (i + 1) (policyIn s)))
         unfolding conflictFrom ruleIn policyIn
         conflict-from =
             let e : suc (i + 2) ≡ i + 1 + 2 = omega arith in
-            rw (tail-part 18 row, kind, rule-left, e, row-more isEmptyRow ruleIn 439 maxRules s counted i below is)
+            rw (tail-part pathAt row, kind, rule-left, e, row-more ruleIn ruleRow maxRules s counted i below is)

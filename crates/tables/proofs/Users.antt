@@ -3,20 +3,18 @@ use Prim.Native.Nat.{ℕ, zero, suc, _+_, _*_, _≤_, _<_}
 use mathlib.Core.Path.{_≡_, refl}
 use mathlib.Core.Bool.{Bool}
 use mathlib.Core.Option.{Option, none, some}
-use mathlib.Core.List.{List, [], _∷_, map}
+use mathlib.Core.List.{List, [], _∷_}
 use native.Mathlib.Numerals.{add-one}
 use native.Mathlib.Omega.{arith}
 use lib.ListN.{length, getD, getElem?, take, drop}
 use lib.Seq.{take-take}
-use Rattle.rows.specs.Rows.{rows, upTo, table}
+use Rattle.layout.specs.Layout.{inUse, nameRow, nameIn}
 use Rattle.rows.proofs.Parts.{part-at}
 use Rattle.model.specs.Base.{Bytes, if_then_else_, firstFrom, _==_}
 use Rattle.model.specs.Limits.{maxUsers}
 use Rattle.model.specs.Tables.{User, userAt, userNamed}
-use Rattle.paths.specs.Layout.{nameIn}
-use Rattle.steps.specs.Environments.{isEmptyRow}
-use Rattle.tables.specs.Memory.{userIn, usersIn}
-use Rattle.tables.proofs.Tabled.{rowsFrom, rows-start, rows-end, rows-stop, rows-next, counted-within, row-left, rows-over}
+use Rattle.tables.specs.Memory.{userRow, usersBytes, quotaAt, userIn, usersIn}
+use Rattle.layout.proofs.Used.{used-fit, used-last, used-more, byte-empty, byte-full, row-left, rows-over}
 
 -- the element at an index is the first of what is left there
 elem-left : {A : Type 0} (xs : List A) (i : ℕ) → getElem? xs i ≡ getElem? (drop i xs) 0
@@ -26,58 +24,57 @@ elem-left (x ∷ xs) zero = refl
 elem-left (x ∷ xs) (suc i) = elem-left xs i
 
 -- m rows were counted
-module _ (s : Bytes) {m : ℕ} (counted : m ≡ length (upTo isEmptyRow (rows 597 maxUsers s))) (i : ℕ) where
+module _ (s : Bytes) {m : ℕ} (counted : m ≡ length (inUse userRow maxUsers s)) (i : ℕ) where
   pub users-over : m ≤ i → drop i (usersIn s) ≡ []
   unfolding usersIn
-  users-over h = rows-over isEmptyRow userIn 597 maxUsers s counted i h
+  users-over h = rows-over userIn userRow maxUsers s counted i h
 
   pub user-none : m ≤ i → userAt (usersIn s) i ≡ none
   unfolding userAt
   user-none h = rw (elem-left (usersIn s) i, users-over h)
 
   module _ (below : i < m) where
-    pub user-inside : 19104 ≤ length s → i * 597 + 597 ≤ length s
-    user-inside h = omega (arith, counted-within isEmptyRow userIn 597 maxUsers s counted)
+    pub user-inside : usersBytes ≤ length s → i * userRow + userRow ≤ length s
+    user-inside h = omega (arith, counted, used-fit userRow maxUsers s)
 
-    pub user-left : {row : Bytes} → row ≡ take 597 (drop (i * 597) s) → drop i (usersIn s) ≡ userIn row ∷ drop (i + 1) (usersIn s)
+    pub user-left : {row : Bytes} → row ≡ take userRow (drop (i * userRow) s) → drop i (usersIn s) ≡ userIn row ∷ drop (i + 1) (usersIn s)
     unfolding usersIn
-    user-left is = row-left isEmptyRow userIn 597 maxUsers s counted i below is
+    user-left is = row-left userIn userRow maxUsers s counted i below is
 
-    pub user-some : {row : Bytes} → row ≡ take 597 (drop (i * 597) s) → userAt (usersIn s) i ≡ some (userIn row)
+    pub user-some : {row : Bytes} → row ≡ take userRow (drop (i * userRow) s) → userAt (usersIn s) i ≡ some (userIn row)
     unfolding userAt
     user-some is = rw (elem-left (usersIn s) i, user-left is)
 
--- the search for the name n, from the row i on
+-- ── The search for the name n, from the user i on ──
 abbrev pub namedFrom : Bytes → Bytes → ℕ → Option (ℕ × User)
-namedFrom n s i = firstFrom i (λ (u : User). u .name == n) (map userIn (rowsFrom 597 maxUsers s i))
+namedFrom n s i = firstFrom i (λ (u : User). u .name == n) (drop i (usersIn s))
 
-module _ (n s : Bytes) where
-  pub named-start : userNamed n (usersIn s) ≡ namedFrom n s 0
-  unfolding userNamed usersIn table
-  named-start = rw rows-start
+module _ (n s : Bytes) (i : ℕ) where
+  pub named-over : length (inUse userRow maxUsers s) ≤ i → namedFrom n s i ≡ none
+  unfolding firstFrom
+  named-over h = rw (users-over s refl i h)
 
-  module _ (i : ℕ) where
-    pub named-end : maxUsers ≤ i → namedFrom n s i ≡ none
-    unfolding firstFrom
-    named-end h = rw (rows-end 597 maxUsers s i h)
+  module _ (below : i < maxUsers) (passed : i ≤ length (inUse userRow maxUsers s)) where
+    pub named-stop : getD s (i * userRow) 0 ≡ 0 → namedFrom n s i ≡ none
+    named-stop e = named-over (used-last userRow maxUsers s i below passed (byte-empty userRow maxUsers s i (omega arith) e))
 
-    module _ (below : i < maxUsers) where
-      pub named-stop : getD s (i * 597) 0 ≡ 0 → namedFrom n s i ≡ none
-      unfolding firstFrom
-      named-stop e = rw (rows-stop 597 maxUsers s i below (omega arith) e)
+    -- the row is in use
+    module _ (f : getD s (i * userRow) 0 ≡ 0 → ⊥) where
+      pub named-more : i < length (inUse userRow maxUsers s)
+      named-more = used-more userRow maxUsers s i below passed (byte-full userRow maxUsers s i (omega arith) f)
 
-      -- the name in a row that is not empty was compared with n: it is the one, or the search goes on
-      pub named-next : (getD s (i * 597) 0 ≡ 0 → ⊥) → {name : Bytes} {r : Bool} → name ≡ nameIn (take 17 (drop (i * 597) s)) → r ≡ (name == n)
-          → namedFrom n s i ≡ (if r then some (i, userIn (take 597 (drop (i * 597) s))) else namedFrom n s (i + 1))
+      -- its name was compared with n: it is the one, or the search goes on
+      pub named-next : {name : Bytes} {r : Bool} → name ≡ nameIn (take nameRow (drop (i * userRow) s)) → r ≡ (name == n)
+          → namedFrom n s i ≡ (if r then some (i, userIn (take userRow (drop (i * userRow) s))) else namedFrom n s (i + 1))
       unfolding firstFrom userIn
-      named-next f e t =
-          rw (rows-next 597 maxUsers s i below (omega arith) f, take-take 17 597 (drop (i * 597) s) (omega arith), ← e, ← t, add-one)
+      named-next e t =
+          rw (user-left s refl i named-more refl, take-take nameRow userRow (drop (i * userRow) s) (omega arith), ← e, ← t, add-one i)
 
 -- two bytes say at most 65,535
-pub quota-small : (s : Bytes) (i : ℕ) {row : Bytes} {q : ℕ} → row ≡ take 597 (drop (i * 597) s) → q ≡ userIn row .quota
-    → getD s (i * 597 + 51) 0 < 256 → getD s (i * 597 + 52) 0 < 256 → q ≤ 65535
+pub quota-small : (s : Bytes) (i : ℕ) {row : Bytes} {q : ℕ} → row ≡ take userRow (drop (i * userRow) s) → q ≡ userIn row .quota
+    → getD s (i * userRow + quotaAt) 0 < 256 → getD s (i * userRow + (quotaAt + 1)) 0 < 256 → q ≤ 65535
 unfolding userIn
 quota-small s i {row} is t low high =
-    let low-is : getD row 51 0 ≡ getD s (i * 597 + 51) 0 = rw is (part-at (i * 597) 597 s 0 51 (omega arith)) in
-    let high-is : getD row 52 0 ≡ getD s (i * 597 + 52) 0 = rw is (part-at (i * 597) 597 s 0 52 (omega arith)) in
+    let low-is : getD row quotaAt 0 ≡ getD s (i * userRow + quotaAt) 0 = rw is (part-at (i * userRow) userRow s 0 quotaAt (omega arith)) in
+    let high-is : getD row (quotaAt + 1) 0 ≡ getD s (i * userRow + (quotaAt + 1)) 0 = rw is (part-at (i * userRow) userRow s 0 (quotaAt + 1) (omega arith)) in
     omega arith

@@ -1,5 +1,5 @@
 // The tables in memory: users with their environment lines, policy lines, who may read and write, and which paths conflict.
 pub mod conflicts;
-pub mod layout;
+pub mod memory;
 pub mod push;
 pub mod rights;

@@ -9,19 +9,18 @@ use borrow.Author.Tests.{le-leb, lt-leb, not-true, not-false}
 use lib.ListN.{length, take, set}
 use lib.Seq.{take-all}
 use Rattle.model.specs.Base.{Bytes, text, any, firstFrom, isSome, _==_, number}
-use Rattle.model.specs.Limits.{maxName, maxUsers, maxQuota, maxBindings, maxRules}
+use Rattle.model.specs.Limits.{maxKey, maxName, maxUsers, maxQuota, maxBindings, maxRules}
 use Rattle.model.specs.Names.{isName, isKey, isPlain}
 use Rattle.model.specs.Paths.{Steps, stepsOf}
 use Rattle.model.specs.Refusals.{Result, refused, _>>=_, _>>_, refuse_if_, _or_}
 use Rattle.model.specs.Tables.{Binding, User, Access, READ, WRITE, Rule, userNamed, everyRole, usersTable, sameBinding, bound, environmentsTable, accessOf, policyTable}
 use Rattle.model.proofs.Lists.{by-cases, and-both}
 use Rattle.model.proofs.Spelling.{Named, name-named, key-named}
-use Rattle.rows.specs.Rows.{rows, upTo}
-use Rattle.steps.specs.Environments.{isEmptyRow}
+use Rattle.layout.specs.Layout.{inUse}
 use Rattle.steps.specs.Steps.{stepsIn, stepsAnswer}
 use Rattle.steps.specs.declared.policy.StepsRead.{StepsRead}
-use Rattle.tables.specs.Memory.{userIn, usersIn, accessIn, ruleIn, policyIn}
-use Rattle.tables.proofs.Tabled.{length-decoded}
+use Rattle.tables.specs.Memory.{userRow, ruleRow, userIn, usersIn, accessIn, ruleIn, policyIn}
+use Rattle.layout.proofs.Used.{length-table}
 use Rattle.tabletext.specs.declared.row.RowRead.the-variants.{Done, Refused}
 use Rattle.tabletext.specs.declared.row.AccessRead.{AccessRead}
 use Rattle.tabletext.specs.declared.row.AccessRead.the-variants.{Is, Bad}
@@ -45,13 +44,13 @@ pub plain-named : (n : Bytes) → isPlain n ≡ true → Named maxName n
 unfolding isPlain
 plain-named n h = name-named n (and-both _ _ h .0)
 
-whole : {n : Bytes} → Named 16 n → take 16 n ≡ n
-whole {n} h = take-all 16 n (h .high)
+whole : {w : ℕ} {n : Bytes} → Named w n → take w n ≡ n
+whole {w} {n} h = take-all w n (h .high)
 
 -- ── Users ──
-pub users-counted : (s : Bytes) {m : ℕ} → m ≡ length (upTo isEmptyRow (rows 597 maxUsers s)) → m ≡ length (usersIn s)
+pub users-counted : (s : Bytes) {m : ℕ} → m ≡ length (inUse userRow maxUsers s) → m ≡ length (usersIn s)
 unfolding usersIn
-users-counted s h = h ∙ sym (length-decoded isEmptyRow userIn 597 maxUsers s)
+users-counted s h = h ∙ sym (length-table userIn userRow maxUsers s)
 
 -- an element passes where a first one that passes is found
 any-first : {A : Type 0} (p : A → Bool) (i : ℕ) (xs : List A) → any p xs ≡ isSome (firstFrom i p xs)
@@ -92,7 +91,7 @@ module _ (val : Bytes → Bytes) (us : List User) where
           -- the user that was pushed is the line's
           pub user-added : {name role key : Bytes} {vs : List User}
               → m < maxUsers → name ≡ val (text "user") → role ≡ val (text "role") → key ≡ val (text "key")
-              → vs ≡ take maxUsers (us ++ record { name = take 16 name; role = take 16 role; key = take 16 key; quota = quota; environment = [] } ∷ [])
+              → vs ≡ take maxUsers (us ++ record { name = take maxName name; role = take maxName role; key = take maxName key; quota = quota; environment = [] } ∷ [])
               → (Done ≡ rowAnswer (usersTable .row val us)) × (vs ≡ keptOr us (usersTable .row val us))
           unfolding usersTable _>>_ _>>=_ refuse_if_ _or_ userNamed isSome keptOr
           user-added h n r k e =
@@ -133,7 +132,7 @@ module _ (val : Bytes → Bytes) (us : List User) where
 
         -- the line that was pushed is this one
         pub binding-added : {name value : Bytes} {vs : List User} → m < maxBindings → name ≡ val (text "name") → value ≡ val (text "value")
-            → vs ≡ set us i (bound u (record { name = take 16 name; value = take 16 value }))
+            → vs ≡ set us i (bound u (record { name = take maxName name; value = take maxKey value }))
             → (Done ≡ rowAnswer (environmentsTable .row val us)) × (vs ≡ keptOr us (environmentsTable .row val us))
         unfolding environmentsTable _>>_ _>>=_ refuse_if_ _or_ keptOr
         binding-added h n v e =
@@ -167,9 +166,9 @@ module _ (r : StepsRead) {m n : Bytes} (is : m ≡ n) (h : stepsAnswer r ≡ ste
   pub path-read : not (r .ok) ≡ false → stepsOf n ≡ some (stepsIn (r .slot))
   path-read e = rw (← is, ← h, not-false (r .ok) e)
 
-pub rules-counted : (s : Bytes) {m : ℕ} → m ≡ length (upTo isEmptyRow (rows 439 maxRules s)) → m ≡ length (policyIn s)
+pub rules-counted : (s : Bytes) {m : ℕ} → m ≡ length (inUse ruleRow maxRules s) → m ≡ length (policyIn s)
 unfolding policyIn
-rules-counted s h = h ∙ sym (length-decoded isEmptyRow ruleIn 439 maxRules s)
+rules-counted s h = h ∙ sym (length-table ruleIn ruleRow maxRules s)
 
 module _ (val : Bytes → Bytes) (rs : List Rule) where
   pub rule-unnamed : isName (val (text "role")) ≡ false → policyTable .row val rs ≡ refused 2
@@ -194,7 +193,7 @@ module _ (val : Bytes → Bytes) (rs : List Rule) where
 
         -- the line that was pushed is this one
         pub rule-added : {name : Bytes} {vs : List Rule} → m < maxRules → name ≡ val (text "role")
-            → vs ≡ take maxRules (rs ++ record { role = take 16 name; access = a; path = p } ∷ [])
+            → vs ≡ take maxRules (rs ++ record { role = take maxName name; access = a; path = p } ∷ [])
             → (Done ≡ rowAnswer (policyTable .row val rs)) × (vs ≡ keptOr rs (policyTable .row val rs))
         unfolding policyTable _>>_ _>>=_ refuse_if_ _or_ keptOr
         rule-added h n e =

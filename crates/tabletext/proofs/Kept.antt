@@ -1,20 +1,22 @@
 -- Both tables in one memory: what it means where the bytes of one of them came back changed, and what a line's answer says of both.
 use Prim.Native.Nat.{ℕ, _-_, _≤_}
-use mathlib.Core.Path.{_≡_, refl, _∙_}
+use mathlib.Core.Path.{_≡_, refl, ap, _∙_}
 use mathlib.Core.List.{List, _++_}
 use native.Mathlib.Omega.{arith}
 use lib.ListN.{length, take, drop}
 use lib.Seq.{take-at, drop-at, length-take-le}
-use Rattle.rows.specs.Rows.{replaced, table}
+use Rattle.rows.specs.Rows.{replaced}
+use Rattle.layout.specs.Layout.{table}
 use Rattle.rows.proofs.Rows.{rows-take}
 use Rattle.rows.proofs.Parts.{tail-part, tail-replaced}
 use Rattle.model.specs.Base.{Bytes}
 use Rattle.model.specs.Refusals.{Result, refused, done, _>>=_}
 use Rattle.model.specs.Table.{Table}
 use Rattle.model.specs.Tables.{User, Rule, Tables}
-use Rattle.tables.specs.Memory.{usersIn, policyIn, tablesIn}
+use Rattle.tables.specs.Memory.{userRow, usersBytes, usersIn, policyIn, tablesIn}
 use Rattle.tabletext.specs.declared.row.RowRead.{RowRead}
 use Rattle.tabletext.specs.Reading.{rowAnswer, keptOr, inUsers, inPolicy}
+use Rattle.model.specs.Limits.{maxUsers}
 
 -- ── A result with what was read put into a whole ──
 module _ {A B : Type 0} (f : A → B) where
@@ -29,36 +31,40 @@ module _ {A B : Type 0} (f : A → B) where
   kept-in a (done b) = refl
 
 -- ── The first 19104 bytes are the users', the rest is the policy's ──
-users-first : (s : Bytes) → usersIn (take 19104 s) ≡ usersIn s
+users-first : (s : Bytes) → usersIn (take usersBytes s) ≡ usersIn s
 unfolding usersIn table
-users-first s = rw (rows-take 597 32 19104 s (omega arith))
+users-first s = rw (rows-take userRow maxUsers usersBytes s (omega arith))
 
-tables-joined : (us rs : Bytes) → length us ≡ 19104 → tablesIn (us ++ rs) ≡ record { users = usersIn us; policy = policyIn rs }
+tables-joined : (us rs : Bytes) → length us ≡ usersBytes → tablesIn (us ++ rs) ≡ record { users = usersIn us; policy = policyIn rs }
 unfolding tablesIn
-tables-joined us rs l = rw (← users-first (us ++ rs), take-at us rs 19104 l, drop-at us rs 19104 l)
+tables-joined us rs l = rw (← users-first (us ++ rs), take-at us rs usersBytes l, drop-at us rs usersBytes l)
 
 -- what a line added to one of them, it added to both
 module _ (val : Bytes → Bytes) (s part : Bytes) {r : RowRead} where
-  pub row-users : (t : Table (List User)) → length part ≡ 19104
-      → r ≡ rowAnswer (t .row val (usersIn (take 19104 s)))
-      → usersIn part ≡ keptOr (usersIn (take 19104 s)) (t .row val (usersIn (take 19104 s)))
+  pub row-users : (t : Table (List User)) → length part ≡ usersBytes
+      → r ≡ rowAnswer (t .row val (usersIn (take usersBytes s)))
+      → usersIn part ≡ keptOr (usersIn (take usersBytes s)) (t .row val (usersIn (take usersBytes s)))
       → (r ≡ rowAnswer (inUsers t .row val (tablesIn s)))
-      × (tablesIn (part ++ drop 19104 s) ≡ keptOr (tablesIn s) (inUsers t .row val (tablesIn s)))
+      × (tablesIn (part ++ drop usersBytes s) ≡ keptOr (tablesIn s) (inUsers t .row val (tablesIn s)))
   unfolding inUsers tablesIn
   row-users t l a k =
-      let whole : List User → Tables = λ us. record { users = us; policy = policyIn (drop 19104 s) } in
+      let whole : List User → Tables = λ us. record { users = us; policy = policyIn (drop usersBytes s) } in
       let q = t .row val (usersIn s) in
-      ((rw (users-first s) at a) ∙ answer-in whole q, rw (tables-joined part (drop 19104 s) l, k, users-first s) (kept-in whole (usersIn s) q))
+      ((rw (users-first s) at a) ∙ answer-in whole q, rw (tables-joined part (drop usersBytes s) l, k, users-first s) (kept-in whole (usersIn s) q))
 
-  pub row-policy : (t : Table (List Rule)) → 19104 ≤ length s
-      → let old = take (length s - 19104) (drop 19104 s) in
+  pub row-policy : (t : Table (List Rule)) → usersBytes ≤ length s
+      → let old = take (length s - usersBytes) (drop usersBytes s) in
       r ≡ rowAnswer (t .row val (policyIn old))
       → policyIn part ≡ keptOr (policyIn old) (t .row val (policyIn old))
       → (r ≡ rowAnswer (inPolicy t .row val (tablesIn s)))
-      × (tablesIn (replaced 19104 (length s - 19104) part s) ≡ keptOr (tablesIn s) (inPolicy t .row val (tablesIn s)))
+      × (tablesIn (replaced usersBytes (length s - usersBytes) part s) ≡ keptOr (tablesIn s) (inPolicy t .row val (tablesIn s)))
   unfolding inPolicy tablesIn
   row-policy t l a k =
       let whole : List Rule → Tables = λ rs. record { users = usersIn s; policy = rs } in
-      let q = t .row val (policyIn (drop 19104 s)) in
-      let joined = tables-joined (take 19104 s) part (length-take-le 19104 s l) in
-      ((rw (tail-part 19104 s) at a) ∙ answer-in whole q, rw (tail-replaced 19104 s part, joined, users-first s, k, tail-part 19104 s) (kept-in whole (policyIn (drop 19104 s)) q))
+      let q = t .row val (policyIn (drop usersBytes s)) in
+      let put = ap tablesIn (tail-replaced usersBytes s part) in
+      let joined = tables-joined (take usersBytes s) part (length-take-le usersBytes s l) in
+      let beside : List User → Tables = λ us. record { users = us; policy = policyIn part } in
+      let users = ap beside (users-first s) in
+      let policy = rw (tail-part usersBytes s) at k in
+      ((rw (tail-part usersBytes s) at a) ∙ answer-in whole q, put ∙ joined ∙ users ∙ ap whole policy ∙ kept-in whole (policyIn (drop usersBytes s)) q)

@@ -15,7 +15,7 @@ use Rattle.model.specs.Base.{Bytes, all, among}
 use Rattle.model.specs.Refusals.{Result, refused, done, _>>=_, _>>_, refuse_if_}
 use Rattle.model.specs.Table.{Table, ended, lines, split, under, sameLength, inLine, isHead, readRow, readRows, readLines, readTable}
 use Rattle.model.proofs.Lists.{by-cases}
-use Rattle.lines.specs.Cells.{isNot}
+use Rattle.lexical.specs.Classes.{isNot}
 use Rattle.lines.proofs.Lines.{line-ended, line-broken, lines-over}
 use Rattle.tabletext.specs.declared.row.RowRead.{RowRead}
 use Rattle.tabletext.specs.declared.row.RowRead.the-variants as row-read

@@ -10,19 +10,19 @@ use lib.ListN.{length, getD, getElem?, take, drop, set, length-append, length-dr
 use lib.Seq.{take-add, take-all, take-take, take-append-le, drop-drop, drop-at, drop-append-le, length-take-le}
 use Rattle.rows.specs.Rows.{rows, upTo, replaced}
 use Rattle.rows.proofs.Rows.{drop-take, row-at}
-use Rattle.rows.proofs.Table.{length-table, table-set}
+use Rattle.layout.proofs.Changed.{used-set, table-set}
+use Rattle.layout.proofs.Used.{table-fit, length-table}
 use Rattle.rows.proofs.Parts.{length-part}
 use Rattle.model.specs.Base.{Bytes, firstFrom}
 use Rattle.model.specs.Limits.{maxUsers, maxBindings}
 use Rattle.model.specs.Tables.{Binding, User, userAt, userNamed, bound}
 use Rattle.model.proofs.Lists.{by-cases, none-some, elem-below}
 use Rattle.model.proofs.Reading.{some-same}
-use Rattle.paths.specs.Layout.{nameIn}
-use Rattle.steps.specs.Environments.{isEmptyRow, bindingIn, bindingsIn}
-use Rattle.tables.specs.declared.layout.UserAt.{UserAt}
-use Rattle.tables.specs.declared.layout.UserAt.the-variants.{At, Unknown}
-use Rattle.tables.specs.Memory.{userIn, usersIn, userAnswer}
-use Rattle.tables.proofs.Tabled.{length-decoded}
+use Rattle.layout.specs.Layout.{inUse, isEmpty, nameRow, nameIn}
+use Rattle.steps.specs.Environments.{bindingRow, bindingsBytes, bindingIn, bindingsIn}
+use Rattle.tables.specs.declared.memory.UserAt.{UserAt}
+use Rattle.tables.specs.declared.memory.UserAt.the-variants.{At, Unknown}
+use Rattle.tables.specs.Memory.{userRow, usersBytes, roleAt, keyAt, quotaAt, linesAt, userIn, usersIn, userAnswer}
 use Rattle.tables.proofs.Users.{user-some}
 
 -- ── What the answer of a search says ──
@@ -42,22 +42,22 @@ module _ (us : List User) {m n : Bytes} (is : m ≡ n) {r : UserAt} (h : r ≡ u
       go none h = let z : _≡_ {A = ℕ} 0 1 = cc in absurd (omega arith)
       go (some t) h = (t .1, let z : t .0 ≡ i = cc in rw z)
 
--- ── The row of a user: 53 bytes and the lines ──
-module _ (h : Bytes) (long : length h ≡ 53) where
+-- ── The row of a user: what stands before the lines, and the lines ──
+module _ (h : Bytes) (long : length h ≡ linesAt) where
   user-parts : (ls : Bytes) → userIn (h ++ ls) ≡ record {
-    name = nameIn (take 17 h);
-    role = nameIn (take 17 (drop 17 h));
-    key = nameIn (take 17 (drop 34 h));
-    quota = getD h 51 0 + 256 * getD h 52 0;
+    name = nameIn (take nameRow h);
+    role = nameIn (take nameRow (drop roleAt h));
+    key = nameIn (take nameRow (drop keyAt h));
+    quota = getD h quotaAt 0 + 256 * getD h (quotaAt + 1) 0;
     environment = bindingsIn ls;
   }
   unfolding userIn
   user-parts ls =
-      let role = take-append-le 17 (drop 17 h) ls (rw length-drop (omega arith)) in
-      let key = take-append-le 17 (drop 34 h) ls (rw length-drop (omega arith)) in
-      let low = List·getD-append h ls 0 51 (omega arith) in
-      let high = List·getD-append h ls 0 52 (omega arith) in
-      rw (take-append-le 17 h ls (omega arith), drop-append-le 17 h ls (omega arith), role, drop-append-le 34 h ls (omega arith), key, low, high, drop-at h ls 53 long)
+      let role = take-append-le nameRow (drop roleAt h) ls (rw length-drop (omega arith)) in
+      let key = take-append-le nameRow (drop keyAt h) ls (rw length-drop (omega arith)) in
+      let low = List·getD-append h ls 0 quotaAt (omega arith) in
+      let high = List·getD-append h ls 0 (quotaAt + 1) (omega arith) in
+      rw (take-append-le nameRow h ls (omega arith), drop-append-le roleAt h ls (omega arith), role, drop-append-le keyAt h ls (omega arith), key, low, high, drop-at h ls linesAt long)
 
   -- with one line more it is the row of the user so bound
   user-bound : (ls ms : Bytes) (b : Binding) → bindingsIn ms ≡ bindingsIn ls ++ b ∷ [] → userIn (h ++ ms) ≡ bound (userIn (h ++ ls)) b
@@ -65,26 +65,26 @@ module _ (h : Bytes) (long : length h ≡ 53) where
   user-bound ls ms b e = rw (user-parts ms, user-parts ls, e)
 
   -- it is empty where it was empty
-  same-empty : (ls ms : Bytes) → isEmptyRow (h ++ ls) ≡ isEmptyRow (h ++ ms)
-  unfolding isEmptyRow
+  same-empty : (ls ms : Bytes) → isEmpty (h ++ ls) ≡ isEmpty (h ++ ms)
+  unfolding isEmpty
   same-empty ls ms = rw (List·getD-append h ls 0 0 (omega arith), List·getD-append h ms 0 0 (omega arith))
 
 -- ── The lines of the user at i, in the rows of all users ──
 module _ (s : Bytes) (i : ℕ) where
   abbrev rowAt : Bytes
-  rowAt = take 597 (drop (i * 597) s)
+  rowAt = take userRow (drop (i * userRow) s)
 
-  abbrev pub linesAt : Bytes
-  linesAt = take (i * 597 + 53 + 544 - (i * 597 + 53)) (drop (i * 597 + 53) s)
+  abbrev pub linesOf : Bytes
+  linesOf = take (i * userRow + linesAt + bindingsBytes - (i * userRow + linesAt)) (drop (i * userRow + linesAt) s)
 
-  row-split : rowAt ≡ take 53 rowAt ++ linesAt
-  row-split = rw (add-sub-cancel-left, ← drop-drop 53 (i * 597) s, ← drop-take 53 597 (drop (i * 597) s)) (sym (take-append-drop 53 rowAt))
+  row-split : rowAt ≡ take linesAt rowAt ++ linesOf
+  row-split = rw (add-sub-cancel-left, ← drop-drop linesAt (i * userRow) s, ← drop-take linesAt userRow (drop (i * userRow) s)) (sym (take-append-drop linesAt rowAt))
 
   -- where other lines came back, so did the row with them
-  row-back : (ls : Bytes) → replaced (i * 597 + 53) (i * 597 + 53 + 544 - (i * 597 + 53)) ls s ≡ replaced (i * 597) 597 (take 53 rowAt ++ ls) s
+  row-back : (ls : Bytes) → replaced (i * userRow + linesAt) (i * userRow + linesAt + bindingsBytes - (i * userRow + linesAt)) ls s ≡ replaced (i * userRow) userRow (take linesAt rowAt ++ ls) s
   row-back ls =
-      let e : i * 597 + 53 + 544 ≡ i * 597 + 597 = omega arith in
-      rw (add-sub-cancel-left, take-add (i * 597) 53 s, drop-drop 544 (i * 597 + 53) s, drop-drop 597 (i * 597) s, e, take-take 53 597 (drop (i * 597) s) (omega arith))
+      let e : i * userRow + linesAt + bindingsBytes ≡ i * userRow + userRow = omega arith in
+      rw (add-sub-cancel-left, take-add (i * userRow) linesAt s, drop-drop bindingsBytes (i * userRow + linesAt) s, drop-drop userRow (i * userRow) s, e, take-take linesAt userRow (drop (i * userRow) s) (omega arith))
       (simp append-assoc)
 
 -- ── Where the user stands ──
@@ -111,8 +111,8 @@ pub record Stands (s n : Bytes) (i : ℕ) : Type 0 where
   pub user : User
   pub named : userNamed n (usersIn s) ≡ some (i, user)
   pub below : i < length (usersIn s)
-  pub inside : i * 597 + 597 ≤ 19104
-  pub is : user ≡ userIn (take 597 (drop (i * 597) s))
+  pub inside : i * userRow + userRow ≤ usersBytes
+  pub is : user ≡ userIn (take userRow (drop (i * userRow) s))
 
 pub stands : (s : Bytes) {n : Bytes} {i : ℕ} {u : User} → userNamed n (usersIn s) ≡ some (i, u) → Stands s n i
 unfolding usersIn userNamed userAt
@@ -121,12 +121,12 @@ stands s {i = i} {u = u} h =
     let same : k ≡ i = omega arith in
     let at : getElem? (usersIn s) i ≡ some u = rw (← same) g in
     let below = elem-below (usersIn s) i u at in
-    let counted = length-decoded isEmptyRow userIn 597 maxUsers s in
+    let counted = length-table userIn userRow maxUsers s in
     record {
       user = u;
       named = h;
       below = below;
-      inside = omega (arith, length-table isEmptyRow userIn 597 maxUsers s);
+      inside = omega (arith, table-fit userIn userRow maxUsers s);
       is = some-same (sym at ∙ user-some s counted i below refl);
     }
 
@@ -135,31 +135,32 @@ stands s {i = i} {u = u} h =
 pub one-more : {A : Type 0} (n : ℕ) (xs : List A) (x : A) {m : ℕ} → m ≡ length xs → m < n → take n (xs ++ x ∷ []) ≡ xs ++ x ∷ []
 one-more n xs x e h = take-all n (xs ++ x ∷ []) (rw length-append (omega arith))
 
-module _ {s n : Bytes} {i : ℕ} (u : Stands s n i) (size : length s ≡ 19104) where
-  front : length (take 53 (rowAt s i)) ≡ 53
-  front = length-take-le 53 (rowAt s i) (rw (length-part (i * 597) 597 s (omega (arith, u .inside))) (omega arith))
+module _ {s n : Bytes} {i : ℕ} (u : Stands s n i) (size : length s ≡ usersBytes) where
+  front : length (take linesAt (rowAt s i)) ≡ linesAt
+  front = length-take-le linesAt (rowAt s i) (rw (length-part (i * userRow) userRow s (omega (arith, u .inside))) (omega arith))
 
-  pub lines-long : length (linesAt s i) ≡ 544
-  lines-long = rw add-sub-cancel-left (length-part (i * 597 + 53) 544 s (omega (arith, u .inside)))
+  pub lines-long : length (linesOf s i) ≡ bindingsBytes
+  lines-long = rw add-sub-cancel-left (length-part (i * userRow + linesAt) bindingsBytes s (omega (arith, u .inside)))
 
-  pub lines-are : u .user .environment ≡ bindingsIn (linesAt s i)
-  lines-are = rw (u .is, row-split s i, user-parts (take 53 (rowAt s i)) front)
+  pub lines-are : u .user .environment ≡ bindingsIn (linesOf s i)
+  lines-are = rw (u .is, row-split s i, user-parts (take linesAt (rowAt s i)) front)
 
-  pub lines-counted : {m : ℕ} → m ≡ length (upTo isEmptyRow (rows 34 maxBindings (linesAt s i))) → m ≡ length (u .user .environment)
+  pub lines-counted : {m : ℕ} → m ≡ length (inUse bindingRow maxBindings (linesOf s i)) → m ≡ length (u .user .environment)
   unfolding bindingsIn
-  lines-counted h = rw (lines-are, length-decoded isEmptyRow bindingIn 34 maxBindings (linesAt s i)) h
+  lines-counted h = rw (lines-are, length-table bindingIn bindingRow maxBindings (linesOf s i)) h
 
   -- other lines came back: where there is room, those that there were and the line b
-  pub lines-joined : {m : ℕ} (ls : Bytes) (b : Binding) → length ls ≡ 544 → m ≡ length (u .user .environment) → m < maxBindings
-      → bindingsIn ls ≡ take maxBindings (bindingsIn (linesAt s i) ++ b ∷ [])
-      → usersIn (replaced (i * 597 + 53) (i * 597 + 53 + 544 - (i * 597 + 53)) ls s) ≡ set (usersIn s) i (bound (u .user) b)
+  pub lines-joined : {m : ℕ} (ls : Bytes) (b : Binding) → length ls ≡ bindingsBytes → m ≡ length (u .user .environment) → m < maxBindings
+      → bindingsIn ls ≡ take maxBindings (bindingsIn (linesOf s i) ++ b ∷ [])
+      → usersIn (replaced (i * userRow + linesAt) (i * userRow + linesAt + bindingsBytes - (i * userRow + linesAt)) ls s) ≡ set (usersIn s) i (bound (u .user) b)
   unfolding usersIn
   lines-joined ls b long counted room e =
-      let row = take 53 (rowAt s i) ++ ls in
-      let l : length row ≡ 597 = rw (length-append, front, long) in
+      let row = take linesAt (rowAt s i) ++ ls in
+      let l : length row ≡ userRow = rw (length-append, front, long) in
       let below : i < maxUsers = omega (arith, u .inside) in
-      let full = kept-at isEmptyRow i (rows 597 maxUsers s) [] (rw length-decoded at (u .below)) in
-      let kept : isEmptyRow row ≡ false = rw (same-empty (take 53 (rowAt s i)) front ls (linesAt s i), ← row-split s i, ← row-at 597 i maxUsers s [] below) full in
-      let more = e ∙ one-more maxBindings (bindingsIn (linesAt s i)) b (counted ∙ ap length lines-are) room in
-      let joined = user-bound (take 53 (rowAt s i)) front (linesAt s i) ls b more in
-      rw (row-back s i ls, table-set isEmptyRow userIn 597 i maxUsers row s l below kept (omega arith) (u .below), joined, ← row-split s i, ← u .is)
+      let full = kept-at isEmpty i (rows userRow maxUsers s) [] (rw length-table at (u .below)) in
+      let kept : isEmpty row ≡ false = rw (same-empty (take linesAt (rowAt s i)) front ls (linesOf s i), ← row-split s i, ← row-at userRow i maxUsers s [] below) full in
+      let more = e ∙ one-more maxBindings (bindingsIn (linesOf s i)) b (counted ∙ ap length lines-are) room in
+      let joined = user-bound (take linesAt (rowAt s i)) front (linesOf s i) ls b more in
+      let used = used-set userRow maxUsers i row s (omega arith, omega arith) l kept (rw length-table at (u .below)) in
+      rw (row-back s i ls, table-set userIn userRow maxUsers s (replaced (i * userRow) userRow row s) row i used, joined, ← row-split s i, ← u .is)

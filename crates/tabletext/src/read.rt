@@ -3,18 +3,20 @@ use crate::row::RowRead;
 use crate::row::add_binding;
 use crate::row::add_rule;
 use crate::row::add_user;
+use lexical::slice::until;
 use lines::count;
 use lines::has_column;
-use lines::until;
 use lines::value;
-use tables::layout::POLICY;
+use tables::memory::POLICY;
+use tables::memory::TABLES;
 ghost use mathlib.Core.Path.{_≡_};
 ghost use mathlib.Core.Bool.{_&&_};
 ghost use Prim.Native.Nat.{_≤_};
 ghost use lib.ListN.{length};
 ghost use Rattle.model.specs.Base.{all, among};
+ghost use Rattle.model.specs.Limits.{maxText};
 ghost use Rattle.model.specs.Table.{split, under, sameLength, isHead, readRow, readTable, ended};
-ghost use Rattle.tables.specs.Memory.{tablesIn};
+ghost use Rattle.tables.specs.Memory.{tablesBytes, tablesIn};
 ghost use Rattle.tabletext.specs.Reading.{rowAnswer, keptOr, tableOf, tableAnswer, tablesAsFar};
 
 pub enum Table {
@@ -31,7 +33,7 @@ pub enum TableRead {
 
 // Whether a head has as many columns as a line names, and each of these.
 fn has_columns(columns: &[u8], head: &[u8]) -> bool
-    requires { ⌜ (length (now columns) ≤ 65536) × (length (now head) ≤ 65536) ⌝ }
+    requires { ⌜ (length (now columns) ≤ maxText) × (length (now head) ≤ maxText) ⌝ }
     ensures { λ r. ⌜ r ≡ (sameLength (split (now (head .entry))) (split (now (columns .entry))) && all (λ c. among c (split (now (head .entry)))) (split (now (columns .entry)))) ⌝ }
 {
     let n = count(columns);
@@ -50,7 +52,7 @@ fn has_columns(columns: &[u8], head: &[u8]) -> bool
 
 // Whether a line has the columns of a table, each once, in any order.
 fn is_head(t: Table, head: &[u8]) -> bool
-    requires { ⌜ length (now head) ≤ 65536 ⌝ }
+    requires { ⌜ length (now head) ≤ maxText ⌝ }
     ensures { λ r. ⌜ r ≡ isHead (tableOf t) (split (now (head .entry))) ⌝ }
 {
     match t {
@@ -62,7 +64,7 @@ fn is_head(t: Table, head: &[u8]) -> bool
 
 // What a line adds to the tables.
 fn add_row(t: Table, tables: &mut [u8], head: &[u8], line: &[u8]) -> RowRead
-    requires { ⌜ (length (now tables) ≡ 47200) × (length (now head) ≤ 65536) ⌝ }
+    requires { ⌜ (length (now tables) ≡ tablesBytes) × (length (now head) ≤ maxText) ⌝ }
     ensures { λ r. ⌜ r ≡ rowAnswer (tableOf t .row (under (split (now (head .entry))) (split (now (line .entry)))) (tablesIn (now (tables .entry)))) ⌝ }
     ensures { λ r. ⌜ tablesIn (now (tables .exit)) ≡ keptOr (tablesIn (now (tables .entry))) (tableOf t .row (under (split (now (head .entry))) (split (now (line .entry)))) (tablesIn (now (tables .entry)))) ⌝ }
 {
@@ -74,8 +76,8 @@ fn add_row(t: Table, tables: &mut [u8], head: &[u8], line: &[u8]) -> RowRead
 }
 
 // The same, if the line has as many values as the head.
-fn read_row(t: Table, tables: &mut [u8], head: &[u8], line: &[u8]) -> RowRead
-    requires { ⌜ (length (now tables) ≡ 47200) × (length (now head) ≤ 65536) × (length (now line) ≤ 65536) ⌝ }
+fn read_row(t: Table, tables: &mut [u8; TABLES], head: &[u8], line: &[u8]) -> RowRead
+    requires { ⌜ (length (now head) ≤ maxText) × (length (now line) ≤ maxText) ⌝ }
     ensures { λ r. ⌜ r ≡ rowAnswer (readRow (tableOf t) (split (now (head .entry))) (tablesIn (now (tables .entry))) (ended (now (line .entry)))) ⌝ }
     ensures { λ r. ⌜ tablesIn (now (tables .exit)) ≡ keptOr (tablesIn (now (tables .entry))) (readRow (tableOf t) (split (now (head .entry))) (tablesIn (now (tables .entry))) (ended (now (line .entry)))) ⌝ }
 {
@@ -86,8 +88,8 @@ fn read_row(t: Table, tables: &mut [u8], head: &[u8], line: &[u8]) -> RowRead
 }
 
 // A table's text into the tables: what the lines before a refusal added stays.
-pub fn read_table(t: Table, tables: &mut [u8], s: &[u8]) -> TableRead
-    requires { ⌜ (length (now tables) ≡ 47200) × (length (now s) ≤ 65536) ⌝ }
+pub fn read_table(t: Table, tables: &mut [u8; TABLES], s: &[u8]) -> TableRead
+    requires { ⌜ length (now s) ≤ maxText ⌝ }
     ensures { λ r. ⌜ r ≡ tableAnswer (readTable (tableOf t) (tablesIn (now (tables .entry))) (now (s .entry))) ⌝ }
     ensures { λ r. ⌜ tablesIn (now (tables .exit)) ≡ tablesAsFar (tableOf t) (tablesIn (now (tables .entry))) (now (s .entry)) ⌝ }
 {

@@ -1,20 +1,27 @@
 // What a line of values adds to a table, or the number of its refusal.
+use layout::name::KEY_ROW;
+use layout::name::NAME_ROW;
+use layout::name::name_from;
+use layout::table::row_count;
 use lexical::class::is_key;
 use lexical::class::is_name;
 use lexical::class::is_plain;
+use lexical::limits::MAX_QUOTA;
 use lexical::number::Natural;
 use lexical::number::number;
 use lexical::slice::same;
 use lines::value_under;
-use paths::layout::name_from;
 use steps::policy::read_steps;
-use tables::layout::RULE;
-use tables::layout::RULES;
-use tables::layout::USER;
-use tables::layout::USERS;
-use tables::layout::UserAt;
-use tables::layout::find_user;
-use tables::layout::row_count;
+use steps::step::BINDING;
+use steps::step::BINDINGS;
+use steps::step::ENVIRONMENT;
+use tables::memory::LINES;
+use tables::memory::RULE;
+use tables::memory::RULES;
+use tables::memory::USER;
+use tables::memory::USERS;
+use tables::memory::UserAt;
+use tables::memory::find_user;
 use tables::push::push_binding;
 use tables::push::push_rule;
 use tables::push::push_user;
@@ -22,10 +29,11 @@ ghost use mathlib.Core.Path.{_≡_};
 ghost use Prim.Native.Nat.{_≤_};
 ghost use lib.ListN.{length};
 ghost use Rattle.model.specs.Base.{any};
+ghost use Rattle.model.specs.Limits.{maxText};
 ghost use Rattle.model.specs.Table.{split, under};
 ghost use Rattle.model.specs.Tables.{usersTable, environmentsTable, policyTable, sameBinding, accessOf};
-ghost use Rattle.steps.specs.Environments.{bindingsIn};
-ghost use Rattle.tables.specs.Memory.{usersIn, policyIn};
+ghost use Rattle.steps.specs.Environments.{bindingsBytes, bindingsIn};
+ghost use Rattle.tables.specs.Memory.{usersBytes, policyBytes, usersIn, policyIn};
 ghost use Rattle.tabletext.specs.Reading.{accessAnswer, rowAnswer, keptOr};
 
 pub enum RowRead {
@@ -40,7 +48,7 @@ pub enum AccessRead {
 
 // A user.
 pub fn add_user(users: &mut [u8], head: &[u8], line: &[u8]) -> RowRead
-    requires { ⌜ (length (now users) ≡ 19104) × (length (now head) ≤ 65536) ⌝ }
+    requires { ⌜ (length (now users) ≡ usersBytes) × (length (now head) ≤ maxText) ⌝ }
     ensures { λ r. ⌜ r ≡ rowAnswer (usersTable .row (under (split (now (head .entry))) (split (now (line .entry)))) (usersIn (now (users .entry)))) ⌝ }
     ensures { λ r. ⌜ usersIn (now (users .exit)) ≡ keptOr (usersIn (now (users .entry))) (usersTable .row (under (split (now (head .entry))) (split (now (line .entry)))) (usersIn (now (users .entry)))) ⌝ }
 {
@@ -59,7 +67,7 @@ pub fn add_user(users: &mut [u8], head: &[u8], line: &[u8]) -> RowRead
     if same(role, b"*") {
         return RowRead::Refused(2);
     }
-    let Natural::Is(quota) = number(value_under(head, line, b"allowance"), 256) else {
+    let Natural::Is(quota) = number(value_under(head, line, b"allowance"), MAX_QUOTA) else {
         return RowRead::Refused(2);
     };
     if let UserAt::At(_) = find_user(users, name) {
@@ -74,15 +82,15 @@ pub fn add_user(users: &mut [u8], head: &[u8], line: &[u8]) -> RowRead
 
 // Whether a user's environment lines have this one.
 fn has_binding(lines: &[u8], name: &[u8], value: &[u8]) -> bool
-    requires { ⌜ length (now lines) ≡ 544 ⌝ }
+    requires { ⌜ length (now lines) ≡ bindingsBytes ⌝ }
     ensures { λ r. ⌜ r ≡ any (sameBinding (record { name = now (name .entry); value = now (value .entry) })) (bindingsIn (now (lines .entry))) ⌝ }
 {
-    let n = row_count(lines, 34, 16);
+    let n = row_count(lines, BINDING, BINDINGS);
     let mut i: usize = 0;
     while i < n {
-        let at = i * 34;
-        if same(name, name_from(lines, at)) {
-            if same(value, name_from(lines, at + 17)) {
+        let at = i * BINDING;
+        if same(name, name_from(lines, at, NAME_ROW)) {
+            if same(value, name_from(lines, at + NAME_ROW, KEY_ROW)) {
                 return true;
             }
         }
@@ -93,7 +101,7 @@ fn has_binding(lines: &[u8], name: &[u8], value: &[u8]) -> bool
 
 // An environment line, which joins those of its user.
 pub fn add_binding(users: &mut [u8], head: &[u8], line: &[u8]) -> RowRead
-    requires { ⌜ (length (now users) ≡ 19104) × (length (now head) ≤ 65536) ⌝ }
+    requires { ⌜ (length (now users) ≡ usersBytes) × (length (now head) ≤ maxText) ⌝ }
     ensures { λ r. ⌜ r ≡ rowAnswer (environmentsTable .row (under (split (now (head .entry))) (split (now (line .entry)))) (usersIn (now (users .entry)))) ⌝ }
     ensures { λ r. ⌜ usersIn (now (users .exit)) ≡ keptOr (usersIn (now (users .entry))) (environmentsTable .row (under (split (now (head .entry))) (split (now (line .entry)))) (usersIn (now (users .entry)))) ⌝ }
 {
@@ -112,12 +120,12 @@ pub fn add_binding(users: &mut [u8], head: &[u8], line: &[u8]) -> RowRead
     let UserAt::At(i) = find_user(users, user) else {
         return RowRead::Refused(7);
     };
-    let start = i * USER + 53;
-    let end = start + 544;
+    let start = i * USER + LINES;
+    let end = start + ENVIRONMENT;
     if has_binding(&users[start..end], name, value) {
         return RowRead::Refused(6);
     }
-    if 16 <= row_count(&users[start..end], 34, 16) {
+    if BINDINGS <= row_count(&users[start..end], BINDING, BINDINGS) {
         return RowRead::Refused(4);
     }
     push_binding(&mut users[start..end], name, value);
@@ -139,7 +147,7 @@ fn access(s: &[u8]) -> AccessRead
 
 // A policy line.
 pub fn add_rule(policy: &mut [u8], head: &[u8], line: &[u8]) -> RowRead
-    requires { ⌜ (length (now policy) ≡ 28096) × (length (now head) ≤ 65536) ⌝ }
+    requires { ⌜ (length (now policy) ≡ policyBytes) × (length (now head) ≤ maxText) ⌝ }
     ensures { λ r. ⌜ r ≡ rowAnswer (policyTable .row (under (split (now (head .entry))) (split (now (line .entry)))) (policyIn (now (policy .entry)))) ⌝ }
     ensures { λ r. ⌜ policyIn (now (policy .exit)) ≡ keptOr (policyIn (now (policy .entry))) (policyTable .row (under (split (now (head .entry))) (split (now (line .entry)))) (policyIn (now (policy .entry)))) ⌝ }
 {

@@ -1,3 +1,3 @@
 -- Laws that the proofs cite, and callers too.
-pub mod Writers
+pub mod Wholes
 pub mod Values

@@ -1,32 +1,35 @@
--- Values by positions: a number by its digits, and a value by the first of its readers that reads.
+-- Values by positions: a number by its digits, and a value by the reader of its first byte's kind.
 use Prim.Native.Nat.{ℕ, zero, suc, _+_, _-_, _≤_, _<_}
 use mathlib.Core.Path.{_≡_, refl, sym, ap, _∙_}
 use mathlib.Core.Option.{Option, none, some}
-use mathlib.Core.Bool.{true, false, _&&_, and-false}
+use mathlib.Core.Bool.{true, false, _&&_, and-false, true≢false}
 use mathlib.Core.List.{[], _∷_}
 use native.Mathlib.Omega.{arith}
-use borrow.Author.Tests.{le-leb}
-use lib.Dec.{leb}
+use borrow.Author.Tests.{le-leb, eqb-true, eqb-false, ne-eqb, not-true}
+use lib.Dec.{leb, eqb}
 use lib.IntN.{ℤ, pos, negsuc, _-ℤ_, +ℤ-idl}
-use lib.ListN.{length, take, drop}
+use lib.ListN.{length, getD, take, drop}
 use mir.Syntax.{w32}
 use mir.Val.{SFits, toZ, ofZ}
 use mir.Facts.{toZ-pos, toZ-ofZ}
 use Rattle.rows.specs.Positions.{Reads, LeavesEnd, behind, placed, runEnd}
-use Rattle.rows.proofs.Positions.{run-within, placed-reads, placed-none, none-placed, reads-placed}
+use Rattle.rows.proofs.Positions.{here, over, run-within, placed-reads, placed-none, none-placed, reads-placed}
 use Rattle.model.specs.Base.{Bytes, text, _>>=_, _>>_, _<|>_, check, after, isSome, within, isDigit, isDecimal, worth, number}
-use Rattle.model.specs.Values.{Value, truth, string, whole, readTruth, readString, readPos, readNeg, readValue, valueText}
-use Rattle.model.proofs.Lists.{by-cases}
+use Rattle.model.specs.Values.{Value, string, whole, readString, readPos, readNeg, readValue, valueText, Opened}
+use Rattle.model.proofs.Lists.{by-cases, or-neither}
 use Rattle.model.proofs.Reading.{within-yes}
 use Rattle.model.proofs.Spelling.{value-spells}
 use Rattle.lexical.specs.declared.class.Class.the-variants.{Text}
 use Rattle.lexical.specs.declared.class.End.{End}
 use Rattle.lexical.specs.declared.class.End.the-variants as end
 use Rattle.values.specs.declared.value.Scalar.{Scalar}
+use Rattle.values.specs.declared.value.Start.{Start}
+use Rattle.values.specs.declared.value.Start.the-variants as start
 use Rattle.values.specs.declared.value.ValueAt.{ValueAt}
 use Rattle.values.specs.declared.value.ValueAt.the-variants.{At, Bad}
 use Rattle.lexical.specs.Classes.{readBetween, textAnswer}
 use Rattle.values.specs.Scalars.{valueIn, valueAnswer, InText, AnswerInText}
+use Rattle.values.specs.Starts.{begins, readWord, readAs}
 use Rattle.lexical.proofs.Runs.{span-at, byte-stands, rest-of}
 use Rattle.lexical.proofs.Between.{string-between, between-at}
 use Rattle.lexical.proofs.Slices.{after-at, after-no}
@@ -113,43 +116,45 @@ module _ (s : Bytes) (at : ℕ) where
           is = signed ∙ rw (d, v, within-yes 1 2147483648 n (omega (arith, f)) l);
         })))
 
--- ── A value: what the first of its readers reads ──
-behind-either : (s : Bytes) (a b : Option (Value × Bytes)) → behind s (a <|> b) ≡ (behind s a <|> behind s b)
-unfolding behind _<|>_
-behind-either s none b = refl
-behind-either s (some t) b = refl
+-- ── A value: what the reader of its kind reads ──
+or-none : {A : Type 0} (o : Option A) → (o <|> none) ≡ o
+unfolding _<|>_
+or-none none = refl
+or-none (some a) = refl
 
--- a word that is a value
-readWord : Bytes → Value → Bytes → Option (Value × Bytes)
-readWord w v s = after w s >>= λ r. some (v, r)
+-- a byte that is another one
+other-byte : (q b : ℕ) → eqb b q ≡ false → eqb q b ≡ false
+other-byte q b h = ne-eqb q b (λ e. eqb-false b q h (sym e))
+
+digit-not : (b : ℕ) → isDigit b ≡ true → (q : ℕ) → isDigit q ≡ false → eqb q b ≡ false
+digit-not b h q n = ne-eqb q b (λ e. true≢false (sym h ∙ ap isDigit (sym e) ∙ n))
+
+-- where the first byte is of a kind, no reader but that kind's reads anything
+pub value-by-start : (k : Start) (b : ℕ) (s : Bytes) → begins k b ≡ true → readValue (b ∷ s) ≡ readAs k (b ∷ s)
+unfolding Opened begins readWord readAs
+value-by-start start.True b s h = rw (eqb-true b 0x74 h) (simp or-none)
+value-by-start start.False b s h = rw (eqb-true b 0x66 h) (simp or-none)
+value-by-start start.Text b s h = rw (eqb-true b 0x22 h) (simp or-none)
+value-by-start start.Positive b s h =
+    rw (digit-not b h 0x74 refl, digit-not b h 0x66 refl, digit-not b h 0x22 refl, digit-not b h 0x2D refl) (or-none (readPos (b ∷ s)))
+value-by-start start.Negative b s h = rw (eqb-true b 0x2D h)
+value-by-start start.Other b s h =
+    let (n₁, m) = or-neither _ (eqb b 0x2D) (not-true _ h) in
+    let (n₂, d) = or-neither _ (isDigit b) n₁ in
+    let (n₃, q) = or-neither _ (eqb b 0x22) n₂ in
+    let (t, f) = or-neither (eqb b 0x74) (eqb b 0x66) n₃ in
+    rw (other-byte 0x74 b t, other-byte 0x66 b f, other-byte 0x22 b q, d, other-byte 0x2D b m)
 
 module _ (s : Bytes) (at : ℕ) where
-  word-yes : at ≤ length s → (w : Bytes) (v : Value) → isSome (after w (drop at s)) ≡ true → placed (readWord w v) s at ≡ some (v, at + length w)
+  pub word-is : at ≤ length s → (w : Bytes) (v : Value) → isSome (after w (drop at s)) ≡ true → some (v, at + length w) ≡ placed (readWord w v) s at
   unfolding readWord _>>=_
-  word-yes h w v y =
+  word-is h w v y =
       let (e, k) = after-at w s at h y in
-      placed-reads (readWord w v) s at v (at + length w) (record { from = omega arith; to = k; is = rw e })
+      sym (placed-reads (readWord w v) s at v (at + length w) (record { from = omega arith; to = k; is = rw e }))
 
-  word-no : (w : Bytes) (v : Value) → isSome (after w (drop at s)) ≡ false → placed (readWord w v) s at ≡ none
+  pub word-not : (w : Bytes) (v : Value) → isSome (after w (drop at s)) ≡ false → none ≡ placed (readWord w v) s at
   unfolding readWord _>>=_
-  word-no w v n = placed-none (readWord w v) s at (rw (after-no w (drop at s) n))
-
-  truth-placed : placed readTruth s at ≡ (placed (readWord (text "true") (truth true)) s at <|> placed (readWord (text "false") (truth false)) s at)
-  unfolding placed readTruth readWord
-  truth-placed = behind-either s _ _
-
-  pub truth-true : at ≤ length s → isSome (after (text "true") (drop at s)) ≡ true → placed readTruth s at ≡ some (truth true, at + 4)
-  unfolding text _<|>_
-  truth-true h y = truth-placed ∙ rw (word-yes h (text "true") (truth true) y)
-
-  module _ (n : isSome (after (text "true") (drop at s)) ≡ false) where
-    pub truth-false : at ≤ length s → isSome (after (text "false") (drop at s)) ≡ true → placed readTruth s at ≡ some (truth false, at + 5)
-    unfolding text _<|>_
-    truth-false h y = truth-placed ∙ rw (word-no (text "true") (truth true) n, word-yes h (text "false") (truth false) y)
-
-    pub truth-none : isSome (after (text "false") (drop at s)) ≡ false → placed readTruth s at ≡ none
-    unfolding _<|>_
-    truth-none k = truth-placed ∙ rw (word-no (text "true") (truth true) n, word-no (text "false") (truth false) k)
+  word-not w v n = sym (placed-none (readWord w v) s at (rw (after-no w (drop at s) n)))
 
   string-placed : placed readString s at ≡ (placed (readBetween Text 0x22 0 32) s at >>= λ t. some (string (t .0), t .1))
   unfolding placed behind _>>=_
@@ -160,27 +165,29 @@ module _ (s : Bytes) (at : ℕ) where
       go (some t) = refl
 
   module _ (x : End) (answer : textAnswer s at x ≡ placed (readBetween Text 0x22 0 32) s at) where
-    pub string-none : x ≡ end.Bad → placed readString s at ≡ none
+    pub string-not : x ≡ end.Bad → none ≡ placed readString s at
     unfolding textAnswer _>>=_
-    string-none i = string-placed ∙ rw (told (textAnswer s at) answer i)
+    string-not i = sym (string-placed ∙ rw (told (textAnswer s at) answer i))
 
-    pub string-is : (e : ℕ) → x ≡ end.At e → placed readString s at ≡ some (string (take (e - 1 - (at + 1)) (drop (at + 1) s)), e)
+    pub string-is : (e : ℕ) → x ≡ end.At e → some (string (take (e - 1 - (at + 1)) (drop (at + 1) s)), e) ≡ placed readString s at
     unfolding textAnswer _>>=_
     string-is e i =
         let n : e - 1 - (at + 1) ≡ e - 2 - at = omega arith in
-        string-placed ∙ rw (told (textAnswer s at) answer i, n)
+        sym (string-placed ∙ rw (told (textAnswer s at) answer i, n))
 
     -- the part of the text that the string is
     pub string-inside : at ≤ length s → (e : ℕ) → x ≡ end.At e → (at + 1 ≤ e - 1) × (e - 1 ≤ length s)
     string-inside h e i = let b = between-at Text 0x22 0 32 s at x answer h e i in (omega (arith, b .at-least), omega (arith, b .reads .to))
 
-  value-placed : placed readValue s at ≡ (placed readTruth s at <|> placed readString s at <|> placed readPos s at <|> placed readNeg s at)
-  unfolding placed readValue
-  value-placed = simp behind-either
+  -- ── What the function `value_at` answers ──
+  pub value-over : length s ≤ at → none ≡ placed readValue s at
+  unfolding Opened
+  value-over h = sym (placed-none readValue s at (rw (over s at h)))
 
-  pub value-of : {a b c d : Option (Value × ℕ)} → placed readTruth s at ≡ a → placed readString s at ≡ b → placed readPos s at ≡ c → placed readNeg s at ≡ d
-      → (a <|> b <|> c <|> d) ≡ placed readValue s at
-  value-of p q r t = rw (← p, ← q, ← r, ← t) (sym value-placed)
+  -- what the reader of the first byte's kind answers is the value
+  pub value-is : at < length s → (r k : Start) → begins r (getD s at 0) ≡ true → r ≡ k → placed (readAs k) s at ≡ placed readValue s at
+  unfolding placed
+  value-is h r k b e = ap (behind s) (rw (here 0 s at h) (sym (value-by-start k _ _ (rw e at b))))
 
 -- ── For a caller of the function `value_at`: what its answer says ──
 pub value-leaves : LeavesEnd readValue

@@ -1,3 +1,3 @@
-// Values read and written, and bytes written into buffers.
+// Values read and written.
 pub mod value;
-pub mod write;
+pub mod whole;

@@ -11,10 +11,10 @@ use borrow.Author.Tests.{ne-eqb}
 use lib.Dec.{eqb}
 use lib.ListN.{length, getD, take, drop, length-map, length-take, length-drop, length-append}
 use lib.Seq.{take-at, getD-drop, drop-drop}
-use Rattle.rows.specs.Rows.{rows, table}
+use Rattle.layout.specs.Layout.{isEmpty}
 use Rattle.rows.specs.Positions.{Reads, placed}
-use Rattle.rows.proofs.Rows.{map-drop, upTo-drop, drop-rows}
-use Rattle.rows.proofs.Table.{table-at}
+use Rattle.rows.proofs.Positions.{over}
+use Rattle.layout.proofs.Used.{table-at}
 use Rattle.model.specs.Base.{Bytes, text}
 use Rattle.model.specs.Limits.{maxFields}
 use Rattle.model.specs.Values.{Value, readValue, valueText}
@@ -27,18 +27,18 @@ use Rattle.values.specs.declared.value.ValueAt.{ValueAt}
 use Rattle.values.specs.declared.value.ValueAt.the-variants.{At, Bad}
 use Rattle.values.specs.Scalars as scalars
 use Rattle.values.proofs.Values.{value-reads}
-use Rattle.record.specs.Slots.{textIn, valueOr, valueIn, fieldIn, isEmpty, fieldsIn}
+use Rattle.record.specs.Slots.{valueRoom, slotBytes, textIn, valueOr, valueIn, fieldIn, fieldsIn}
 use Rattle.record.proofs.Slots.{value-none}
 use Rattle.record.proofs.Stores.{fields-fit}
-use Rattle.record.proofs.Search.{fieldsFrom, fields-end, fields-stop, fields-step}
+use Rattle.record.proofs.Search.{fields-last, fields-step}
 use Rattle.writer.specs.Selected.{selected, shownFrom}
 
 -- the value of a slot is spelled with at most 34 bytes
-pub held-short : (s : Bytes) → length (valueText (valueIn s)) ≤ 34
+pub held-short : (s : Bytes) → length (valueText (valueIn s)) ≤ valueRoom
 unfolding valueIn
 held-short s = go (readValue (textIn s)) refl
   where
-    go : (o : Option (Value × Bytes)) → readValue (textIn s) ≡ o → length (valueText (valueOr o)) ≤ 34
+    go : (o : Option (Value × Bytes)) → readValue (textIn s) ≡ o → length (valueText (valueOr o)) ≤ valueRoom
     go none e = value-length _ (unfold validValue in refl)
     go (some t) e = value-length (t .0) (value-valid (textIn s) (t .1) (t .0) e)
 
@@ -64,15 +64,9 @@ module _ (s t : Bytes) (is : t ≡ textIn s) (r : ValueAt) (answer : scalars.val
         rw (← is, reads .is) (ap (take e) w ∙ take-at x (drop e t) e n)
 
 -- ── Fields by their places ──
--- those from i on, where there are i fields at least
-pub fields-drop : (s : Bytes) (i : ℕ) → i ≤ length (fieldsIn s) → drop i (fieldsIn s) ≡ fieldsFrom i s
-unfolding fieldsIn table
-fields-drop s i h =
-    rw (← map-drop fieldIn i, ← upTo-drop isEmpty i (rows 138 maxFields s) (rw length-map at h), drop-rows)
-
-field-at : (s : Bytes) (n : ℕ) (z : Field) → n < length (fieldsIn s) → getD (fieldsIn s) n z ≡ fieldIn (take 138 (drop (n * 138) s))
+field-at : (s : Bytes) (n : ℕ) (z : Field) → n < length (fieldsIn s) → getD (fieldsIn s) n z ≡ fieldIn (take slotBytes (drop (n * slotBytes) s))
 unfolding fieldsIn
-field-at s n z h = table-at isEmpty fieldIn 138 n maxFields s z h
+field-at s n z h = table-at fieldIn slotBytes maxFields s n z h
 
 -- ── The place of the first field that is shown ──
 -- of no fields
@@ -94,23 +88,23 @@ shown-first i (b ∷ bs) f fs z = rw (ne-eqb b 0 z)
 
 -- of the fields from slot j on
 module _ (s shown : Bytes) (j : ℕ) where
-  pub shown-over : maxFields ≤ j → shownFrom j (drop j shown) (fieldsFrom j s) ≡ maxFields
-  shown-over h = rw (fields-end s j h) (shown-none j (drop j shown))
+  pub shown-over : length (fieldsIn s) ≤ j → shownFrom j (drop j shown) (drop j (fieldsIn s)) ≡ maxFields
+  shown-over h = rw (over (fieldsIn s) j h) (shown-none j (drop j shown))
 
   byte-at : getD (drop j shown) 0 0 ≡ getD shown j 0
   byte-at = rw (getD-drop, add-zero)
 
-  module _ (h : j < maxFields) {slot : Bytes} (at : slot ≡ take 138 (drop (j * 138) s)) where
-    pub shown-stop : isEmpty slot ≡ true → shownFrom j (drop j shown) (fieldsFrom j s) ≡ maxFields
-    shown-stop e = rw (fields-stop s j at h e) (shown-none j (drop j shown))
+  module _ (h : j < maxFields) (passed : j ≤ length (fieldsIn s)) {slot : Bytes} (at : slot ≡ take slotBytes (drop (j * slotBytes) s)) where
+    pub shown-stop : isEmpty slot ≡ true → shownFrom j (drop j shown) (drop j (fieldsIn s)) ≡ maxFields
+    shown-stop e = shown-over (fields-last s j at h passed e)
 
     module _ (e : isEmpty slot ≡ false) where
       pub shown-step : getD shown j 0 ≡ 0
-          → shownFrom j (drop j shown) (fieldsFrom j s) ≡ shownFrom (j + 1) (drop (j + 1) shown) (fieldsFrom (j + 1) s)
-      shown-step z = rw (fields-step s j at h e, shown-pass j (drop j shown) (fieldIn slot) _ (byte-at ∙ z), drop-drop, add-one)
+          → shownFrom j (drop j shown) (drop j (fieldsIn s)) ≡ shownFrom (j + 1) (drop (j + 1) shown) (drop (j + 1) (fieldsIn s))
+      shown-step z = rw (fields-step s j at h passed e, shown-pass j (drop j shown) (fieldIn slot) _ (byte-at ∙ z), drop-drop, add-one)
 
-      pub shown-here : (getD shown j 0 ≡ 0 → ⊥) → shownFrom j (drop j shown) (fieldsFrom j s) ≡ j
-      shown-here z = rw (fields-step s j at h e) (shown-first j (drop j shown) _ _ (λ k. z (sym byte-at ∙ k)))
+      pub shown-here : (getD shown j 0 ≡ 0 → ⊥) → shownFrom j (drop j shown) (drop j (fieldsIn s)) ≡ j
+      shown-here z = rw (fields-step s j at h passed e) (shown-first j (drop j shown) _ _ (λ k. z (sym byte-at ∙ k)))
 
 -- ── What that place, counted from i, says of the fields that are shown ──
 -- it is past the last place where none is shown
@@ -147,7 +141,7 @@ pub record Next (s shown : Bytes) (i n : ℕ) : Type 0 where
   pub from : i ≤ n
   pub below : n < maxFields
   pub within : n < length (fieldsIn s)
-  pub is : {slot : Bytes} → slot ≡ take 138 (drop (n * 138) s) → selectedFrom i shown s ≡ fieldIn slot ∷ selectedFrom (n + 1) shown s
+  pub is : {slot : Bytes} → slot ≡ take slotBytes (drop (n * slotBytes) s) → selectedFrom i shown s ≡ fieldIn slot ∷ selectedFrom (n + 1) shown s
 
 module _ (s shown : Bytes) (i n : ℕ) (l : i ≤ length (fieldsIn s)) (at : n ≡ shownFrom i (drop i shown) (drop i (fieldsIn s))) where
   pub none-next : n ≡ maxFields → selectedFrom i shown s ≡ []

@@ -1,4 +1,4 @@
--- The keys that two paths share, the text from one path to another and down to a field, and saved text of fields in slots.
+-- The text from one path to another and down to a field, and saved text of fields in slots.
 use Prim.Native.Nat.{ℕ, suc, _+_, _*_, _-_, _≤_, _<_, min}
 use mathlib.Core.Path.{_≡_, refl, ap, _∙_}
 use mathlib.Core.Bool.{Bool, true, false}
@@ -6,39 +6,17 @@ use mathlib.Core.List.{[], _∷_, _++_, append-assoc}
 use native.Mathlib.Nat.{add-zero}
 use native.Mathlib.Omega.{arith}
 use lib.ListN.{length, getD, take, drop, replicate, length-drop}
+use Rattle.model.specs.Limits.{maxDepth}
 use Rattle.model.specs.Base.{Bytes, text, _==_}
 use Rattle.model.specs.Values.{quoted, valueText}
 use Rattle.model.specs.Fields.{Keys, Fields}
 use Rattle.model.specs.SavedText.{descend, ascend, turn, savedBehind, saved}
 use Rattle.model.proofs.Lists.{by-cases}
-use Rattle.paths.specs.Layout.{nameIn, pathIn}
-use Rattle.paths.proofs.Counted.{length-counted, counted-step, counted-over}
+use Rattle.paths.specs.Layout.{pathIn}
+use Rattle.layout.specs.Layout.{keyRow, nameIn}
+use Rattle.layout.proofs.Counts.{length-counted, counted-step, counted-over}
 use Rattle.record.specs.Slots.{valueIn, fieldIn}
-use Rattle.writer.specs.Selected.{shared}
-
--- ── How many keys two slots' paths share: i and what they share from the key i on ──
-abbrev pub sharedFrom : ℕ → Bytes → Bytes → ℕ
-sharedFrom i a b = i + shared (drop i (pathIn a)) (drop i (pathIn b))
-
-module _ (a b : Bytes) (i : ℕ) where
-  pub shared-first-over : min (getD a 0 0) 6 ≤ i → sharedFrom i a b ≡ i
-  unfolding pathIn shared
-  shared-first-over h = rw (counted-over nameIn 17 6 a i h, add-zero)
-
-  pub shared-second-over : i < min (getD a 0 0) 6 → min (getD b 0 0) 6 ≤ i → sharedFrom i a b ≡ i
-  unfolding pathIn shared
-  shared-second-over p q = rw (counted-step nameIn 17 6 a i p, counted-over nameIn 17 6 b i q, add-zero)
-
-  -- x and y are the keys at i, and r says whether they are the same
-  module _ {x y : Bytes} {r : Bool} (p : i < min (getD a 0 0) 6) (q : i < min (getD b 0 0) 6)
-      (e : x ≡ nameIn (take 17 (drop (i * 17 + 1) a))) (f : y ≡ nameIn (take 17 (drop (i * 17 + 1) b))) (is : r ≡ (x == y)) where
-    pub shared-step : r ≡ true → sharedFrom i a b ≡ sharedFrom (i + 1) a b
-    unfolding pathIn shared
-    shared-step t = rw (counted-step nameIn 17 6 a i p, counted-step nameIn 17 6 b i q, ← e, ← f, ← is, t) (omega arith)
-
-    pub shared-stop : r ≡ false → sharedFrom i a b ≡ i
-    unfolding pathIn shared
-    shared-stop t = rw (counted-step nameIn 17 6 a i p, counted-step nameIn 17 6 b i q, ← e, ← f, ← is, t, add-zero)
+use Rattle.paths.specs.Fields.{shared}
 
 -- ── The text from one path to another, by how many keys they share ──
 -- none, where one of them ends with the keys that they share
@@ -65,12 +43,12 @@ unfolding ascend
 ascend-braces [] = refl
 ascend-braces (k ∷ p) = ap (0x7D ∷_) (ascend-braces p)
 
-path-count : (s : Bytes) → length (pathIn s) ≡ min (getD s 0 0) 6
+path-count : (s : Bytes) → length (pathIn s) ≡ min (getD s 0 0) maxDepth
 unfolding pathIn
-path-count s = length-counted nameIn 17 6 s
+path-count s = length-counted nameIn keyRow maxDepth s
 
 -- the text between two slots, whose paths have m and n keys and share i
-module _ (a b : Bytes) (m n i : ℕ) (p : m ≡ min (getD a 0 0) 6) (q : n ≡ min (getD b 0 0) 6) (is : i ≡ shared (pathIn a) (pathIn b)) where
+module _ (a b : Bytes) (m n i : ℕ) (p : m ≡ min (getD a 0 0) maxDepth) (q : n ≡ min (getD b 0 0) maxDepth) (is : i ≡ shared (pathIn a) (pathIn b)) where
   pub slots-apart : i < m → i < n → turn (pathIn a) (pathIn b) ≡ replicate (m - i - 1) 0x7D ++ (text "," ++ descend (drop i (pathIn b)))
   slots-apart g h =
       let e : length (pathIn a) - suc i ≡ m - i - 1 = omega (arith, path-count a) in
@@ -90,22 +68,22 @@ unfolding descend quoted text
 descend-one k = rw (append-assoc k)
 
 -- the same of a slot, from the key i on: k is that key
-module _ (s : Bytes) (i : ℕ) {k : Bytes} (is : k ≡ nameIn (take 17 (drop (i * 17 + 1) s))) (h : i < min (getD s 0 0) 6) where
-  pub descend-more : i + 1 < min (getD s 0 0) 6
+module _ (s : Bytes) (i : ℕ) {k : Bytes} (is : k ≡ nameIn (take keyRow (drop (i * keyRow + 1) s))) (h : i < min (getD s 0 0) maxDepth) where
+  pub descend-more : i + 1 < min (getD s 0 0) maxDepth
       → descend (drop i (pathIn s)) ≡ text "\"" ++ (k ++ (text "\"" ++ (text ":" ++ (text "{" ++ descend (drop (i + 1) (pathIn s))))))
   unfolding pathIn
-  descend-more o = rw (counted-step nameIn 17 6 s i h, counted-step nameIn 17 6 s (i + 1) o, ← is) (descend-two k _ _)
+  descend-more o = rw (counted-step nameIn keyRow maxDepth s i h, counted-step nameIn keyRow maxDepth s (i + 1) o, ← is) (descend-two k _ _)
 
-  pub descend-last : min (getD s 0 0) 6 ≤ i + 1
+  pub descend-last : min (getD s 0 0) maxDepth ≤ i + 1
       → descend (drop i (pathIn s)) ≡ text "\"" ++ (k ++ (text "\"" ++ (text ":" ++ descend (drop (i + 1) (pathIn s)))))
   unfolding pathIn
   descend-last o =
       let none : descend [] ≡ [] = unfold descend in refl in
-      rw (counted-step nameIn 17 6 s i h, counted-over nameIn 17 6 s (i + 1) o, ← is, none) (descend-one k)
+      rw (counted-step nameIn keyRow maxDepth s i h, counted-over nameIn keyRow maxDepth s (i + 1) o, ← is, none) (descend-one k)
 
-pub descend-over : (s : Bytes) (i : ℕ) → min (getD s 0 0) 6 ≤ i → descend (drop i (pathIn s)) ≡ []
+pub descend-over : (s : Bytes) (i : ℕ) → min (getD s 0 0) maxDepth ≤ i → descend (drop i (pathIn s)) ≡ []
 unfolding pathIn descend
-descend-over s i h = rw (counted-over nameIn 17 6 s i h)
+descend-over s i h = rw (counted-over nameIn keyRow maxDepth s i h)
 
 -- ── Saved text of fields in slots ──
 pub saved-none : saved [] ≡ text "{}"
@@ -121,6 +99,6 @@ module _ (s : Bytes) where
   unfolding savedBehind fieldIn
   behind-some p fs = refl
 
-  pub behind-none : (n : ℕ) → n ≡ min (getD s 0 0) 6 → savedBehind (pathIn s) [] ≡ replicate n 0x7D
+  pub behind-none : (n : ℕ) → n ≡ min (getD s 0 0) maxDepth → savedBehind (pathIn s) [] ≡ replicate n 0x7D
   unfolding savedBehind
   behind-none n h = rw (h, ascend-braces, path-count)

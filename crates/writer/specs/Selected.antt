@@ -1,11 +1,30 @@
--- Fields that a selection shows, and what two paths share.
-use Prim.Native.Nat.{ℕ, suc}
+-- Fields that a selection shows.
+use Prim.Native.Nat.{ℕ, suc, _+_, _*_}
 use mathlib.Core.List.{[], _∷_}
 use lib.Dec.{eqb}
-use Rattle.model.specs.Base.{Bytes, if_then_else_, _==_}
-use Rattle.model.specs.Limits.{maxFields}
-use Rattle.model.specs.Fields.{Keys, Fields}
+use Rattle.model.specs.Base.{Bytes, if_then_else_}
+use Rattle.model.specs.Limits.{maxKey, maxDepth, maxFields}
+use Rattle.model.specs.Fields.{Fields}
+use Rattle.record.specs.Slots.{valueRoom}
 
+-- ── How long texts are at most ──
+-- the keys of a path, each in quotes with a colon and a brace
+abbrev pub descentText : ℕ
+descentText = (maxKey + 4) * maxDepth
+
+-- from one field to the next: braces besides
+abbrev pub turnText : ℕ
+turnText = (maxKey + 5) * maxDepth
+
+-- a field behind another
+abbrev pub savedField : ℕ
+savedField = turnText + valueRoom
+
+-- all slots, whatever they hold
+abbrev pub mostSaved : ℕ
+mostSaved = maxFields * (savedField + 1)
+
+-- ── Meanings ──
 -- the fields whose byte in the selection is not 0
 unfoldable pub selected : Bytes → Fields → Fields
 selected [] fs = []
@@ -17,9 +36,3 @@ unfoldable pub shownFrom : ℕ → Bytes → Fields → ℕ
 shownFrom i [] fs = maxFields
 shownFrom i (b ∷ bs) [] = maxFields
 shownFrom i (b ∷ bs) (f ∷ fs) = let r = shownFrom (suc i) bs fs in if eqb b 0 then r else i
-
--- how many first keys two paths share
-unfoldable pub shared : Keys → Keys → ℕ
-shared [] q = 0
-shared (k ∷ p) [] = 0
-shared (k ∷ p) (l ∷ q) = let r = suc (shared p q) in if k == l then r else 0

@@ -2,29 +2,36 @@
 use crate::turn::put_braces;
 use crate::turn::put_descent;
 use crate::turn::put_turn;
-use paths::layout::count;
+use buffers::put;
+use buffers::put_byte;
+use layout::counted::count;
+use layout::table::is_empty;
+use lexical::limits::MAX_DEPTH;
+use lexical::limits::MAX_KEY;
 use record::slot::value_text;
+use record::table::RECORD;
 use record::table::SLOTS;
-use record::table::is_empty;
+use record::table::VALUE_ROOM;
 use record::table::slot_at;
 use values::value::ValueAt;
 use values::value::value_at;
-use values::write::put;
-use values::write::put_byte;
 ghost use mathlib.Core.Path.{_≡_};
 ghost use Prim.Native.Nat.{_+_, _≤_, _<_, _^_};
 ghost use lib.ListN.{length, drop};
 ghost use Rattle.rows.specs.Rows.{Wrote};
 ghost use Rattle.model.specs.Values.{valueText};
 ghost use Rattle.model.specs.SavedText.{saved};
-ghost use Rattle.record.specs.Slots.{valueIn, fieldsIn};
-ghost use Rattle.writer.specs.Selected.{selected, shownFrom};
+ghost use Rattle.record.specs.Slots.{valueRoom, slotBytes, valueIn, fieldsIn};
+ghost use Rattle.writer.specs.Selected.{mostSaved, selected, shownFrom};
 
-// No saved text of 256 slots is longer, whatever they hold.
-pub const MOST_SAVED: usize = 41216;
+// No saved text of all slots is longer, whatever they hold.
+pub const MOST_SAVED: usize = SLOTS * (SAVED_FIELD + 1);
 
-// The place of the first field from i on that the selection shows, or 256.
-fn next_shown(table: &[u8; 35328], shown: &[u8; 256], i: usize) -> usize
+// A field behind another: braces, a comma, keys in quotes with colons and braces, and the value.
+const SAVED_FIELD: usize = (MAX_KEY + 5) * MAX_DEPTH + VALUE_ROOM;
+
+// The place of the first field from i on that the selection shows, or the number of slots.
+fn next_shown(table: &[u8; RECORD], shown: &[u8; SLOTS], i: usize) -> usize
     requires { ⌜ i ≤ length (fieldsIn (now table)) ⌝ }
     ensures { λ r. ⌜ r ≡ shownFrom i (drop i (now (shown .entry))) (drop i (fieldsIn (now (table .entry)))) ⌝ }
 {
@@ -43,9 +50,9 @@ fn next_shown(table: &[u8; 35328], shown: &[u8; 256], i: usize) -> usize
 
 // The value of a slot: what is read of its text is how the value is written.
 fn put_held(out: &mut [u8], at: usize, slot: &[u8]) -> usize
-    requires { ⌜ (length (now slot) ≡ 138) × (at + 47 < 2 ^ 64) ⌝ }
+    requires { ⌜ (length (now slot) ≡ slotBytes) × (at + valueRoom < 2 ^ 64) ⌝ }
     ensures { λ r. ⌜ Wrote at (valueText (valueIn (now (slot .entry)))) (now (out .entry)) r (now (out .exit)) ⌝ }
-    ensures { λ r. ⌜ r ≤ at + 34 ⌝ }
+    ensures { λ r. ⌜ r ≤ at + valueRoom ⌝ }
 {
     let text = value_text(slot);
     let ValueAt::At(_, end) = value_at(text, 0) else {
@@ -55,10 +62,10 @@ fn put_held(out: &mut [u8], at: usize, slot: &[u8]) -> usize
 }
 
 // The saved text of the fields that the selection shows: those whose byte in it is not 0.
-pub fn put_saved(out: &mut [u8], at: usize, table: &[u8; 35328], shown: &[u8; 256]) -> usize
-    requires { ⌜ at + 65536 < 2 ^ 64 ⌝ }
+pub fn put_saved(out: &mut [u8], at: usize, table: &[u8; RECORD], shown: &[u8; SLOTS]) -> usize
+    requires { ⌜ at + mostSaved < 2 ^ 64 ⌝ }
     ensures { λ r. ⌜ Wrote at (saved (selected (now (shown .entry)) (fieldsIn (now (table .entry))))) (now (out .entry)) r (now (out .exit)) ⌝ }
-    ensures { λ r. ⌜ r ≤ at + 41216 ⌝ }
+    ensures { λ r. ⌜ r ≤ at + mostSaved ⌝ }
 {
     let mut i = next_shown(table, shown, 0);
     if i == SLOTS {
@@ -71,7 +78,7 @@ pub fn put_saved(out: &mut [u8], at: usize, table: &[u8; 35328], shown: &[u8; 25
     loop {
         let next = next_shown(table, shown, i + 1);
         if next == SLOTS {
-            return put_braces(out, to, count(slot_at(table, i), 6));
+            return put_braces(out, to, count(slot_at(table, i), MAX_DEPTH));
         }
         let slot = slot_at(table, next);
         to = put_turn(out, to, slot_at(table, i), slot);

@@ -1,49 +1,30 @@
 // From one field to the next: objects closed, a comma, objects opened.
-use lexical::slice::same;
-use paths::layout::count;
-use paths::layout::name_at;
-use values::write::put;
-use values::write::put_byte;
+use buffers::put;
+use buffers::put_byte;
+use layout::counted::count;
+use lexical::limits::MAX_DEPTH;
+use paths::field::shared_keys;
+use paths::key::key_at;
 ghost use mathlib.Core.Path.{_≡_};
 ghost use Prim.Native.Nat.{_+_, _≤_, _<_, _^_};
 ghost use lib.ListN.{length, drop, replicate};
 ghost use Rattle.rows.specs.Rows.{Wrote};
 ghost use Rattle.model.specs.SavedText.{descend, turn};
-ghost use Rattle.paths.specs.Layout.{pathIn};
-ghost use Rattle.writer.specs.Selected.{shared};
-
-// How many first keys two paths share.
-pub fn shared_keys(a: &[u8], b: &[u8]) -> usize
-    requires { ⌜ (103 ≤ length (now a)) × (103 ≤ length (now b)) ⌝ }
-    ensures { λ r. ⌜ r ≡ shared (pathIn (now (a .entry))) (pathIn (now (b .entry))) ⌝ }
-{
-    let m = count(a, 6);
-    let n = count(b, 6);
-    let mut i: usize = 0;
-    while i < m {
-        if n <= i {
-            return i;
-        }
-        if !same(name_at(a, i), name_at(b, i)) {
-            return i;
-        }
-        i += 1;
-    }
-    i
-}
+ghost use Rattle.paths.specs.Layout.{pathSlot, pathIn};
+ghost use Rattle.writer.specs.Selected.{descentText, turnText};
 
 // The keys of a path from the i-th on, each but the last with the brace of its object.
 pub fn put_descent(out: &mut [u8], at: usize, path: &[u8], from: usize) -> usize
-    requires { ⌜ (103 ≤ length (now path)) × (at + 120 < 2 ^ 64) ⌝ }
+    requires { ⌜ (pathSlot ≤ length (now path)) × (at + descentText < 2 ^ 64) ⌝ }
     ensures { λ r. ⌜ Wrote at (descend (drop from (pathIn (now (path .entry))))) (now (out .entry)) r (now (out .exit)) ⌝ }
-    ensures { λ r. ⌜ r ≤ at + 120 ⌝ }
+    ensures { λ r. ⌜ r ≤ at + descentText ⌝ }
 {
-    let n = count(path, 6);
+    let n = count(path, MAX_DEPTH);
     let mut to = at;
     let mut i = from;
     while i < n {
         to = put_byte(out, to, b'"');
-        to = put(out, to, name_at(path, i));
+        to = put(out, to, key_at(path, i));
         to = put_byte(out, to, b'"');
         to = put_byte(out, to, b':');
         i += 1;
@@ -69,12 +50,12 @@ pub fn put_braces(out: &mut [u8], at: usize, n: usize) -> usize
 
 // From the field at one path to the field at another: objects that hold both stay open.
 pub fn put_turn(out: &mut [u8], at: usize, a: &[u8], b: &[u8]) -> usize
-    requires { ⌜ (103 ≤ length (now a)) × (103 ≤ length (now b)) × (at + 127 < 2 ^ 64) ⌝ }
+    requires { ⌜ (pathSlot ≤ length (now a)) × (pathSlot ≤ length (now b)) × (at + turnText + 1 < 2 ^ 64) ⌝ }
     ensures { λ r. ⌜ Wrote at (turn (pathIn (now (a .entry))) (pathIn (now (b .entry)))) (now (out .entry)) r (now (out .exit)) ⌝ }
-    ensures { λ r. ⌜ r ≤ at + 126 ⌝ }
+    ensures { λ r. ⌜ r ≤ at + turnText ⌝ }
 {
-    let m = count(a, 6);
-    let n = count(b, 6);
+    let m = count(a, MAX_DEPTH);
+    let n = count(b, MAX_DEPTH);
     let i = shared_keys(a, b);
     if m <= i {
         return at;

@@ -43,15 +43,15 @@ cast-shared c =
     search needs
 
 slot-at-requires : tie.Need-slot-at-requires Inv-loop μ-loop
-slot-at-requires c κs = let f = fields-fit (c .before .before .before .before .before .before .before .before .args .table .now) in search needs
+slot-at-requires c κs = let f = fields-fit (c .before .before .before .before .before .before .before .args .table .now) in search needs
 
 mark-field-requires : tie.Need-mark-field-requires Inv-loop μ-loop
 mark-field-requires c κs =
-    let start = c .before .before .before .before .before .before .before .before .before in
-    let l = c .before .before .before .before .before .before .loop in
+    let start = c .before .before .before .before .before .before .before .before in
+    let l = c .before .before .before .before .before .loop in
     let s = start .args .table .now in
     let f = fields-fit s in
-    let from = mark-from s (start .args .shares .now) (start .args .n) (l .i) (l .inv .0 .0) (search needs) (start .pre .0 .2) (l .inv .0 .2) (c .slot-at .ensures .0) _ _ (l .got) (l .inv .0 .1) (c .before .before .before .if1 .taken) in
+    let from = mark-from s (start .args .shares .now) (start .args .n) (l .i) (l .inv .0 .0) (search needs) (start .pre .0 .2) (l .inv .0 .2) (c .slot-at .ensures .0) _ _ (l .got) (l .inv .0 .1) (c .before .before .if1 .taken) in
     (search needs, from)
 
 add-i : tie.Need-add-i Inv-loop μ-loop
@@ -71,9 +71,9 @@ loop-again c =
     let before = l .inv .0 in
     ⊎-elim
     (λ w.
-    let next = mark-next s shares n (l .i) (before .0) (search needs) count (before .2) (w .3 .ensures .0) in
-    let step = mark-step s shares n (l .i) (before .0) (search needs) count (before .2) (w .3 .ensures .0) _ _ (l .shown) _ refl in
-    rw (w .5, w .6, w .4 .ensures .1) ((_, w .4 .ensures .0, next), l .inv .1 ∙ step))
+    let next = mark-next s shares n (l .i) (before .0) (search needs) count (before .2) (w .2 .ensures .0) in
+    let step = mark-step s shares n (l .i) (before .0) (search needs) count (before .2) (w .2 .ensures .0) _ _ (l .shown) _ refl in
+    rw (w .4, w .5, w .3 .ensures .1) ((_, w .3 .ensures .0, next), l .inv .1 ∙ step))
     (λ w.
     let next = mark-next s shares n (l .i) (before .0) (search needs) count (before .2) refl in
     let skip = mark-skip s shares n (l .i) (before .0) (search needs) count (before .2) refl _ _ (l .got) (before .1) (w .0 .left) in

@@ -1,19 +1,22 @@
--- Each turn writes the name and the value of one line, with at most 34 bytes; the later lines remain to be written.
+-- Each turn writes the name and the value of one line, no longer than its row; the later lines remain to be written.
 use Prim.Native.Nat.{_+_, _*_, _-_, _≤_}
 use mathlib.Core.Path.{_≡_, refl}
 use native.Mathlib.Omega.{arith}
-use lib.ListN.{length}
+use lib.ListN.{length, length-take}
 use borrow.Author.Needs.{needs}
 use Rattle.model.specs.Base.{text}
-use Rattle.paths.proofs.Spelled.{wrote-none, name-length}
+use Rattle.buffers.proofs.Writers.{wrote-none}
+use Rattle.layout.proofs.Named.{name-length}
 use Rattle.writer.proofs.Remains.{Remains, remains-step, remains-end}
 use Rattle.copies.proofs.Lines.{bindingsFrom, bindings-fit, bindings-next, bindings-end}
 use Rattle.copies.proofs.put_bindings.Statement.{statement}
 use Rattle.copies.proofs.put_bindings.Tie as tie
+use Rattle.model.specs.Limits.{maxName, maxBindings, maxKey}
+use Rattle.steps.specs.Environments.{bindingRow}
 
 abbrev Inv-loop : tie.InvT-loop
 Inv-loop out₀ at lines n to₀ i₀ out to i =
-    (n ≤ 16) × (i ≤ n) × (to ≤ at + 34 * i) × (length out ≡ length out₀) × Remains at (bindingsFrom lines 0) out₀ to (bindingsFrom lines i) out
+    (n ≤ maxBindings) × (i ≤ n) × (to ≤ at + bindingRow * i) × (length out ≡ length out₀) × Remains at (bindingsFrom lines 0) out₀ to (bindingsFrom lines i) out
 
 abbrev μ-loop : tie.MeasureT-loop
 μ-loop out₀ at lines n to₀ i₀ out to i = n - i
@@ -31,10 +34,10 @@ name-from-requires : tie.Need-name-from-requires Inv-loop μ-loop
 name-from-requires c κs = search needs
 
 put-requires : tie.Need-put-requires Inv-loop μ-loop
-put-requires c κs = let k = name-length _ _ (c .name-from .ensures) in omega arith
+put-requires c κs = let k = name-length maxName _ (c .name-from .ensures) (simp length-take (omega arith)) in omega arith
 
 put-byte-requires : tie.Need-put-byte-requires Inv-loop μ-loop
-put-byte-requires c κs = let k = name-length _ _ (c .before .before .before .before .name-from .ensures) in omega arith
+put-byte-requires c κs = let k = name-length maxName _ (c .before .before .before .before .name-from .ensures) (simp length-take (omega arith)) in omega arith
 
 add-name-from : tie.Need-add-name-from Inv-loop μ-loop
 add-name-from c = search needs
@@ -44,14 +47,14 @@ name-from-requires-2 c κs = search needs
 
 put-requires-2 : tie.Need-put-requires-2 Inv-loop μ-loop
 put-requires-2 c κs =
-    let k = name-length _ _ (c .before .before .before .before .before .before .before .before .before .name-from .ensures) in
-    let v = name-length _ _ (c .name-from2 .ensures) in
+    let k = name-length maxName _ (c .before .before .before .before .before .before .before .before .before .name-from .ensures) (simp length-take (omega arith)) in
+    let v = name-length maxKey _ (c .name-from2 .ensures) (simp length-take (omega arith)) in
     omega arith
 
 put-byte-requires-2 : tie.Need-put-byte-requires-2 Inv-loop μ-loop
 put-byte-requires-2 c κs =
-    let k = name-length _ _ (c .before .before .before .before .before .before .before .before .before .before .before .before .before .name-from .ensures) in
-    let v = name-length _ _ (c .before .before .before .before .name-from2 .ensures) in
+    let k = name-length maxName _ (c .before .before .before .before .before .before .before .before .before .before .before .before .before .name-from .ensures) (simp length-take (omega arith)) in
+    let v = name-length maxKey _ (c .before .before .before .before .name-from2 .ensures) (simp length-take (omega arith)) in
     omega arith
 
 add-i : tie.Need-add-i Inv-loop μ-loop
@@ -68,8 +71,8 @@ loop-again c =
     let l = n .before .before .before .loop in
     let name = n .name-from .ensures in
     let value = v .name-from2 .ensures in
-    let j = name-length _ _ name in
-    let k = name-length _ _ value in
+    let j = name-length maxKey _ name (simp length-take (omega arith)) in
+    let k = name-length maxName _ value (simp length-take (omega arith)) in
     let next = bindings-next _ (n .before .before .before .before .row-count .ensures) (l .i) (n .before .before .loop-test .taken) name value in
     let put = v .before .before .before .before .before .before .before .before .put .ensures in
     let named = remains-step _ _ _ _ _ _ _ _ _ (rw next at (l .inv .4)) put in

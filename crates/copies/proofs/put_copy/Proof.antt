@@ -1,7 +1,7 @@
 -- The head, the fields and the end of the line are written one behind the other.
 use borrow.Author.Needs.{needs}
 use Rattle.model.specs.Base.{text}
-use Rattle.values.proofs.Writers.{wrote-both}
+use Rattle.buffers.proofs.Writers.{wrote-both}
 use Rattle.copies.proofs.Lines.{copy-text}
 use Rattle.copies.proofs.put_copy.Statement.{statement}
 use Rattle.copies.proofs.put_copy.Tie as tie

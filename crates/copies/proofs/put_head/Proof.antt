@@ -1,7 +1,7 @@
 -- The parts of the head are written one behind the other.
 use borrow.Author.Needs.{needs}
 use Rattle.model.specs.Base.{text}
-use Rattle.values.proofs.Writers.{wrote-both}
+use Rattle.buffers.proofs.Writers.{wrote-both}
 use Rattle.copies.proofs.Lines.{head-text}
 use Rattle.copies.proofs.put_head.Statement.{statement}
 use Rattle.copies.proofs.put_head.Tie as tie

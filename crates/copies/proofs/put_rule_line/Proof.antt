@@ -4,28 +4,29 @@ use mathlib.Core.Path.{_≡_, _∙_}
 use mathlib.Core.List.{_++_}
 use mathlib.Core.Logic.{⊎-elim}
 use native.Mathlib.Omega.{arith}
-use lib.ListN.{length}
+use lib.ListN.{length, length-take}
 use borrow.Author.Needs.{needs}
 use Rattle.rows.specs.Rows.{Wrote}
 use Rattle.rows.proofs.Parts.{tail-part}
 use Rattle.model.specs.Base.{text}
-use Rattle.values.proofs.Writers.{wrote-both}
-use Rattle.paths.proofs.Spelled.{name-length}
+use Rattle.buffers.proofs.Writers.{wrote-both}
+use Rattle.layout.proofs.Named.{name-length}
 use Rattle.tables.specs.Memory.{userIn, ruleIn}
 use Rattle.copies.proofs.Lines.{accessPart, rule-line, access-part}
 use Rattle.copies.proofs.put_rule_line.Statement.{statement}
 use Rattle.copies.proofs.put_rule_line.Tie as tie
+use Rattle.model.specs.Limits.{maxName}
 
 -- where the ways meet, the role and the access are written
 met : (c : tie.Joined1)
     → let a = c .before .before .before .before .before .before .before .before .before .before .args in
-    (c .if1 .to ≤ a .at + 23) × (length (c .if1 .out) ≡ length (a .out .now))
+    (c .if1 .to ≤ a .at + 7 + maxName) × (length (c .if1 .out) ≡ length (a .out .now))
     × Wrote (a .at) (userIn (a .user .now) .role ++ accessPart (ruleIn (a .rule .now) .access)) (a .out .now) (c .if1 .to) (c .if1 .out)
 unfolding userIn text
 met c =
     let a = c .before .before .before .before .before .before .before .before .before .before .args in
     let name = c .before .before .before .before .before .name-from .ensures in
-    let k = name-length _ _ name in
+    let k = name-length maxName _ name (simp length-take (omega arith)) in
     let put = c .before .before .before .before .put in
     let role = rw name at (put .ensures) in
     let part = access-part (ruleIn (a .rule .now)) (c .before .is-write .ensures) in
@@ -38,7 +39,7 @@ name-from-requires : tie.Need-name-from-requires
 name-from-requires c κs = search needs
 
 put-requires : tie.Need-put-requires
-put-requires c κs = let k = name-length _ _ (c .name-from .ensures) in omega arith
+put-requires c κs = let k = name-length maxName _ (c .name-from .ensures) (simp length-take (omega arith)) in omega arith
 
 is-write-requires : tie.Need-is-write-requires
 is-write-requires c κs = search needs
@@ -47,13 +48,13 @@ slice-aggregate-put : tie.Need-slice-aggregate-put
 slice-aggregate-put c = search needs
 
 put-requires-2 : tie.Need-put-requires-2
-put-requires-2 c κs = let k = name-length _ _ (c .before .before .before .before .before .before .before .name-from .ensures) in omega arith
+put-requires-2 c κs = let k = name-length maxName _ (c .before .before .before .before .before .before .before .name-from .ensures) (simp length-take (omega arith)) in omega arith
 
 slice-aggregate-put-2 : tie.Need-slice-aggregate-put-2
 slice-aggregate-put-2 c = search needs
 
 put-requires-3 : tie.Need-put-requires-3
-put-requires-3 c κs = let k = name-length _ _ (c .before .before .before .before .before .before .before .name-from .ensures) in omega arith
+put-requires-3 c κs = let k = name-length maxName _ (c .before .before .before .before .before .before .before .name-from .ensures) (simp length-take (omega arith)) in omega arith
 
 sub-put-steps : tie.Need-sub-put-steps
 sub-put-steps c = search needs

@@ -1,11 +1,12 @@
--- Each turn writes the line of one row, if it is the user's, with at most 700 bytes; the lines of the later rows remain to be written.
+-- Each turn writes the line of one row, if it is the user's, of bounded length; the lines of the later rows remain to be written.
 use Prim.Native.Nat.{_+_, _*_, _-_, _≤_}
 use mathlib.Core.Path.{_≡_, refl, sym, _∙_}
 use mathlib.Core.Logic.{⊎-elim}
 use native.Mathlib.Omega.{arith}
 use lib.ListN.{length}
+use Rattle.copies.specs.Heads.{ruleText}
 use borrow.Author.Needs.{needs}
-use Rattle.paths.proofs.Spelled.{wrote-none}
+use Rattle.buffers.proofs.Writers.{wrote-none}
 use Rattle.tables.specs.Memory.{userIn}
 use Rattle.tables.proofs.Policy.{rule-inside}
 use Rattle.writer.proofs.Remains.{Remains, remains-step, remains-end}
@@ -15,7 +16,7 @@ use Rattle.copies.proofs.put_rules.Tie as tie
 
 abbrev Inv-loop : tie.InvT-loop
 Inv-loop out₀ at user policy n to₀ i₀ out to i =
-    (i ≤ n) × (to ≤ at + 700 * i) × (length out ≡ length out₀)
+    (i ≤ n) × (to ≤ at + ruleText * i) × (length out ≡ length out₀)
     × Remains at (rulesFrom (userIn user) policy 0) out₀ to (rulesFrom (userIn user) policy i) out
 
 abbrev μ-loop : tie.MeasureT-loop
@@ -28,7 +29,7 @@ loop-holds : tie.Need-loop-holds Inv-loop μ-loop
 loop-holds c = (search needs, search needs, refl, (refl, refl))
 
 row-at-requires : tie.Need-row-at-requires Inv-loop μ-loop
-row-at-requires c κs = (rule-inside _ (c .before .before .row-count .ensures) (c .before .loop .i) (c .loop-test .taken) (search needs), search needs)
+row-at-requires c κs = rule-inside _ (c .before .before .row-count .ensures) (c .before .loop .i) (c .loop-test .taken) (search needs)
 
 is-for-requires : tie.Need-is-for-requires Inv-loop μ-loop
 is-for-requires c κs = search needs

@@ -3,6 +3,7 @@ use Prim.Native.Nat.{_-_}
 use mathlib.Core.Path.{_≡_, refl, sym, ap, _∙_}
 use mathlib.Core.Logic.{⊎-elim}
 use lib.ListN.{drop, replicate}
+use Rattle.model.specs.Limits.{maxFields}
 use borrow.Author.Needs.{needs}
 use Rattle.model.specs.Base.{Bytes}
 use Rattle.record.specs.Slots.{fieldsIn}
@@ -16,7 +17,7 @@ use Rattle.copies.proofs.select.Tie as tie
 
 abbrev Inv-loop : tie.InvT-loop
 Inv-loop policy user table fields shares n shown₀ i₀ shown i =
-    given (userIn user) (fieldsIn table) (policyIn policy) (replicate 256 0) ≡ given (userIn user) (fieldsIn table) (drop i (policyIn policy)) shown
+    given (userIn user) (fieldsIn table) (policyIn policy) (replicate maxFields 0) ≡ given (userIn user) (fieldsIn table) (drop i (policyIn policy)) shown
 
 abbrev μ-loop : tie.MeasureT-loop
 μ-loop policy user table fields shares n shown₀ i₀ shown i = n - i
@@ -34,7 +35,7 @@ loop-holds : tie.Need-loop-holds Inv-loop μ-loop
 loop-holds c = refl
 
 row-at-requires : tie.Need-row-at-requires Inv-loop μ-loop
-row-at-requires c κs = (rule-inside _ (c .before .before .row-count .ensures) (c .before .loop .i) (c .loop-test .taken) (search needs), search needs)
+row-at-requires c κs = rule-inside _ (c .before .before .row-count .ensures) (c .before .loop .i) (c .loop-test .taken) (search needs)
 
 is-for-requires : tie.Need-is-for-requires Inv-loop μ-loop
 is-for-requires c κs = search needs
@@ -75,10 +76,10 @@ loop-again c =
 returns : tie.Need-returns Inv-loop μ-loop
 returns c =
     let l = c .before .loop in
-    let start = c .before .before .before .before .before .before .before .before in
+    let start = c .before .before .before .before .before .before .before in
     let s = start .args .table .now in
     let marks = l .inv ∙ rules-done _ _ _ (c .before .before .row-count .ensures) (l .i) (l .shown) (search needs) in
-    ap (λ (b : Bytes). selected b (fieldsIn s)) (sym marks) ∙ given-all _ (fieldsIn s) _ 256 (fields-fit s)
+    ap (λ (b : Bytes). selected b (fieldsIn s)) (sym marks) ∙ given-all _ (fieldsIn s) _ maxFields (fields-fit s)
 
 pub select-spec : {M : Type 1} → statement M
 select-spec =

@@ -1,4 +1,4 @@
--- Each turn writes the line for one number, with at most 300 bytes, behind the lines for those before it.
+-- Each turn writes the line for one number, behind the lines for those before it.
 use Prim.Native.Nat.{_+_, _*_, _-_, _≤_}
 use mathlib.Core.Path.{_≡_, refl}
 use native.Mathlib.Omega.{arith}
@@ -6,15 +6,15 @@ use borrow.Author.Needs.{needs}
 use lib.ListN.{length}
 use Rattle.rows.specs.Rows.{Wrote}
 use Rattle.model.specs.Base.{joined}
-use Rattle.values.proofs.Writers.{wrote-both}
-use Rattle.paths.proofs.Spelled.{wrote-none}
-use Rattle.deliveries.proofs.Delivered.{linesFor, lines-more}
+use Rattle.buffers.proofs.Writers.{wrote-none, wrote-both}
+use Rattle.deliveries.specs.Receivers.{deliveryText, deliveriesOf}
+use Rattle.deliveries.proofs.Delivered.{lines-more}
 use Rattle.deliveries.proofs.put_deliveries.Statement.{statement}
 use Rattle.deliveries.proofs.put_deliveries.Tie as tie
 
 abbrev Inv-loop : tie.InvT-loop
 Inv-loop out₀ at list told pushed to₀ k₀ out to k =
-    (k ≤ told) × (to ≤ at + 300 * k) × (length out ≡ length out₀) × Wrote at (linesFor pushed list k) out₀ to out
+    (k ≤ told) × (to ≤ at + deliveryText * k) × (length out ≡ length out₀) × Wrote at (deliveriesOf pushed list k) out₀ to out
 
 abbrev μ-loop : tie.MeasureT-loop
 μ-loop out₀ at list told pushed to₀ k₀ out to k = told - k

@@ -2,7 +2,7 @@
 use native.Mathlib.Omega.{arith}
 use borrow.Author.Needs.{needs}
 use Rattle.model.specs.Base.{text}
-use Rattle.values.proofs.Writers.{wrote-both}
+use Rattle.buffers.proofs.Writers.{wrote-both}
 use Rattle.deliveries.proofs.Delivered.{number-length, delivery-pieces}
 use Rattle.deliveries.proofs.put_delivery.Statement.{statement}
 use Rattle.deliveries.proofs.put_delivery.Tie as tie

@@ -5,6 +5,7 @@ use mathlib.Core.Logic.{⊎-elim}
 use native.Mathlib.Omega.{arith}
 use borrow.Author.Needs.{needs}
 use lib.ListN.{length, length-set}
+use Rattle.model.specs.Limits.{maxUsers}
 use Rattle.paths.specs.Layout.{pathIn}
 use Rattle.sessions.specs.Logins.{loginsIn, stateOf}
 use Rattle.tables.specs.Grants.{isMarked}
@@ -15,7 +16,7 @@ use Rattle.deliveries.proofs.put_receivers.Tie as tie
 
 abbrev Inv-loop : tie.InvT-loop
 Inv-loop list₀ tables logins i path n marks told₀ j₀ list told j =
-    (n ≤ 32) × (j ≤ n) × (told ≤ j) × (length list ≡ length list₀)
+    (n ≤ maxUsers) × (j ≤ n) × (told ≤ j) × (length list ≡ length list₀)
     × Listed (tablesIn tables) (loginsIn logins) i (pathIn path) n list₀ told j list
 
 abbrev μ-loop : tie.MeasureT-loop
@@ -28,7 +29,7 @@ readers-requires : tie.Need-readers-requires Inv-loop μ-loop
 readers-requires c κs = search needs
 
 loop-holds : tie.Need-loop-holds Inv-loop μ-loop
-loop-holds c = (users-fit _ (c .before .row-count .ensures), search needs, search needs, refl, (search needs, refl))
+loop-holds c = (users-fit _ (c .before .before .before .row-count .ensures), search needs, search needs, refl, (search needs, refl))
 
 state-at-requires : tie.Need-state-at-requires Inv-loop μ-loop
 state-at-requires c κs = search needs
@@ -78,8 +79,11 @@ same-length c = search needs
 returns : tie.Need-returns Inv-loop μ-loop
 returns c =
     let l = c .before .loop in
-    let n = c .before .before .before .row-count .ensures in
-    rw (← receivers-from _ _ _ _ n) (listed-all _ _ _ _ _ _ (l .told) (l .j) (l .list) (l .inv .4) (search needs) (search needs))
+    let n = c .before .before .before .before .before .row-count .ensures in
+    let a = c .before .before .before .before .before .before .before .before .args in
+    let all = receivers-from _ (loginsIn (a .logins .now)) (a .i) (pathIn (a .path .now)) n in
+    let (listed, counted) = listed-all _ _ _ _ _ _ (l .told) (l .j) (l .list) (l .inv .4) (search needs) (search needs) in
+    record { listed = rw (← all) listed; counted = rw (← all) counted }
 
 pub put-receivers-spec : {M : Type 1} → statement M
 put-receivers-spec =

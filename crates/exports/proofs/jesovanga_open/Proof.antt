@@ -19,16 +19,15 @@ returns : tie.Need-returns
 unfolding KeptUnless0
 returns c =
     let o = c .before .before .«open» .ensures in
-    let (n, t, l) = done-as _ (sym (c .enum-told .given .1) ∙ o .0) in
-    (n, (t, (l, (o .1 .0, (tt, tt, tt)))))
+    let (n, t, l) = done-as _ (sym (c .enum-told .given .1) ∙ o .answered) in
+    record { number = n; source = t; line = l; state = o .state; kept = tt }
 
 returns-2 : tie.Need-returns-2
 returns-2 c =
     let o = c .before .before .before .«open» .ensures in
     let is = c .before .number .given .1 in
-    let (n, t, l) = refused-as _ _ _ _ (sym is ∙ o .0) in
-    let (a, b, d) = rw is at (o .1 .1) in
-    (n, (t, (l, (o .1 .0, (kept-unless _ _ _ a, kept-unless _ _ _ b, kept-unless _ _ _ d)))))
+    let (n, t, l) = refused-as _ _ _ _ (sym is ∙ o .answered) in
+    record { number = n; source = t; line = l; state = o .state; kept = kept-unless _ _ _ (rw is at (o .kept)) }
 
 pub jesovanga-open-spec : {M : Type 1} → statement M
 jesovanga-open-spec =

@@ -25,8 +25,12 @@ returns c =
     let q = c .before .before .before .before .before .before in
     let k = c .before .kind-of .ensures in
     let n = c .number-of .ensures in
-    let (logins, fields) = q .request .ensures .1 in
-    (rw (k, n) (reply-as _ _ _ _ ∙ q .request .ensures .0), (rw k (logins-as (q .request .result) _ _ logins), rw k (fields-as (q .request .result) _ _ fields)))
+    let done = q .request .ensures in
+    record {
+      outcome-is = rw (k, n) (reply-as _ _ _ _ ∙ done .is);
+      logins-kept = rw k (logins-as (q .request .result) _ _ (done .logins-kept));
+      fields-kept = rw k (fields-as (q .request .result) _ _ (done .fields-kept));
+    }
 
 pub jesovanga-request-spec : {M : Type 1} → statement M
 jesovanga-request-spec =

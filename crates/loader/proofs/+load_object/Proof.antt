@@ -14,10 +14,10 @@ use Rattle.paths.specs.Layout.{pathIn}
 use Rattle.record.specs.Slots.{fieldsIn}
 use Rattle.reader.specs.Tokens.{readToken, mapped}
 use Rattle.loader.specs.Loaded.{loaded, loadAnswer}
-use Rattle.reader.proofs.Spaced.{token-leaves, token-moves, end-bad, end-reads, key-bad, MemberStands, member-stands}
+use Rattle.reader.proofs.Spaced.{token-moves, open-stands, close-stands, comma-stands, no-open, no-close, no-comma, key-bad, MemberStands, member-stands}
 use Rattle.reader.proofs.Mapped.{mapped-bad, mapped-reads}
-use Rattle.reader.proofs.Objects.{readNode, leaves-node, leaves-object, Left, object-none, object-unopened, left-start, left-no-member, left-no-value, left-again}
-use Rattle.loader.proofs.Loading.{nodeLoaded, Child, child-path, child-length, leaf-loaded, object-loaded, none-loaded, member-loaded, last-loaded}
+use Rattle.reader.proofs.Objects.{readNode, leaves-node, leaves-object, Left, object-none, object-unopened, left-start, left-no-member, left-no-value, left-again, left-unclosed, left-last}
+use Rattle.loader.proofs.Loading.{nodeLoaded, Child, child-path, child-length, leaf-loaded, object-loaded, none-loaded, member-loaded}
 use borrow.Author.Needs.{needs}
 use borrow.Fn.Kinds.{In}
 use borrow.Fn.PlainCycle.{Measures, is, falls, and}
@@ -62,15 +62,12 @@ module _ (t : ℕ) where
   enum-known-open : lts.Need-enum-known-open claims asked load-object.Post Inv-loop μ-loop
   enum-known-open c = search needs
 
-  enum-told : lts.Need-enum-told claims asked load-object.Post Inv-loop μ-loop
-  enum-told c = search needs
-
   returns-2 : lts.Need-returns-2 claims asked load-object.Post Inv-loop μ-loop
-  returns-2 c = object-unopened _ _ _ _ (end-bad _ _ _ _ (c .before .before .token-at .ensures) (c .enum-told .given .1))
+  returns-2 c = object-unopened _ _ _ _ (no-open _ _ (c .before .token-at .result) (c .before .token-at .ensures) (c .match .keys2))
 
   loop-holds : lts.Need-loop-holds claims asked load-object.Post Inv-loop μ-loop
   loop-holds c =
-      let r = end-reads _ _ _ _ (c .before .before .before .token-at .ensures) (token-leaves 0x7B) (c .before .before .before .before .before .before .pre .1 .0) _ (c .before .«open» .given .1) in
+      let r = open-stands _ _ _ (c .before .before .before .token-at .ensures) (c .before .before .before .before .before .before .pre .1 .0) _ (c .before .«open» .given .1) in
       (noMembers, left-start _ _ _ (c .before .before .before .before .if1 .left) _ r, none-loaded _ _)
 
   member-at-requires : lts.Need-member-at-requires claims asked load-object.Post Inv-loop μ-loop
@@ -79,11 +76,11 @@ module _ (t : ℕ) where
   enum-known-from : lts.Need-enum-known-from claims asked load-object.Post Inv-loop μ-loop
   enum-known-from c = search needs
 
-  enum-told-2 : lts.Need-enum-told-2 claims asked load-object.Post Inv-loop μ-loop
-  enum-told-2 c = search needs
+  enum-told : lts.Need-enum-told claims asked load-object.Post Inv-loop μ-loop
+  enum-told c = search needs
 
   returns-3 : lts.Need-returns-3 claims asked load-object.Post Inv-loop μ-loop
-  returns-3 c = left-no-member _ _ _ _ _ (c .before .before .before .loop .inv .1) _ (key-bad _ _ _ _ (c .before .before .member-at .ensures .0) (c .enum-told2 .given .1))
+  returns-3 c = left-no-member _ _ _ _ _ (c .before .before .before .loop .inv .1) _ (key-bad _ _ _ _ (c .before .before .member-at .ensures .0) (c .enum-told .given .1))
 
   -- ── Behind a key and its colon: the text, the key, where what it holds begins, and what was known before ──
   abbrev Member : Type 0
@@ -143,13 +140,12 @@ module _ (t : ℕ) where
   store-value-requires : lts.Need-store-value-requires claims asked load-object.Post Inv-loop μ-loop
   store-value-requires c κs = (
     search needs,
-    search needs,
     start (c .before .before .before .before .before .before .before .before .before) .pre .1 .1,
     value-inside _ _ (c .before .before .before .before .before .leaf-at .ensures .1) _ _ (c .before .before .before .leaf .given .1),
   )
 
-  enum-told-3 : lts.Need-enum-told-3 claims asked load-object.Post Inv-loop μ-loop
-  enum-told-3 c = search needs
+  enum-told-2 : lts.Need-enum-told-2 claims asked load-object.Post Inv-loop μ-loop
+  enum-told-2 c = search needs
 
   sub-load-object : lts.Need-sub-load-object claims asked load-object.Post Inv-loop μ-loop
   sub-load-object c = pos-of-ne-zero (deep (c .before .before .before .before .before .before .before))
@@ -176,14 +172,14 @@ module _ (t : ℕ) where
   enum-known-got : lts.Need-enum-known-got claims asked load-object.Post Inv-loop μ-loop
   enum-known-got c = search needs
 
-  enum-told-4 : lts.Need-enum-told-4 claims asked load-object.Post Inv-loop μ-loop
-  enum-told-4 c = search needs
+  enum-told-3 : lts.Need-enum-told-3 claims asked load-object.Post Inv-loop μ-loop
+  enum-told-3 c = search needs
 
   returns-4 : lts.Need-returns-4 claims asked load-object.Post Inv-loop μ-loop
   returns-4 c =
       let k = c .before .before .before .before .before .before .before in
       left-no-value _ _ _ _ _ (head k .loop .inv .1) _ _ (stands k .reads) _
-      (mapped-bad _ (readNode _) _ _ (told (loadAnswer _) (loads (c .before .before)) (c .enum-told4 .given .1)))
+      (mapped-bad _ (readNode _) _ _ (told (loadAnswer _) (loads (c .before .before)) (c .enum-told3 .given .1)))
 
   -- what the key holds ends where the call says, and the table has the fields of one member more
   node-stands : (c : lts.After-known-told4 claims asked load-object.Post Inv-loop μ-loop)
@@ -201,38 +197,44 @@ module _ (t : ℕ) where
   token-at-requires-2 : lts.Need-token-at-requires-2 claims asked load-object.Post Inv-loop μ-loop
   token-at-requires-2 c κs = node-stands c .1 .to
 
-  enum-known-next : lts.Need-enum-known-next claims asked load-object.Post Inv-loop μ-loop
-  enum-known-next c = search needs
+  enum-known-token : lts.Need-enum-known-token claims asked load-object.Post Inv-loop μ-loop
+  enum-known-token c = search needs
 
-  enum-told-5 : lts.Need-enum-told-5 claims asked load-object.Post Inv-loop μ-loop
-  enum-told-5 c = search needs
-
-  token-at-requires-3 : lts.Need-token-at-requires-3 claims asked load-object.Post Inv-loop μ-loop
-  token-at-requires-3 c κs = node-stands (c .before .before .before) .1 .to
+  enum-known-token-2 : lts.Need-enum-known-token-2 claims asked load-object.Post Inv-loop μ-loop
+  enum-known-token-2 c = search needs
 
   returns-5 : lts.Need-returns-5 claims asked load-object.Post Inv-loop μ-loop
   returns-5 c =
-      let n = node-stands (c .before .before .before .before) in
-      let k = c .before .before .before .before .before .before .before .before .before .before .before .before in
-      let last = end-bad _ _ _ _ (c .before .before .before .token-at2 .ensures) (c .before .enum-told5 .given .1) in
-      rw (n .2) (last-loaded _ _ _ _ _ _ _ (head k .loop .inv .1) _ _ (stands k .reads) _ _ (n .1) last (c .token-at3 .result) (c .token-at3 .ensures))
+      let n = node-stands (c .before .before .before) in
+      let k = c .before .before .before .before .before .before .before .before .before .before .before in
+      let token = c .before .before .token-at2 in
+      left-unclosed _ _ _ _ _ (head k .loop .inv .1) _ _ (stands k .reads) _ _ (n .1) _
+      (no-comma _ _ (token .result) (token .ensures) (c .before .match5 .keys2))
+      (no-close _ _ (token .result) (token .ensures) (c .match6 .keys2))
+
+  returns-6 : lts.Need-returns-6 claims asked load-object.Post Inv-loop μ-loop
+  returns-6 c =
+      let n = node-stands (c .before .before .before .before .before) in
+      let k = c .before .before .before .before .before .before .before .before .before .before .before .before .before in
+      let token = c .before .before .before .before .token-at2 in
+      let last = no-comma _ _ (token .result) (token .ensures) (c .before .before .before .match5 .keys2) in
+      rw (n .2) (left-last _ _ _ _ _ (head k .loop .inv .1) _ _ (stands k .reads) _ _ (n .1) _ last _ (close-stands _ _ _ (token .ensures) (n .1 .to) _ (c .before .token2 .given .1)))
 
   -- a comma stands where `token_at` says
-  comma-stands : (c : lts.After-known-told5 claims asked load-object.Post Inv-loop μ-loop)
-      → Reads (readToken 0x2C) (text (c .before .before .before .before .before .before .before .before .before .before .before .before)) (c .before .before .before .before .before .got .given .0 .0) tt (c .before .next .given .0 .0)
-  comma-stands c =
-      end-reads _ _ _ _ (c .before .before .before .token-at2 .ensures) (token-leaves 0x2C) (node-stands (c .before .before .before .before) .1 .to) _ (c .before .next .given .1)
+  comma : (c : lts.After-known-told5 claims asked load-object.Post Inv-loop μ-loop)
+      → Reads (readToken 0x2C) (text (c .before .before .before .before .before .before .before .before .before .before .before .before)) (c .before .before .before .before .before .got .given .0 .0) tt (c .before .token .given .0 .0)
+  comma c = comma-stands _ _ _ (c .before .before .before .token-at2 .ensures) (node-stands (c .before .before .before .before) .1 .to) _ (c .before .token .given .1)
 
   loop-less : lts.Need-loop-less claims asked load-object.Post Inv-loop μ-loop
   loop-less c =
-      let comma = comma-stands c in
-      omega (arith, stands (c .before .before .before .before .before .before .before .before .before .before .before .before) .reads .from, node-stands (c .before .before .before .before) .1 .from, token-moves _ _ _ _ comma, comma .to)
+      let r = comma c in
+      omega (arith, stands (c .before .before .before .before .before .before .before .before .before .before .before .before) .reads .from, node-stands (c .before .before .before .before) .1 .from, token-moves _ _ _ _ r, r .to)
 
   loop-again : lts.Need-loop-again claims asked load-object.Post Inv-loop μ-loop
   loop-again c =
       let n = node-stands (c .before .before .before .before) in
       let k = c .before .before .before .before .before .before .before .before .before .before .before .before in
-      (_, left-again _ _ _ _ _ (head k .loop .inv .1) _ _ (stands k .reads) _ _ (n .1) _ (comma-stands c), n .2)
+      (_, left-again _ _ _ _ _ (head k .loop .inv .1) _ _ (stands k .reads) _ _ (n .1) _ (comma c), n .2)
 
 pub +load-object-spec : {M : Type 1} → statement M
 +load-object-spec = close μ-load-object λ t. lts.spec (claims t)
@@ -243,12 +245,11 @@ pub +load-object-spec : {M : Type 1} → statement M
     (returns t)
     (token-at-requires t)
     (enum-known-open t)
-    (enum-told t)
     (returns-2 t)
     (loop-holds t)
     (member-at-requires t)
     (enum-known-from t)
-    (enum-told-2 t)
+    (enum-told t)
     (returns-3 t)
     (sub-put-child t)
     (part-put-child-start t)
@@ -258,16 +259,16 @@ pub +load-object-spec : {M : Type 1} → statement M
     (enum-known-leaf t)
     (slice-aggregate-store-value t)
     (store-value-requires t)
-    (enum-told-3 t)
+    (enum-told-2 t)
     (sub-load-object t)
     (load-object-requires t)
     (enum-known-got t)
-    (enum-told-4 t)
+    (enum-told-3 t)
     (returns-4 t)
     (token-at-requires-2 t)
-    (enum-known-next t)
-    (enum-told-5 t)
-    (token-at-requires-3 t)
+    (enum-known-token t)
+    (enum-known-token-2 t)
     (returns-5 t)
+    (returns-6 t)
     (loop-less t)
     (loop-again t)

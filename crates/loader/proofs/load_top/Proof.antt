@@ -2,9 +2,10 @@
 use mathlib.Core.Path.{_∙_}
 use mathlib.Core.List.{[]}
 use Rattle.rows.specs.Positions.{Reads}
-use Rattle.paths.specs.Layout.{counted, pathIn}
+use Rattle.paths.specs.Layout.{pathIn}
+use Rattle.layout.specs.Layout.{counted}
 use Rattle.reader.specs.Tokens.{readToken}
-use Rattle.reader.proofs.Spaced.{token-leaves, end-bad, end-reads}
+use Rattle.reader.proofs.Spaced.{open-stands, close-stands, no-open, no-close}
 use Rattle.reader.proofs.Tops.{top-unopened, top-empty, top-object}
 use Rattle.loader.proofs.Loading.{none-loaded, emptied}
 use borrow.Author.Needs.{needs}
@@ -20,16 +21,13 @@ token-at-requires c κs = search needs
 enum-known-open : tie.Need-enum-known-open
 enum-known-open c = search needs
 
-enum-told : tie.Need-enum-told
-enum-told c = search needs
-
 returns : tie.Need-returns
-returns c = top-unopened _ _ _ (end-bad _ _ _ _ (c .before .before .token-at .ensures) (c .enum-told .given .1))
+returns c = top-unopened _ _ _ (no-open _ _ (c .before .token-at .result) (c .before .token-at .ensures) (c .match .keys2))
 
 -- the brace stands where `token_at` says
 opened : (c : tie.After-known-told)
     → let a = c .before .before .before .before .before .args in Reads (readToken 0x7B) (a .s .now) (a .at) tt (c .before .«open» .given .0 .0)
-opened c = end-reads _ _ _ _ (c .before .before .before .token-at .ensures) (token-leaves 0x7B) (search needs) _ (c .before .«open» .given .1)
+opened c = open-stands _ _ _ (c .before .before .before .token-at .ensures) (search needs) _ (c .before .«open» .given .1)
 
 token-at-requires-2 : tie.Need-token-at-requires-2
 token-at-requires-2 c κs = opened c .to
@@ -41,11 +39,8 @@ returns-2 : tie.Need-returns-2
 returns-2 c =
     let o = c .before .before .before .before in
     let none = emptied (o .before .before .before .before .before .args .table .now) ∙ none-loaded [] [] in
-    let closed = end-reads _ _ _ _ (c .before .before .before .token-at2 .ensures) (token-leaves 0x7D) (opened o .to) _ (c .before .e .given .1) in
+    let closed = close-stands _ _ _ (c .before .before .before .token-at2 .ensures) (opened o .to) _ (c .before .e .given .1) in
     rw none (top-empty _ _ _ _ (opened o) _ closed)
-
-enum-told-2 : tie.Need-enum-told-2
-enum-told-2 c = search needs
 
 load-object-requires : tie.Need-load-object-requires
 unfolding pathIn counted
@@ -54,9 +49,9 @@ load-object-requires c κs = search needs
 returns-3 : tie.Need-returns-3
 unfolding pathIn counted
 returns-3 c =
-    let o = c .before .before .before .before .before .before in
+    let o = c .before .before .before .before .before in
     let none = emptied (o .before .before .before .before .before .args .table .now) in
-    let not-closed = end-bad _ _ _ _ (c .before .before .before .before .before .token-at2 .ensures) (c .before .before .before .enum-told2 .given .1) in
+    let not-closed = no-close _ _ (c .before .before .before .before .token-at2 .result) (c .before .before .before .before .token-at2 .ensures) (c .before .before .before .match2 .keys2) in
     rw none at (c .load-object .ensures) ∙ top-object _ _ _ _ (opened o) not-closed
 
 pub load-top-spec : {M : Type 1} → statement M
@@ -66,11 +61,9 @@ load-top-spec =
     element-write-table
     token-at-requires
     enum-known-open
-    enum-told
     returns
     token-at-requires-2
     enum-known-e
     returns-2
-    enum-told-2
     load-object-requires
     returns-3)

@@ -5,6 +5,7 @@ use Rattle.loader.proofs.Loading.{copied-path}
 use borrow.Author.Needs.{needs}
 use Rattle.loader.proofs.put_child.Statement.{statement}
 use Rattle.loader.proofs.put_child.Tie as tie
+use Rattle.paths.specs.Layout.{pathSlot, pathIn}
 
 copy-requires : tie.Need-copy-requires
 copy-requires c κs = search needs
@@ -13,9 +14,10 @@ push-key-requires : tie.Need-push-key-requires
 push-key-requires c κs = search needs
 
 returns : tie.Need-returns
+unfolding pathIn
 returns c =
     let a = c .before .before .before .before .before .before .args in
-    let l : length (a .path .now) ≡ 103 = search needs in
+    let l : length (a .path .now) ≡ pathSlot = search needs in
     let same = copied-path (a .path .now) _ _ l (c .before .before .copy .ensures) in
     (c .push-key .ensures ∙ rw same, search needs)
 

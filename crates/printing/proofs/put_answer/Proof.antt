@@ -7,14 +7,16 @@ use lib.ListN.{length, length-take}
 use Rattle.model.specs.Base.{text, between}
 use Rattle.model.specs.Serving.{tableLine}
 use Rattle.model.specs.Program.{printAnswer}
-use Rattle.values.proofs.Writers.{wrote-both}
+use Rattle.buffers.proofs.Writers.{wrote-both}
+use Rattle.printing.proofs.Pieces.{numbered-pieces}
 use Rattle.printing.proofs.put_answer.Statement.{statement}
 use Rattle.printing.proofs.put_answer.Tie as tie
+use Rattle.model.specs.Limits.{maxCopy}
 
 -- the length lies in the buffer
 inside : (c : tie.After-reply3)
     → let b = c .before .before .before .before .args .buffer .now in
-    (c .reply3 .given .0 .0 ≤ length b) × (length b ≡ 51069)
+    (c .reply3 .given .0 .0 ≤ length b) × (length b ≡ maxCopy)
 inside c = let pre = c .before .before .before .before .pre in (rw (c .reply3 .given .1) at (pre .1), pre .0)
 
 enum-known-reply : tie.Need-enum-known-reply
@@ -74,7 +76,7 @@ returns : tie.Need-returns
 unfolding printAnswer text
 returns c =
     let put = c .before .before .put-numbered .ensures in
-    (rw (c .before .before .before .before .before .before .reply .given .1) (put .0), omega arith)
+    (rw (c .before .before .before .before .before .before .reply .given .1, numbered-pieces) (put .0), omega arith)
 
 same-length-2 : tie.Need-same-length-2
 same-length-2 c = search needs
@@ -83,7 +85,7 @@ returns-2 : tie.Need-returns-2
 unfolding printAnswer text
 returns-2 c =
     let put = c .before .before .put-numbered2 .ensures in
-    (rw (c .before .before .before .before .before .before .reply2 .given .1) (put .0), omega arith)
+    (rw (c .before .before .before .before .before .before .reply2 .given .1, numbered-pieces) (put .0), omega arith)
 
 same-length-3 : tie.Need-same-length-3
 same-length-3 c = search needs
@@ -96,7 +98,7 @@ returns-3 c =
     let reply = number .before .before .before .before in
     let i = inside reply in
     let n = slice-aggregate-put (put .before) in
-    (rw (reply .reply3 .given .1) (wrote-both _ _ _ _ _ _ _ _ (number .put-numbered3 .ensures .0) (put .put .ensures)), omega arith)
+    (rw (reply .reply3 .given .1, numbered-pieces) (wrote-both _ _ _ _ _ _ _ _ (number .put-numbered3 .ensures .0) (put .put .ensures)), omega arith)
 
 same-length-4 : tie.Need-same-length-4
 same-length-4 c = search needs

@@ -1,12 +1,13 @@
--- The seven pieces of a fault's line are written one behind the other; each number has at most 20 digits.
-use Prim.Native.Nat.{_≤_}
+-- The seven pieces of a fault's line are written one behind the other.
+use Prim.Native.Nat.{_+_, _*_, _≤_}
 use mathlib.Core.Path.{refl, sym}
 use native.Mathlib.Omega.{arith}
 use borrow.Author.Needs.{needs}
 use lib.ListN.{length}
 use Rattle.rows.proofs.Writing.{written-none}
 use Rattle.model.specs.Base.{text, decimal}
-use Rattle.values.proofs.Writers.{wrote-both}
+use Rattle.buffers.proofs.Writers.{wrote-both}
+use Rattle.printing.specs.Printed.{markLength, mostDigits}
 use Rattle.printing.proofs.Pieces.{usize-length, fault-pieces}
 use Rattle.printing.proofs.put_opening.Statement.{statement}
 use Rattle.printing.proofs.put_opening.Tie as tie
@@ -14,22 +15,22 @@ use Rattle.printing.proofs.put_opening.Tie as tie
 -- the three numbers are short
 short : (c : tie.After-known-told)
     → let n = c .before .opened .given .0 in
-    (length (decimal (n .0)) ≤ 20) × (length (decimal (n .1 .0)) ≤ 20) × (length (decimal (n .1 .1 .0)) ≤ 20)
+    (length (decimal (n .0)) ≤ mostDigits) × (length (decimal (n .1 .0)) ≤ mostDigits) × (length (decimal (n .1 .1 .0)) ≤ mostDigits)
 short c =
     let k = c .known-told .given in
     (usize-length _ (k .0 .1), usize-length _ (k .1 .0 .1), usize-length _ (k .1 .1 .0 .1))
 
 -- so is the text up to each `;` and up to its end
-first-ends : (c : tie.After-put-byte) → c .put-byte .result ≤ 24
+first-ends : (c : tie.After-put-byte) → c .put-byte .result ≤ markLength + (mostDigits + 1)
 first-ends c = let d = short (c .before .before .before .before .before .before .before .before .before .before .before) in omega arith
 
-second-ends : (c : tie.After-put-byte2) → c .put-byte2 .result ≤ 45
+second-ends : (c : tie.After-put-byte2) → c .put-byte2 .result ≤ markLength + 2 * (mostDigits + 1)
 second-ends c =
     let first = c .before .before .before .before .before .before .before .before in
     let d = short (first .before .before .before .before .before .before .before .before .before .before .before) in
     omega (arith, first-ends first)
 
-third-ends : (c : tie.After-put-decimal3) → c .put-decimal3 .result ≤ 65
+third-ends : (c : tie.After-put-decimal3) → c .put-decimal3 .result ≤ markLength + 2 * (mostDigits + 1) + mostDigits
 third-ends c =
     let second = c .before .before .before .before in
     let first = second .before .before .before .before .before .before .before .before in

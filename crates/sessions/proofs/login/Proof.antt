@@ -19,79 +19,77 @@ enum-told : tie.Need-enum-told
 enum-told c = search needs
 
 returns : tie.Need-returns
-returns c = rw (login-unknown _ _ (c .enum-told .given .1) (c .before .before .find-user .ensures) _ _) (refl, (refl, refl))
+returns c =
+    let f = c .before .before in
+    let a = f .before .before .before .before .args in
+    let decided = login-unknown _ _ (c .enum-told .given .1) (f .find-user .ensures) (loginsIn (a .logins .now)) (a .key .now) in
+    record { answers = rw decided; leaves = rw decided; kept = refl }
 
 mul-name-from : tie.Need-mul-name-from
-mul-name-from c = omega (arith, found-below _ _ (c .before .i .given .1) (c .before .before .before .find-user .ensures))
+mul-name-from c = omega (arith, found-below _ _ (c .before .before .i .given .1) (c .before .before .before .before .find-user .ensures))
 
 add-name-from : tie.Need-add-name-from
-add-name-from c = omega (arith, found-below _ _ (c .before .i .given .1) (c .before .before .before .find-user .ensures))
+add-name-from c = omega (arith, found-below _ _ (c .before .before .i .given .1) (c .before .before .before .before .find-user .ensures))
 
 name-from-requires : tie.Need-name-from-requires
-name-from-requires c κs = omega (arith, found-below _ _ (c .before .i .given .1) (c .before .before .before .find-user .ensures))
+name-from-requires c κs = omega (arith, found-below _ _ (c .before .before .i .given .1) (c .before .before .before .before .find-user .ensures))
 
 same-requires : tie.Need-same-requires
 same-requires c κs = search needs
 
 returns-2 : tie.Need-returns-2
 returns-2 c =
-    let j = c .before .before .before .before in
+    let j = c .before .before .before .before .before in
     let k = j .before .before in
-    let ls = loginsIn (k .before .before .before .before .before .args .logins .now) in
+    let ls = loginsIn (k .before .before .before .before .args .logins .now) in
     let name = c .before .before .name-from .ensures in
-    rw (wrong-key _ _ (j .i .given .1) (k .find-user .ensures) ls _ name (c .before .same .ensures) (not-true _ (c .if1 .taken)))
-    (refl, (refl, refl))
+    let decided = wrong-key _ _ (j .i .given .1) (k .find-user .ensures) ls _ name (c .before .same .ensures) (not-true _ (c .if1 .taken)) in
+    record { answers = rw decided; leaves = rw decided; kept = refl }
 
 state-at-requires : tie.Need-state-at-requires
 state-at-requires c κs =
-    let j = c .before .before .before .before .before in
-    (search needs, found-below _ _ (j .i .given .1) (j .before .before .find-user .ensures))
-
-same-length : tie.Need-same-length
-same-length c = search needs
+    let j = c .before .before .before .before .before .before in
+    found-below _ _ (j .i .given .1) (j .before .before .find-user .ensures)
 
 returns-3 : tie.Need-returns-3
 unfolding stateOf
 returns-3 c =
     let i = c .before .before .before in
-    let j = i .before .before .before .before in
+    let j = i .before .before .before .before .before in
     let k = j .before .before in
-    let ls = loginsIn (k .before .before .before .before .before .args .logins .now) in
+    let ls = loginsIn (k .before .before .before .before .args .logins .now) in
     let name = i .before .before .name-from .ensures in
     let right = not-false _ (i .if1 .left) in
-    rw (has-session _ _ (j .i .given .1) (k .find-user .ensures) ls _ name (i .before .same .ensures) right (c .before .state-at .ensures) (c .if2 .taken))
-    (refl, (refl, refl))
+    let decided = has-session _ _ (j .i .given .1) (k .find-user .ensures) ls _ name (i .before .same .ensures) right (c .before .state-at .ensures) (c .if2 .taken) in
+    record { answers = rw decided; leaves = rw decided; kept = refl }
 
 entered-requires : tie.Need-entered-requires
 entered-requires c κs = search needs
 
 put-state-requires : tie.Need-put-state-requires
 put-state-requires c κs =
-    let j = c .before .before .before .before .before .before .before .before .before in
-    (search needs, found-below _ _ (j .i .given .1) (j .before .before .find-user .ensures))
+    let j = c .before .before .before .before .before .before .before .before .before .before in
+    found-below _ _ (j .i .given .1) (j .before .before .find-user .ensures)
 
 number-requires : tie.Need-number-requires
 number-requires c κs =
-    let j = c .before .before .before .before .before .before .before .before .before .before .before .before in
+    let j = c .before .before .before .before .before .before .before .before .before .before .before in
     found-below _ _ (j .i .given .1) (j .before .before .find-user .ensures)
-
-same-length-2 : tie.Need-same-length-2
-same-length-2 c = search needs
 
 returns-4 : tie.Need-returns-4
 unfolding stateOf
 returns-4 c =
-    let h = c .before .before .before .before .before .before in
+    let h = c .before .before .before .before in
     let i = h .before .before .before in
-    let j = i .before .before .before .before in
+    let j = i .before .before .before .before .before in
     let k = j .before .before in
-    let ls = loginsIn (k .before .before .before .before .before .args .logins .now) in
+    let ls = loginsIn (k .before .before .before .before .args .logins .now) in
     let name = i .before .before .name-from .ensures in
     let right = not-false _ (i .if1 .left) in
     let state = h .before .state-at .ensures in
-    let enters = c .before .before .before .before .before .entered .ensures in
-    rw (login-enters _ _ (j .i .given .1) (k .find-user .ensures) ls _ name (i .before .same .ensures) right state (h .if2 .left) enters)
-    (ap Session (c .number .ensures), (c .before .before .before .put-state .ensures, tt))
+    let enters = c .before .before .before .entered .ensures in
+    let decided = login-enters _ _ (j .i .given .1) (k .find-user .ensures) ls _ name (i .before .same .ensures) right state (h .if2 .left) enters in
+    record { answers = rw decided (ap Session (c .number .ensures)); leaves = rw decided (c .before .put-state .ensures); kept = tt }
 
 pub login-spec : {M : Type 1} → statement M
 login-spec =
@@ -107,10 +105,8 @@ login-spec =
     same-requires
     returns-2
     state-at-requires
-    same-length
     returns-3
     entered-requires
     put-state-requires
     number-requires
-    same-length-2
     returns-4)

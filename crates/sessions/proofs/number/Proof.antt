@@ -1,4 +1,4 @@
--- 65,536 times an index below 32, plus at most 65,535 logins: nothing wraps at 32 bits, and both casts keep their number.
+-- The number of sessions of a user times an index below the users', plus the logins: nothing wraps at 32 bits, and both casts keep their number.
 use borrow.Author.Needs.{needs}
 use Rattle.model.specs.Serving.{sessionNumber}
 use Rattle.sessions.specs.Logins.{stateOf}

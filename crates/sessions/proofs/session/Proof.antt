@@ -16,28 +16,28 @@ row-count-requires c κs = search needs
 returns : tie.Need-returns
 returns c =
     let k = c .before in
-    let a = k .before .before .before .args in
+    let a = k .before .before .args in
     rw (session-none _ (loginsIn (a .logins .now)) (a .n) (k .row-count .ensures) (c .if1 .taken))
 
 state-at-requires : tie.Need-state-at-requires
 state-at-requires c κs =
     let k = c .before in
-    let a = k .before .before .before .args in
-    (search needs, session-user _ (loginsIn (a .logins .now)) (a .n) (k .row-count .ensures) (c .if1 .left))
+    let a = k .before .before .args in
+    session-user _ (loginsIn (a .logins .now)) (a .n) (k .row-count .ensures) (c .if1 .left)
 
 returns-2 : tie.Need-returns-2
 unfolding stateOf
 returns-2 c =
     let j = c .before .before .before in
     let k = j .before in
-    let a = k .before .before .before .args in
+    let a = k .before .before .args in
     let state = c .before .before .state-at .ensures in
     rw (session-closed _ (loginsIn (a .logins .now)) (a .n) (k .row-count .ensures) (j .if1 .left) state (not-true _ (c .if2 .taken)))
 
 number-requires : tie.Need-number-requires
 number-requires c κs =
     let k = c .before .before .before .before in
-    let a = k .before .before .before .args in
+    let a = k .before .before .args in
     session-user _ (loginsIn (a .logins .now)) (a .n) (k .row-count .ensures) (c .before .before .before .if1 .left)
 
 returns-3 : tie.Need-returns-3
@@ -46,7 +46,7 @@ returns-3 c =
     let i = c .before .before in
     let j = i .before .before .before in
     let k = j .before in
-    let a = k .before .before .before .args in
+    let a = k .before .before .args in
     let state = i .before .before .state-at .ensures in
     let is-open = not-false _ (i .if2 .left) in
     rw (session-other _ (loginsIn (a .logins .now)) (a .n) (k .row-count .ensures) (j .if1 .left) state is-open (c .before .number .ensures) (c .if3 .taken))
@@ -57,7 +57,7 @@ returns-4 c =
     let i = c .before .before in
     let j = i .before .before .before in
     let k = j .before in
-    let a = k .before .before .before .args in
+    let a = k .before .before .args in
     let state = i .before .before .state-at .ensures in
     let is-open = not-false _ (i .if2 .left) in
     rw (session-open _ (loginsIn (a .logins .now)) (a .n) (k .row-count .ensures) (j .if1 .left) state is-open (c .before .number .ensures) (c .if3 .left))

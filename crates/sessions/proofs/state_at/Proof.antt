@@ -12,30 +12,30 @@ mul-at c = search needs
 mul-t4 : tie.Need-mul-t4
 mul-t4 c = search needs
 
-shared-slice-read-t6 : tie.Need-shared-slice-read-t6
-shared-slice-read-t6 c = search needs
+element-copy-out-t7 : tie.Need-element-copy-out-t7
+element-copy-out-t7 c = search needs
 
-add-t7 : tie.Need-add-t7
-add-t7 c = search needs
+add-t8 : tie.Need-add-t8
+add-t8 c = search needs
 
-mul-t8 : tie.Need-mul-t8
-mul-t8 c = search needs
+mul-t9 : tie.Need-mul-t9
+mul-t9 c = search needs
 
-shared-slice-read-t10 : tie.Need-shared-slice-read-t10
-shared-slice-read-t10 c = search needs
+element-copy-out-t12 : tie.Need-element-copy-out-t12
+element-copy-out-t12 c = search needs
 
-add-t12 : tie.Need-add-t12
-add-t12 c = search needs
+add-t14 : tie.Need-add-t14
+add-t14 c = search needs
 
-mul-t13 : tie.Need-mul-t13
-mul-t13 c = search needs
+mul-t15 : tie.Need-mul-t15
+mul-t15 c = search needs
 
-shared-slice-read-t15 : tie.Need-shared-slice-read-t15
-shared-slice-read-t15 c = search needs
+element-copy-out-t18 : tie.Need-element-copy-out-t18
+element-copy-out-t18 c = search needs
 
 returns : tie.Need-returns
 unfolding stateOf
-returns c = sym (state-read _ _ (c .before .before .before .pre .1))
+returns c = sym (state-read _ _ (c .before .before .before .pre))
 
 pub state-at-spec : {M : Type 1} → statement M
 state-at-spec =
@@ -43,11 +43,11 @@ state-at-spec =
     (tie.spec
     mul-at
     mul-t4
-    shared-slice-read-t6
-    add-t7
-    mul-t8
-    shared-slice-read-t10
-    add-t12
-    mul-t13
-    shared-slice-read-t15
+    element-copy-out-t7
+    add-t8
+    mul-t9
+    element-copy-out-t12
+    add-t14
+    mul-t15
+    element-copy-out-t18
     returns)

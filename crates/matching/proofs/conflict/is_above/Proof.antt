@@ -4,7 +4,6 @@ use mathlib.Core.Path.{_≡_, refl, sym, _∙_}
 use lib.ListN.{drop}
 use Rattle.model.specs.Rights.{isAbove}
 use Rattle.steps.specs.Steps.{stepsIn}
-use Rattle.steps.proofs.StepRows.{row-length}
 use Rattle.matching.proofs.Conflicts.{above-longer, above-step, above-end}
 use borrow.Author.Needs.{needs}
 use Rattle.matching.proofs.conflict.is_above.Statement.{statement}
@@ -28,16 +27,14 @@ loop-holds c = (search needs, refl)
 returns : tie.Need-returns Inv-loop μ-loop
 returns c = let l = c .before .before .loop in sym (l .inv .1 ∙ above-longer _ _ (l .i) (search needs) (search needs))
 
-row-requires : tie.Need-row-requires Inv-loop μ-loop
-row-requires c κs = search needs
+row-at-requires : tie.Need-row-at-requires Inv-loop μ-loop
+row-at-requires c κs = search needs
 
-row-requires-2 : tie.Need-row-requires-2 Inv-loop μ-loop
-row-requires-2 c κs = search needs
+row-at-requires-2 : tie.Need-row-at-requires-2 Inv-loop μ-loop
+row-at-requires-2 c κs = search needs
 
 overlap-requires : tie.Need-overlap-requires Inv-loop μ-loop
-overlap-requires c κs =
-    let i = c .before .before .before .before .loop .i in
-    (row-length _ i (search needs) (c .before .row .ensures), row-length _ i (search needs) (c .row2 .ensures))
+overlap-requires c κs = (c .before .row-at .ensures .1, c .row-at2 .ensures .1)
 
 add-i : tie.Need-add-i Inv-loop μ-loop
 add-i c = search needs
@@ -50,7 +47,7 @@ loop-again c =
     let k = c .before in
     let l = k .before .before .before .before .before .loop in (
       search needs,
-      l .inv .1 ∙ above-step _ _ (l .i) (search needs) (search needs) (k .before .before .row .ensures) (k .before .row2 .ensures) (k .overlap .ensures)
+      l .inv .1 ∙ above-step _ _ (l .i) (search needs) (search needs) (k .before .before .row-at .ensures .0) (k .before .row-at2 .ensures .0) (k .overlap .ensures)
           ∙ rw (c .if2 .taken),
     )
 
@@ -58,7 +55,7 @@ returns-2 : tie.Need-returns-2 Inv-loop μ-loop
 returns-2 c =
     let k = c .before in
     let l = k .before .before .before .before .before .loop in
-    sym (l .inv .1 ∙ above-step _ _ (l .i) (search needs) (search needs) (k .before .before .row .ensures) (k .before .row2 .ensures) (k .overlap .ensures)
+    sym (l .inv .1 ∙ above-step _ _ (l .i) (search needs) (search needs) (k .before .before .row-at .ensures .0) (k .before .row-at2 .ensures .0) (k .overlap .ensures)
     ∙ rw (c .if2 .left))
 
 returns-3 : tie.Need-returns-3 Inv-loop μ-loop
@@ -76,8 +73,8 @@ is-above-spec =
     count-requires-2
     loop-holds
     returns
-    row-requires
-    row-requires-2
+    row-at-requires
+    row-at-requires-2
     overlap-requires
     add-i
     loop-less

@@ -3,8 +3,9 @@ use Prim.Native.Nat.{_-_, _≤_}
 use mathlib.Core.Path.{_≡_, refl, sym, _∙_}
 use borrow.Author.Needs.{needs}
 use lib.ListN.{drop}
+use Rattle.model.specs.Limits.{maxListed}
 use Rattle.model.specs.Base.{any, among}
-use Rattle.paths.specs.Layout.{nameIn}
+use Rattle.layout.specs.Layout.{keyRow, nameIn}
 use Rattle.steps.specs.Steps.{namesIn}
 use Rattle.matching.proofs.Matched.{any-step, any-over}
 use Rattle.matching.proofs.conflict.share.Statement.{statement}
@@ -22,8 +23,8 @@ count-requires c κs = search needs
 loop-holds : tie.Need-loop-holds Inv-loop μ-loop
 loop-holds c = (search needs, refl)
 
-name-at-requires : tie.Need-name-at-requires Inv-loop μ-loop
-name-at-requires c κs = search needs
+key-at-requires : tie.Need-key-at-requires Inv-loop μ-loop
+key-at-requires c κs = search needs
 
 has-name-requires : tie.Need-has-name-requires Inv-loop μ-loop
 has-name-requires c κs = search needs
@@ -32,7 +33,7 @@ returns : tie.Need-returns Inv-loop μ-loop
 unfolding namesIn
 returns c =
     let l = c .before .before .before .before .loop in
-    sym (l .inv .1 ∙ any-step nameIn 17 4 _ _ (l .i) (search needs) (c .before .before .name-at .ensures) (c .before .has-name .ensures) ∙ rw (c .if1 .taken))
+    sym (l .inv .1 ∙ any-step nameIn keyRow maxListed _ _ (l .i) (search needs) (c .before .before .key-at .ensures) (c .before .has-name .ensures) ∙ rw (c .if1 .taken))
 
 add-i : tie.Need-add-i Inv-loop μ-loop
 add-i c = search needs
@@ -44,11 +45,11 @@ loop-again : tie.Need-loop-again Inv-loop μ-loop
 unfolding namesIn
 loop-again c =
     let l = c .before .before .before .before .loop in
-    (search needs, l .inv .1 ∙ any-step nameIn 17 4 _ _ (l .i) (search needs) (c .before .before .name-at .ensures) (c .before .has-name .ensures) ∙ rw (c .if1 .left))
+    (search needs, l .inv .1 ∙ any-step nameIn keyRow maxListed _ _ (l .i) (search needs) (c .before .before .key-at .ensures) (c .before .has-name .ensures) ∙ rw (c .if1 .left))
 
 returns-2 : tie.Need-returns-2 Inv-loop μ-loop
 unfolding namesIn
-returns-2 c = let l = c .before .loop in sym (l .inv .1 ∙ any-over nameIn 17 4 _ _ (l .i) (search needs))
+returns-2 c = let l = c .before .loop in sym (l .inv .1 ∙ any-over nameIn keyRow maxListed _ _ (l .i) (search needs))
 
 pub share-spec : {M : Type 1} → statement M
 share-spec =
@@ -58,7 +59,7 @@ share-spec =
     μ-loop
     count-requires
     loop-holds
-    name-at-requires
+    key-at-requires
     has-name-requires
     returns
     add-i

@@ -3,9 +3,10 @@ use Prim.Native.Nat.{_-_, _≤_}
 use mathlib.Core.Path.{_≡_, refl, ap, _∙_}
 use lib.ListN.{length, take}
 use Rattle.model.specs.Paths.{asSteps}
-use Rattle.paths.specs.Layout.{counted, pathIn}
-use Rattle.steps.specs.Steps.{stepOf, stepsIn}
-use Rattle.paths.proofs.Counted.{counted-all}
+use Rattle.paths.specs.Layout.{pathIn}
+use Rattle.layout.specs.Layout.{counted}
+use Rattle.steps.specs.Steps.{stepsSlot, stepOf, stepsIn}
+use Rattle.layout.proofs.Counts.{counted-all}
 use Rattle.steps.proofs.StepPushes.{key-step-turn}
 use borrow.Author.Needs.{needs}
 use native.Mathlib.Omega.{arith}
@@ -13,7 +14,7 @@ use Rattle.matching.proofs.conflict.steps_of.Statement.{statement}
 use Rattle.matching.proofs.conflict.steps_of.Tie as tie
 
 abbrev Inv-loop : tie.InvT-loop
-Inv-loop slot n steps₀ i₀ steps i = (i ≤ n) × (length steps ≡ 421) × (stepsIn steps ≡ asSteps (take i (pathIn slot)))
+Inv-loop slot n steps₀ i₀ steps i = (i ≤ n) × (length steps ≡ stepsSlot) × (stepsIn steps ≡ asSteps (take i (pathIn slot)))
 
 abbrev μ-loop : tie.MeasureT-loop
 μ-loop slot n steps₀ i₀ steps i = n - i
@@ -25,8 +26,8 @@ loop-holds : tie.Need-loop-holds Inv-loop μ-loop
 unfolding stepsIn counted asSteps
 loop-holds c = (search needs, refl, refl)
 
-name-at-requires : tie.Need-name-at-requires Inv-loop μ-loop
-name-at-requires c κs = search needs
+key-at-requires : tie.Need-key-at-requires Inv-loop μ-loop
+key-at-requires c κs = search needs
 
 one-name-requires : tie.Need-one-name-requires Inv-loop μ-loop
 one-name-requires c κs = search needs
@@ -49,7 +50,7 @@ loop-again c =
     let push = c .before .push-step in
     let k = c .before .before .before .before in
     let l = k .before .before .loop in
-    let turn = key-step-turn _ (l .i) (omega arith) (stepsIn (l .steps)) (stepsIn (push .last .0)) (l .inv .2) _ (k .name-at .ensures) _ (c .before .before .before .one-name .ensures) (push .ensures) in
+    let turn = key-step-turn _ (l .i) (omega arith) (stepsIn (l .steps)) (stepsIn (push .last .0)) (l .inv .2) _ (k .key-at .ensures) _ (c .before .before .before .one-name .ensures) (push .ensures) in
     (search needs, push .kept .0 ∙ l .inv .1, turn)
 
 returns : tie.Need-returns Inv-loop μ-loop
@@ -64,7 +65,7 @@ steps-of-spec =
     μ-loop
     count-requires
     loop-holds
-    name-at-requires
+    key-at-requires
     one-name-requires
     slice-aggregate-push-step
     push-step-requires

@@ -6,7 +6,6 @@ use borrow.Author.Tests.{not-true, not-false}
 use Rattle.paths.specs.Layout.{pathIn}
 use Rattle.steps.specs.Steps.{stepsIn}
 use Rattle.steps.specs.Environments.{bindingsIn}
-use Rattle.steps.proofs.StepRows.{row-length}
 use Rattle.matching.specs.Admitted.{admitted}
 use Rattle.matching.proofs.Admitted.{admittedFrom, admitted-start, admitted-step, admitted-stop, admitted-end}
 use Rattle.matching.proofs.path.admitted.Statement.{statement}
@@ -30,19 +29,19 @@ loop-holds c =
     let start = c .before .before .before .before .before in
     admitted-start _ (start .args .from) _ _ (start .pre .1)
 
-row-requires : tie.Need-row-requires Inv-loop μ-loop
-row-requires c κs = search needs
+row-at-requires : tie.Need-row-at-requires Inv-loop μ-loop
+row-at-requires c κs = search needs
 
-name-at-requires : tie.Need-name-at-requires Inv-loop μ-loop
-name-at-requires c κs = search needs
+key-at-requires : tie.Need-key-at-requires Inv-loop μ-loop
+key-at-requires c κs = search needs
 
 admits-requires : tie.Need-admits-requires Inv-loop μ-loop
-admits-requires c κs = (search needs, row-length _ (c .before .before .before .loop .i) (search needs) (c .before .row .ensures))
+admits-requires c κs = (search needs, c .before .row-at .ensures .1)
 
 returns : tie.Need-returns Inv-loop μ-loop
 returns c =
     let l = c .before .before .before .before .before .loop in
-    sym (l .inv ∙ admitted-stop _ _ _ (l .i) (search needs) (search needs) (c .before .before .before .row .ensures) (c .before .before .name-at .ensures) (c .before .admits .ensures) (not-true _ (c .if1 .taken)))
+    sym (l .inv ∙ admitted-stop _ _ _ (l .i) (search needs) (search needs) (c .before .before .before .row-at .ensures .0) (c .before .before .key-at .ensures) (c .before .admits .ensures) (not-true _ (c .if1 .taken)))
 
 add-i : tie.Need-add-i Inv-loop μ-loop
 add-i c = search needs
@@ -53,7 +52,7 @@ loop-less c = search needs
 loop-again : tie.Need-loop-again Inv-loop μ-loop
 loop-again c =
     let l = c .before .before .before .before .before .loop in
-    l .inv ∙ admitted-step _ _ _ (l .i) (search needs) (search needs) (c .before .before .before .row .ensures) (c .before .before .name-at .ensures) (c .before .admits .ensures) (not-false _ (c .if1 .left))
+    l .inv ∙ admitted-step _ _ _ (l .i) (search needs) (search needs) (c .before .before .before .row-at .ensures .0) (c .before .before .key-at .ensures) (c .before .admits .ensures) (not-false _ (c .if1 .left))
 
 returns-2 : tie.Need-returns-2 Inv-loop μ-loop
 returns-2 c = let l = c .before .loop in sym (l .inv ∙ admitted-end _ _ _ (l .i) (search needs))
@@ -67,8 +66,8 @@ admitted-spec =
     count-requires
     count-requires-2
     loop-holds
-    row-requires
-    name-at-requires
+    row-at-requires
+    key-at-requires
     admits-requires
     returns
     add-i

@@ -5,21 +5,26 @@ use mathlib.Core.Logic.{⊎-elim}
 use Rattle.model.specs.Paths.{environment}
 use Rattle.model.specs.Rights.{listed, admits}
 use Rattle.steps.specs.Steps.{operatorOf}
-use Rattle.steps.specs.Environments.{bindingsIn}
-use Rattle.matching.proofs.Matched.{linesFrom, lines-start, listed-end, listed-stop, listed-yes, listed-no, asked, admits-listed, asked-none, asked-decided, asked-later}
+use Rattle.layout.specs.Layout.{inUse}
+use Rattle.layout.proofs.Used.{used-fit}
+use Rattle.steps.specs.Environments.{bindingRow, bindingsIn}
+use Rattle.matching.proofs.Matched.{listed-over, listed-stop, line-more, listed-yes, listed-no, asked, admits-listed, asked-none, asked-decided, asked-later}
+use native.Mathlib.Omega.{arith}
+use lib.ListN.{length, drop}
 use borrow.Author.Needs.{needs}
 use Rattle.matching.proofs.path.is_listed.Statement.{statement}
 use Rattle.matching.proofs.path.is_listed.Tie as tie
+use Rattle.model.specs.Limits.{maxBindings}
 
 abbrev Inv-loop : tie.InvT-loop
 Inv-loop lines operator n key i₀ i =
-    (i ≤ 16) × (admits (bindingsIn lines) (environment (operatorOf operator) n) key ≡ asked (operatorOf operator) key (listed (linesFrom lines i) n))
+    (i ≤ length (inUse bindingRow maxBindings lines)) × (admits (bindingsIn lines) (environment (operatorOf operator) n) key ≡ asked (operatorOf operator) key (listed (drop i (bindingsIn lines)) n))
 
 abbrev μ-loop : tie.MeasureT-loop
-μ-loop lines operator n key i₀ i = 16 - i
+μ-loop lines operator n key i₀ i = maxBindings - i
 
 loop-holds : tie.Need-loop-holds Inv-loop μ-loop
-loop-holds c = (search needs, admits-listed _ _ _ _ ∙ rw lines-start)
+loop-holds c = (search needs, admits-listed _ _ _ _)
 
 mul-at : tie.Need-mul-at Inv-loop μ-loop
 mul-at c = search needs
@@ -30,7 +35,7 @@ shared-slice-read-if1 c = search needs
 returns : tie.Need-returns Inv-loop μ-loop
 returns c =
     let l = c .before .before .before .loop in
-    sym (l .inv .1 ∙ asked-none _ _ (listed-stop _ _ (l .i) (c .before .before .loop-test .taken) (c .if1 .taken)))
+    sym (l .inv .1 ∙ asked-none _ _ (listed-stop _ _ (l .i) (c .before .before .loop-test .taken) (l .inv .0) (c .if1 .taken)))
 
 add-name-from : tie.Need-add-name-from Inv-loop μ-loop
 add-name-from c = search needs
@@ -56,7 +61,7 @@ returns-2 c =
     let k = q .before .before in
     let m = k .before .before .before in
     let l = m .before .before .before .loop in
-    let first = listed-yes _ _ (l .i) (m .before .before .loop-test .taken) (m .if1 .left) (q .name-from2 .ensures) (c .before .same2 .ensures) (c .if3 .taken) (k .before .before .name-from .ensures) in
+    let first = listed-yes _ _ (l .i) (m .before .before .loop-test .taken) (l .inv .0) (m .if1 .left) (q .name-from2 .ensures) (c .before .same2 .ensures) (c .if3 .taken) (k .before .before .name-from .ensures) in
     sym (l .inv .1 ∙ asked-decided _ _ first (k .before .same .ensures) _ (sym (k .decides .ensures) ∙ q .before .if2 .taken))
 
 add-i : tie.Need-add-i Inv-loop μ-loop
@@ -70,8 +75,8 @@ Left : tie.Joined2 Inv-loop μ-loop → Type 0
 Left c =
     let a = c .before .before .before .before .before .before .before .before .before .before .before .args in
     let i = c .before .before .before .before .before .before .before .loop .i in
-    asked (operatorOf (a .operator)) (a .key .now) (listed (linesFrom (a .lines .now) i) (a .n .now))
-    ≡ asked (operatorOf (a .operator)) (a .key .now) (listed (linesFrom (a .lines .now) (i + 1)) (a .n .now))
+    asked (operatorOf (a .operator)) (a .key .now) (listed (drop i (bindingsIn (a .lines .now))) (a .n .now))
+    ≡ asked (operatorOf (a .operator)) (a .key .now) (listed (drop (i + 1) (bindingsIn (a .lines .now))) (a .n .now))
 
 met : (c : tie.Joined2 Inv-loop μ-loop) → Left c
 unfolding Left
@@ -81,16 +86,22 @@ met c =
     let test = k .before .before .loop-test .taken in
     let full = k .if1 .left in
     ⊎-elim {C = Left c}
-    (λ w. ap (asked _ _) (listed-no _ _ (l .i) test full (w .1 .ensures) (w .2 .ensures) (w .3 .left)))
-    (λ w. asked-later _ _ (l .i) test full _ _ (c .before .before .before .name-from .ensures) (c .before .before .same .ensures) (sym (c .before .decides .ensures) ∙ w .left))
+    (λ w. ap (asked _ _) (listed-no _ _ (l .i) test (l .inv .0) full (w .1 .ensures) (w .2 .ensures) (w .3 .left)))
+    (λ w. asked-later _ _ (l .i) test (l .inv .0) full _ _ (c .before .before .before .name-from .ensures) (c .before .before .same .ensures) (sym (c .before .decides .ensures) ∙ w .left))
     (c .if2 .came)
 
 loop-again : tie.Need-loop-again Inv-loop μ-loop
 unfolding Left
-loop-again c = (search needs, c .before .before .before .before .before .before .before .loop .inv .1 ∙ met c)
+loop-again c =
+    let k = c .before .before .before .before in
+    let l = k .before .before .before .loop in
+    let more = line-more _ (k .before .before .before .before .before .before .before .args .n .now) (l .i) (k .before .before .loop-test .taken) (l .inv .0) (k .if1 .left) in
+    (omega arith, l .inv .1 ∙ met c)
 
 returns-3 : tie.Need-returns-3 Inv-loop μ-loop
-returns-3 c = let l = c .before .loop in sym (l .inv .1 ∙ asked-none _ _ (listed-end _ _ (l .i) (search needs)))
+returns-3 c =
+    let l = c .before .loop in
+    sym (l .inv .1 ∙ asked-none _ _ (listed-over _ _ (l .i) (omega (arith, used-fit bindingRow maxBindings (c .before .before .before .before .before .args .lines .now)))))
 
 pub is-listed-spec : {M : Type 1} → statement M
 is-listed-spec =

@@ -4,11 +4,11 @@ use mathlib.Core.Path.{_≡_, sym, _∙_}
 use lib.ListN.{getD, drop}
 use borrow.Author.Tests.{not-true, not-false}
 use borrow.Author.Needs.{needs}
+use Rattle.model.specs.Limits.{maxDepth}
 use Rattle.model.specs.Rights.{matches}
 use Rattle.paths.specs.Layout.{pathIn}
 use Rattle.steps.specs.Steps.{stepsIn}
 use Rattle.steps.specs.Environments.{bindingsIn}
-use Rattle.steps.proofs.StepRows.{row-length}
 use Rattle.matching.specs.Parts.{isMet, paired, mayMatch}
 use Rattle.matching.proofs.Matched.{paired-counts, paired-step, paired-end, matches-met}
 use Rattle.matching.proofs.path.lines_match.Statement.{statement}
@@ -17,7 +17,7 @@ use Rattle.matching.proofs.path.lines_match.Tie as tie
 abbrev Inv-loop : tie.InvT-loop
 Inv-loop lines steps slot n i₀ i =
     (i ≤ n) × (matches (bindingsIn lines) (stepsIn steps) (pathIn slot) ≡ paired (isMet (bindingsIn lines)) (drop i (stepsIn steps)) (drop i (pathIn slot)))
-    × (n ≡ min (getD slot 0 0) 6)
+    × (n ≡ min (getD slot 0 0) maxDepth)
 
 abbrev μ-loop : tie.MeasureT-loop
 μ-loop lines steps slot n i₀ i = n - i
@@ -31,21 +31,21 @@ loop-holds c =
     let may = c .before .before .before .before .pre .1 in
     (search needs, matches-met _ _ _ may, c .count .ensures ∙ sym (paired-counts _ _ _ may))
 
-row-requires : tie.Need-row-requires Inv-loop μ-loop
-row-requires c κs = search needs
+row-at-requires : tie.Need-row-at-requires Inv-loop μ-loop
+row-at-requires c κs = search needs
 
-name-at-requires : tie.Need-name-at-requires Inv-loop μ-loop
-name-at-requires c κs = search needs
+key-at-requires : tie.Need-key-at-requires Inv-loop μ-loop
+key-at-requires c κs = search needs
 
 is-met-requires : tie.Need-is-met-requires Inv-loop μ-loop
-is-met-requires c κs = (search needs, row-length _ (c .before .before .before .loop .i) (search needs) (c .before .row .ensures))
+is-met-requires c κs = (search needs, c .before .row-at .ensures .1)
 
 returns : tie.Need-returns Inv-loop μ-loop
 returns c =
     let k = c .before in
     let l = k .before .before .before .before .loop in
     sym (l .inv .1
-    ∙ paired-step _ _ _ (l .i) (search needs) (search needs) (k .before .before .row .ensures) (k .before .name-at .ensures) (k .is-met .ensures)
+    ∙ paired-step _ _ _ (l .i) (search needs) (search needs) (k .before .before .row-at .ensures .0) (k .before .key-at .ensures) (k .is-met .ensures)
     ∙ rw (not-true (k .is-met .result) (c .if1 .taken)))
 
 add-i : tie.Need-add-i Inv-loop μ-loop
@@ -59,7 +59,7 @@ loop-again c =
     let k = c .before in
     let l = k .before .before .before .before .loop in (
       search needs,
-      l .inv .1 ∙ paired-step _ _ _ (l .i) (search needs) (search needs) (k .before .before .row .ensures) (k .before .name-at .ensures) (k .is-met .ensures)
+      l .inv .1 ∙ paired-step _ _ _ (l .i) (search needs) (search needs) (k .before .before .row-at .ensures .0) (k .before .key-at .ensures) (k .is-met .ensures)
           ∙ rw (not-false (k .is-met .result) (c .if1 .left)),
       l .inv .2,
     )
@@ -75,8 +75,8 @@ lines-match-spec =
     μ-loop
     count-requires
     loop-holds
-    row-requires
-    name-at-requires
+    row-at-requires
+    key-at-requires
     is-met-requires
     returns
     add-i

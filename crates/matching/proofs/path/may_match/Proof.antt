@@ -6,7 +6,6 @@ use borrow.Author.Tests.{not-true, not-false}
 use borrow.Author.Needs.{needs}
 use Rattle.paths.specs.Layout.{pathIn}
 use Rattle.steps.specs.Steps.{stepsIn}
-use Rattle.steps.proofs.StepRows.{row-length}
 use Rattle.matching.specs.Parts.{mayMatch}
 use Rattle.matching.proofs.Matched.{paired-unlike, paired-step, paired-end}
 use Rattle.matching.proofs.path.may_match.Statement.{statement}
@@ -32,21 +31,21 @@ returns c = sym (paired-unlike _ _ _ (rw (c .before .count2 .ensures, c .before 
 loop-holds : tie.Need-loop-holds Inv-loop μ-loop
 loop-holds c = (search needs, refl)
 
-row-requires : tie.Need-row-requires Inv-loop μ-loop
-row-requires c κs = search needs
+row-at-requires : tie.Need-row-at-requires Inv-loop μ-loop
+row-at-requires c κs = search needs
 
-name-at-requires : tie.Need-name-at-requires Inv-loop μ-loop
-name-at-requires c κs = search needs
+key-at-requires : tie.Need-key-at-requires Inv-loop μ-loop
+key-at-requires c κs = search needs
 
 may-admit-requires : tie.Need-may-admit-requires Inv-loop μ-loop
-may-admit-requires c κs = row-length _ (c .before .before .before .loop .i) (search needs) (c .before .row .ensures)
+may-admit-requires c κs = c .before .row-at .ensures .1
 
 returns-2 : tie.Need-returns-2 Inv-loop μ-loop
 unfolding mayMatch
 returns-2 c =
     let k = c .before in
     let l = k .before .before .before .before .loop in
-    sym (l .inv .1 ∙ paired-step _ _ _ (l .i) (search needs) (search needs) (k .before .before .row .ensures) (k .before .name-at .ensures) (k .may-admit .ensures)
+    sym (l .inv .1 ∙ paired-step _ _ _ (l .i) (search needs) (search needs) (k .before .before .row-at .ensures .0) (k .before .key-at .ensures) (k .may-admit .ensures)
     ∙ rw (not-true (k .may-admit .result) (c .if2 .taken)))
 
 add-i : tie.Need-add-i Inv-loop μ-loop
@@ -61,7 +60,7 @@ loop-again c =
     let k = c .before in
     let l = k .before .before .before .before .loop in (
       search needs,
-      l .inv .1 ∙ paired-step _ _ _ (l .i) (search needs) (search needs) (k .before .before .row .ensures) (k .before .name-at .ensures) (k .may-admit .ensures)
+      l .inv .1 ∙ paired-step _ _ _ (l .i) (search needs) (search needs) (k .before .before .row-at .ensures .0) (k .before .key-at .ensures) (k .may-admit .ensures)
           ∙ rw (not-false (k .may-admit .result) (c .if2 .left)),
     )
 
@@ -79,8 +78,8 @@ may-match-spec =
     count-requires-2
     returns
     loop-holds
-    row-requires
-    name-at-requires
+    row-at-requires
+    key-at-requires
     may-admit-requires
     returns-2
     add-i

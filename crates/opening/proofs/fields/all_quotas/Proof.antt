@@ -5,7 +5,7 @@ use native.Mathlib.Omega.{arith}
 use lib.ListN.{drop}
 use borrow.Author.Needs.{needs}
 use Rattle.model.specs.Opening.{quotas}
-use Rattle.tables.specs.Memory.{usersIn}
+use Rattle.tables.specs.Memory.{userRow, quotaAt, usersIn}
 use Rattle.tables.proofs.Users.{user-inside}
 use Rattle.tables.proofs.Users.{quota-small}
 use Rattle.opening.proofs.Quotas.{quota-left, quotas-over}
@@ -24,7 +24,7 @@ small c =
     let k = c .before in
     let i = k .before .before .loop .i in
     let byte = k .before .before .before .before .shared-slice-known .given in
-    quota-small _ i (k .row-at .ensures .0) (c .quota .ensures) (omega (arith, byte (i * 597 + 51))) (omega (arith, byte (i * 597 + 52)))
+    quota-small _ i (k .row-at .ensures .0) (c .quota .ensures) (omega (arith, byte (i * userRow + quotaAt))) (omega (arith, byte (i * userRow + (quotaAt + 1))))
 
 row-count-requires : tie.Need-row-count-requires Inv-loop μ-loop
 row-count-requires c κs = search needs
@@ -33,7 +33,7 @@ loop-holds : tie.Need-loop-holds Inv-loop μ-loop
 loop-holds c = search needs
 
 row-at-requires : tie.Need-row-at-requires Inv-loop μ-loop
-row-at-requires c κs = (user-inside _ (c .before .before .row-count .ensures) (c .before .loop .i) (c .loop-test .taken) (search needs), search needs)
+row-at-requires c κs = user-inside _ (c .before .before .row-count .ensures) (c .before .loop .i) (c .loop-test .taken) (search needs)
 
 quota-requires : tie.Need-quota-requires Inv-loop μ-loop
 quota-requires c κs = search needs

@@ -3,11 +3,13 @@ use Prim.Native.Nat.{_+_, _-_, _≤_}
 use mathlib.Core.Path.{_≡_, refl, sym, _∙_}
 use mathlib.Core.Bool.{_||_}
 use lib.ListN.{drop}
+use native.Mathlib.Omega.{arith}
+use Rattle.record.proofs.Stores.{fields-fit}
 use borrow.Author.Needs.{needs}
 use Rattle.model.specs.Base.{any}
 use Rattle.record.specs.Slots.{fieldsIn}
 use Rattle.tables.specs.Memory.{policyIn}
-use Rattle.opening.proofs.Conflicting.{conflicts, fields-over, slot-inside, conflicts-left}
+use Rattle.opening.proofs.Conflicting.{conflicts, fields-over, conflicts-left}
 use Rattle.opening.proofs.fields.has_conflicting_field.Statement.{statement}
 use Rattle.opening.proofs.fields.has_conflicting_field.Tie as tie
 
@@ -20,7 +22,7 @@ abbrev μ-loop : tie.MeasureT-loop
 -- a turn: the field in the slot at i is in conflict, or a later one is
 turn : (c : tie.After-has-conflict Inv-loop μ-loop)
     → let i = c .before .before .before .before .before .loop .i in
-    let a = c .before .before .before .before .before .before .before .before .before .args in
+    let a = c .before .before .before .before .before .before .before .before .args in
     let p = conflicts (policyIn (a .policy .now)) in
     any p (fieldsIn (a .table .now)) ≡ (c .has-conflict .result || any p (drop (i + 1) (fieldsIn (a .table .now))))
 turn c =
@@ -35,7 +37,7 @@ loop-holds : tie.Need-loop-holds Inv-loop μ-loop
 loop-holds c = (search needs, refl)
 
 slot-at-requires : tie.Need-slot-at-requires Inv-loop μ-loop
-slot-at-requires c κs = slot-inside _ (c .before .before .count .ensures) (c .before .loop .i) (c .loop-test .taken) (search needs)
+slot-at-requires c κs = omega (arith, c .before .before .count .ensures, fields-fit (c .before .before .before .before .args .table .now))
 
 steps-of-requires : tie.Need-steps-of-requires Inv-loop μ-loop
 steps-of-requires c κs = search needs

@@ -15,15 +15,15 @@ use Rattle.opening.proofs.fields.open_record.Tie as tie
 
 -- where there is room, a conflict decides
 conflicting : (c : tie.After-has-conflicting-field) {v : Bool} → c .has-conflicting-field .result ≡ v
-    → let k = c .before .before .before .before .before .before .before .before .before .before in
-    let a = k .before .before .before .before .args in
+    → let k = c .before .before .before .before .before .before .before .before .before .before .before in
+    let a = k .before .before .before .args in
     ((refuse fault 5 4 0 if v) >> done (fieldsIn (k .read-record .last .0))) ≡ openRecord (tablesIn (a .tables .now)) (a .s .now)
 conflicting c e =
-    let k = c .before .before .before .before .before .before .before .before in
+    let k = c .before .before .before .before .before .before .before .before .before in
     let read = k .before .before .read-record in
-    let a = k .before .before .before .before .before .before .args in
+    let a = k .before .before .before .before .before .args in
     let is = told readAnswer (read .ensures .0) (k .read .given .1) in
-    opened-few _ _ _ is (omega arith) (a .table .now) (read .last .0) (read .ensures .1) (c .has-conflicting-field .ensures) e
+    opened-few _ _ _ is (omega arith) (a .table .now) (read .last .0) (read .ensures .1) (c .before .before .policy-of .ensures .0) (c .has-conflicting-field .ensures) e
 
 read-record-requires : tie.Need-read-record-requires
 read-record-requires c κs = search needs
@@ -53,17 +53,11 @@ all-quotas-requires c κs = search needs
 
 returns-4 : tie.Need-returns-4
 returns-4 c =
-    let k = c .before .before .before .before in
+    let k = c .before .before .before .before .before in
     opened-many _ _ _ (told readAnswer (k .before .before .read-record .ensures .0) (k .read .given .1)) (omega arith)
 
-sub-has-conflicting-field : tie.Need-sub-has-conflicting-field
-sub-has-conflicting-field c = search needs
-
-part-has-conflicting-field-start : tie.Need-part-has-conflicting-field-start
-part-has-conflicting-field-start c = search needs
-
-part-has-conflicting-field-end : tie.Need-part-has-conflicting-field-end
-part-has-conflicting-field-end c = search needs
+policy-of-requires : tie.Need-policy-of-requires
+policy-of-requires c κs = search needs
 
 has-conflicting-field-requires : tie.Need-has-conflicting-field-requires
 has-conflicting-field-requires c κs = search needs
@@ -89,9 +83,7 @@ open-record-spec =
     returns-3
     all-quotas-requires
     returns-4
-    sub-has-conflicting-field
-    part-has-conflicting-field-start
-    part-has-conflicting-field-end
+    policy-of-requires
     has-conflicting-field-requires
     returns-5
     returns-6)

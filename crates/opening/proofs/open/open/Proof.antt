@@ -2,6 +2,7 @@
 use mathlib.Core.Path.{refl}
 use native.Mathlib.Omega.{arith}
 use borrow.Author.Needs.{needs}
+use Rattle.opening.specs.Memory.{arrays}
 use Rattle.opening.proofs.AllOpened.{opened-long, lengths, tables-refused, record-refused, opened-done, refusal, acceptance}
 use Rattle.opening.proofs.open.open.Statement.{statement}
 use Rattle.opening.proofs.open.open.Tie as tie
@@ -12,15 +13,12 @@ too-long-requires c κs = search needs
 returns : tie.Need-returns
 returns c =
     let a = c .before .before .before .before .before .before .args in
-    refusal _ (a .tables .now) (a .logins .now) (a .fields .now) refl (opened-long _ _ _ _ (c .before .too-long .ensures) (omega arith))
-
-slice-aggregate-open-tables : tie.Need-slice-aggregate-open-tables
-slice-aggregate-open-tables c = search needs
+    refusal _ (arrays (a .tables .now) (a .logins .now) (a .fields .now)) refl (opened-long _ _ _ _ (c .before .too-long .ensures) (omega arith))
 
 open-tables-requires : tie.Need-open-tables-requires
 open-tables-requires c κs =
     let (u, e, p, r) = lengths _ _ _ _ (c .before .before .too-long .ensures) (omega arith) in
-    (search needs, u, e, p)
+    (u, e, p)
 
 enum-told : tie.Need-enum-told
 enum-told c = search needs
@@ -30,20 +28,16 @@ enum-told-2 c = search needs
 
 returns-2 : tie.Need-returns-2
 returns-2 c =
-    let k = c .before .before .before in
+    let k = c .before .before in
     let t = k .before .before .before in
     let a = t .before .before .before .before .before .args in
     let is = c .enum-told2 .given .1 in
-    refusal _ (a .tables .now) (a .logins .now) (a .fields .now) is
+    refusal _ (arrays (a .tables .now) (a .logins .now) (a .fields .now)) is
     (tables-refused _ _ _ _ (t .too-long .ensures) (omega arith) _ (k .open-tables .ensures) is)
-
-slice-aggregate-open-record : tie.Need-slice-aggregate-open-record
-slice-aggregate-open-record c = search needs
 
 open-record-requires : tie.Need-open-record-requires
 open-record-requires c κs =
-    let k = c .before .before .before .before .before in
-    (omega (arith, slice-aggregate-open-record (c .before)), lengths _ _ _ _ (k .before .before .before .too-long .ensures) (omega arith) .3)
+    lengths _ _ _ _ (c .before .before .before .before .before .before .before .too-long .ensures) (omega arith) .3
 
 enum-told-3 : tie.Need-enum-told-3
 enum-told-3 c = search needs
@@ -54,16 +48,13 @@ enum-told-4 c = search needs
 returns-3 : tie.Need-returns-3
 returns-3 c =
     let l = c .before .before in
-    let k = l .before .before .before .before .before .before in
+    let k = l .before .before .before .before .before in
     let t = k .before .before .before in
     let a = t .before .before .before .before .before .args in
     let accepted = l .before .before .before .enum-told .given .1 in
     let is = c .enum-told4 .given .1 in
-    refusal _ (a .tables .now) (a .logins .now) (a .fields .now) is
+    refusal _ (arrays (a .tables .now) (a .logins .now) (a .fields .now)) is
     (record-refused _ _ _ _ (t .too-long .ensures) (omega arith) _ (k .open-tables .ensures) accepted _ (l .open-record .ensures) is)
-
-slice-aggregate-copy-tables : tie.Need-slice-aggregate-copy-tables
-slice-aggregate-copy-tables c = search needs
 
 copy-tables-requires : tie.Need-copy-tables-requires
 copy-tables-requires c κs = search needs
@@ -75,7 +66,7 @@ returns-4 : tie.Need-returns-4
 returns-4 c =
     let kept = c .before .before .before .before in
     let l = kept .before .before .before .before .before in
-    let k = l .before .before .before .before .before .before in
+    let k = l .before .before .before .before .before in
     let t = k .before .before .before in
     let accepted = l .before .before .before .enum-told .given .1 in
     let done = opened-done _ _ _ _ (t .too-long .ensures) (omega arith) _ (k .open-tables .ensures) accepted _ (l .open-record .ensures) (kept .before .before .before .enum-told3 .given .1) in
@@ -88,17 +79,14 @@ open-spec =
     (tie.spec
     too-long-requires
     returns
-    slice-aggregate-open-tables
     open-tables-requires
     enum-told
     enum-told-2
     returns-2
-    slice-aggregate-open-record
     open-record-requires
     enum-told-3
     enum-told-4
     returns-3
-    slice-aggregate-copy-tables
     copy-tables-requires
     copy-fields-requires
     returns-4)

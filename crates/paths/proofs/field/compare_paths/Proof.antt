@@ -26,7 +26,7 @@ turn : (c : tie.After-compare Inv-loop μ-loop) {v : Order} → c .compare .resu
     orderPath a b ≡ andThen (orderIn v) (lex orderKey (drop (i + 1) a) (drop (i + 1) b))
 turn c told =
     let l = c .before .before .before .before .before .loop in
-    l .inv .1 ∙ paths-step _ _ (l .i) (search needs) (search needs) (c .before .before .name-at .ensures) (c .before .name-at2 .ensures) (c .compare .ensures) told
+    l .inv .1 ∙ paths-step _ _ (l .i) (search needs) (search needs) (c .before .before .key-at .ensures) (c .before .key-at2 .ensures) (c .compare .ensures) told
 
 count-requires : tie.Need-count-requires Inv-loop μ-loop
 count-requires c κs = search needs
@@ -43,11 +43,11 @@ returns c =
     let l = c .before .before .loop in
     sym (ap orderOf (l .inv .1 ∙ paths-longer _ _ (l .i) (search needs) (search needs)))
 
-name-at-requires : tie.Need-name-at-requires Inv-loop μ-loop
-name-at-requires c κs = search needs
+key-at-requires : tie.Need-key-at-requires Inv-loop μ-loop
+key-at-requires c κs = search needs
 
-name-at-requires-2 : tie.Need-name-at-requires-2 Inv-loop μ-loop
-name-at-requires-2 c κs = search needs
+key-at-requires-2 : tie.Need-key-at-requires-2 Inv-loop μ-loop
+key-at-requires-2 c κs = search needs
 
 compare-requires : tie.Need-compare-requires Inv-loop μ-loop
 compare-requires c κs = search needs
@@ -99,8 +99,8 @@ compare-paths-spec =
     count-requires-2
     loop-holds
     returns
-    name-at-requires
-    name-at-requires-2
+    key-at-requires
+    key-at-requires-2
     compare-requires
     enum-told
     returns-2

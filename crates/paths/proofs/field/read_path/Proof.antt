@@ -4,7 +4,8 @@ use mathlib.Core.Path.{_≡_, refl, sym, _∙_}
 use lib.ListN.{length, drop}
 use Rattle.model.specs.Paths.{readKeyStep, keysOf}
 use Rattle.lexical.proofs.Runs.{byte-stands}
-use Rattle.paths.specs.Layout.{counted, pathIn}
+use Rattle.paths.specs.Layout.{pathSlot, pathIn}
+use Rattle.layout.specs.Layout.{counted}
 use Rattle.paths.proofs.WholePaths.{left, path-unopened, path-opened, left-full, left-bad, left-end}
 use Rattle.paths.proofs.KeySteps.{KeyStands, key-bad, key-at, key-turn}
 use borrow.Author.Tests.{not-true, not-false}
@@ -15,7 +16,7 @@ use Rattle.paths.proofs.field.read_path.Tie as tie
 
 abbrev Inv-loop : tie.InvT-loop
 Inv-loop s slot₀ n₀ at₀ slot n at =
-    (at ≤ length s) × (length slot ≡ 103) × (n ≡ length (pathIn slot)) × (keysOf s ≡ left readKeyStep (pathIn slot) (drop at s))
+    (at ≤ length s) × (length slot ≡ pathSlot) × (n ≡ length (pathIn slot)) × (keysOf s ≡ left readKeyStep (pathIn slot) (drop at s))
 
 abbrev μ-loop : tie.MeasureT-loop
 μ-loop s slot₀ n₀ at₀ slot n at = length s - at
@@ -97,6 +98,7 @@ loop-less : tie.Need-loop-less Inv-loop μ-loop
 loop-less c = omega (arith, stands (c .before .before .before .before))
 
 loop-again : tie.Need-loop-again Inv-loop μ-loop
+unfolding pathIn
 loop-again c =
     let push = c .before .push-key in
     let k = c .before .before .before .before in

@@ -11,8 +11,8 @@ use Rattle.model.specs.Base.{Bytes}
 use Rattle.model.specs.RecordText.{Node, Members, member, count, twice}
 use Rattle.values.proofs.Values.{told}
 use Rattle.reader.specs.Tokens.{readToken, mapped}
-use Rattle.reader.specs.Summaries.{summary, objectAnswer, FieldsWithin}
-use Rattle.reader.proofs.Spaced.{token-leaves, token-moves, end-bad, end-reads, key-bad, MemberStands, member-stands}
+use Rattle.reader.specs.Summaries.{keysRoom, summary, objectAnswer, FieldsWithin}
+use Rattle.reader.proofs.Spaced.{token-moves, open-stands, close-stands, comma-stands, no-open, no-close, no-comma, key-bad, MemberStands, member-stands}
 use Rattle.reader.proofs.Mapped.{mapped-is, mapped-bad, mapped-reads}
 use Rattle.reader.proofs.Objects.{readNode, leaves-node, leaves-object, node-leaf, node-mapped, Left, object-none, object-unopened, left-start, left-no-member, left-no-value, left-unclosed, left-last, left-again}
 use Rattle.reader.proofs.Sums.{Sums, nodeSummary, sums-start, sums-on, sums-room, sums-kept, sums-more, within-earlier}
@@ -59,16 +59,13 @@ module _ (t : ℕ) where
   enum-known-open : lts.Need-enum-known-open claims asked object-at.Post Inv-loop μ-loop
   enum-known-open c = search needs
 
-  enum-told : lts.Need-enum-told claims asked object-at.Post Inv-loop μ-loop
-  enum-told c = search needs
-
   returns-2 : lts.Need-returns-2 claims asked object-at.Post Inv-loop μ-loop
-  returns-2 c = (object-unopened _ _ _ _ (end-bad _ _ _ _ (c .before .before .token-at .ensures) (c .enum-told .given .1)), (tt, refl))
+  returns-2 c = (object-unopened _ _ _ _ (no-open _ _ (c .before .token-at .result) (c .before .token-at .ensures) (c .match .keys2)), (tt, refl))
 
   loop-holds : lts.Need-loop-holds claims asked object-at.Post Inv-loop μ-loop
   loop-holds c =
       let asks = c .before .before .before .before .before .before .before .pre .1 in
-      let r = end-reads _ _ _ _ (c .before .before .before .token-at .ensures) (token-leaves 0x7B) (asks .0) _ (c .before .«open» .given .1) in
+      let r = open-stands _ _ _ (c .before .before .before .token-at .ensures) (asks .0) _ (c .before .«open» .given .1) in
       (_, left-start _ _ _ (c .before .before .before .before .if1 .left) _ r, sums-start _ _ _ _ _ (asks .2) (asks .3) (r .from))
 
   member-at-requires : lts.Need-member-at-requires claims asked object-at.Post Inv-loop μ-loop
@@ -77,8 +74,8 @@ module _ (t : ℕ) where
   enum-known-from : lts.Need-enum-known-from claims asked object-at.Post Inv-loop μ-loop
   enum-known-from c = search needs
 
-  enum-told-2 : lts.Need-enum-told-2 claims asked object-at.Post Inv-loop μ-loop
-  enum-told-2 c = search needs
+  enum-told : lts.Need-enum-told claims asked object-at.Post Inv-loop μ-loop
+  enum-told c = search needs
 
   same-length : lts.Need-same-length claims asked object-at.Post Inv-loop μ-loop
   same-length c = c .before .before .before .loop .inv .2 .long ∙ sym (c .before .before .before .before .before .before .before .before .before .before .before .pre .1 .2)
@@ -86,7 +83,7 @@ module _ (t : ℕ) where
   returns-3 : lts.Need-returns-3 claims asked object-at.Post Inv-loop μ-loop
   returns-3 c =
       let l = c .before .before .before .loop .inv in
-      (left-no-member _ _ _ _ _ (l .1) _ (key-bad _ _ _ _ (c .before .before .member-at .ensures .0) (c .enum-told2 .given .1)), (tt, l .2 .kept))
+      (left-no-member _ _ _ _ _ (l .1) _ (key-bad _ _ _ _ (c .before .before .member-at .ensures .0) (c .enum-told .given .1)), (tt, l .2 .kept))
 
   -- ── Behind a key and its colon: what was known before, the text, where the key stands, and where what it holds begins ──
   abbrev Member : Type 0
@@ -134,8 +131,8 @@ module _ (t : ℕ) where
   enum-known-leaf : lts.Need-enum-known-leaf claims asked object-at.Post Inv-loop μ-loop
   enum-known-leaf c = search needs
 
-  enum-told-3 : lts.Need-enum-told-3 claims asked object-at.Post Inv-loop μ-loop
-  enum-told-3 c = search needs
+  enum-told-2 : lts.Need-enum-told-2 claims asked object-at.Post Inv-loop μ-loop
+  enum-told-2 c = search needs
 
   sub-object-at : lts.Need-sub-object-at claims asked object-at.Post Inv-loop μ-loop
   sub-object-at c = omega (arith, c .before .before .before .before .before .before .before .before .before .before .before .before .before .before .before .before .if1 .left)
@@ -160,7 +157,7 @@ module _ (t : ℕ) where
       let l = head k .loop in
       (objectAnswer (c .match3 .got) ≡ placed (mapped nodeSummary (readNode (start k .args .depth - 1))) (text k) (value k))
       × FieldsWithin (l .i) (c .match3 .got)
-      × (length (c .match3 .keys) ≡ 16384)
+      × (length (c .match3 .keys) ≡ keysRoom)
       × (take (l .n + 1) (c .match3 .keys) ≡ take (l .n + 1) (set (l .keys) (l .n) (from k)))
   unfolding nodeSummary summary count twice
   held c =
@@ -187,8 +184,8 @@ module _ (t : ℕ) where
   enum-known-got : lts.Need-enum-known-got claims asked object-at.Post Inv-loop μ-loop
   enum-known-got c = search needs
 
-  enum-told-4 : lts.Need-enum-told-4 claims asked object-at.Post Inv-loop μ-loop
-  enum-told-4 c = search needs
+  enum-told-3 : lts.Need-enum-told-3 claims asked object-at.Post Inv-loop μ-loop
+  enum-told-3 c = search needs
 
   same-length-2 : lts.Need-same-length-2 claims asked object-at.Post Inv-loop μ-loop
   same-length-2 c = held (c .before .before) .2 ∙ sym (start (c .before .before .before .before .before .before .before .before) .pre .1 .2)
@@ -198,7 +195,7 @@ module _ (t : ℕ) where
       let h = held (c .before .before) in
       let k = c .before .before .before .before .before .before .before .before in
       let l = head k .loop .inv in (
-        left-no-value _ _ _ _ _ (l .1) _ _ (stands k .reads) _ (mapped-bad nodeSummary (readNode _) _ _ (told objectAnswer (h .0) (c .enum-told4 .given .1))),
+        left-no-value _ _ _ _ _ (l .1) _ _ (stands k .reads) _ (mapped-bad nodeSummary (readNode _) _ _ (told objectAnswer (h .0) (c .enum-told3 .given .1))),
         (tt, sums-kept _ _ _ _ _ _ _ _ _ _ (l .2) _ _ (h .3)),
       )
 
@@ -234,64 +231,58 @@ module _ (t : ℕ) where
   token-at-requires-2 : lts.Need-token-at-requires-2 claims asked object-at.Post Inv-loop μ-loop
   token-at-requires-2 c κs = node-stands c .1 .to
 
-  enum-known-next : lts.Need-enum-known-next claims asked object-at.Post Inv-loop μ-loop
-  enum-known-next c = search needs
+  enum-known-token : lts.Need-enum-known-token claims asked object-at.Post Inv-loop μ-loop
+  enum-known-token c = search needs
 
-  enum-told-5 : lts.Need-enum-told-5 claims asked object-at.Post Inv-loop μ-loop
-  enum-told-5 c = search needs
-
-  token-at-requires-3 : lts.Need-token-at-requires-3 claims asked object-at.Post Inv-loop μ-loop
-  token-at-requires-3 c κs = node-stands (c .before .before .before) .1 .to
-
-  enum-known-close : lts.Need-enum-known-close claims asked object-at.Post Inv-loop μ-loop
-  enum-known-close c = search needs
-
-  enum-told-6 : lts.Need-enum-told-6 claims asked object-at.Post Inv-loop μ-loop
-  enum-told-6 c = search needs
+  enum-known-token-2 : lts.Need-enum-known-token-2 claims asked object-at.Post Inv-loop μ-loop
+  enum-known-token-2 c = search needs
 
   same-length-3 : lts.Need-same-length-3 claims asked object-at.Post Inv-loop μ-loop
-  same-length-3 c = let b = c .before .before .before .before .before .before in node-stands b .2 .long ∙ sym (start (key b) .pre .1 .2)
+  same-length-3 c = let b = c .before .before .before in node-stands b .2 .long ∙ sym (start (key b) .pre .1 .2)
 
   returns-5 : lts.Need-returns-5 claims asked object-at.Post Inv-loop μ-loop
   returns-5 c =
-      let b = c .before .before .before .before .before .before in
-      let n = node-stands b in (
+      let b = c .before .before .before in
+      let n = node-stands b in
+      let token = c .before .before .token-at2 in (
         left-unclosed _ _ _ _ _ (head (key b) .loop .inv .1) _ _ (stands (key b) .reads) _ _ (n .1) _
-            (end-bad _ _ _ _ (c .before .before .before .before .before .token-at2 .ensures) (c .before .before .before .enum-told5 .given .1))
-            (end-bad _ _ _ _ (c .before .before .token-at3 .ensures) (c .enum-told6 .given .1)),
+            (no-comma _ _ (token .result) (token .ensures) (c .before .match5 .keys2))
+            (no-close _ _ (token .result) (token .ensures) (c .match6 .keys2)),
         (tt, n .2 .kept),
       )
 
   same-length-4 : lts.Need-same-length-4 claims asked object-at.Post Inv-loop μ-loop
-  same-length-4 c = let b = c .before .before .before .before .before .before .before in node-stands b .2 .long ∙ sym (start (key b) .pre .1 .2)
+  same-length-4 c = let b = c .before .before .before .before .before in node-stands b .2 .long ∙ sym (start (key b) .pre .1 .2)
 
   returns-6 : lts.Need-returns-6 claims asked object-at.Post Inv-loop μ-loop
   returns-6 c =
-      let b = c .before .before .before .before .before .before .before in
+      let b = c .before .before .before .before .before in
       let n = node-stands b in
-      let close = end-reads _ _ _ _ (c .before .before .before .token-at3 .ensures) (token-leaves 0x7D) (n .1 .to) _ (c .before .close .given .1) in (
-        ap (λ (x : ℕ × Bool). some (x, c .before .close .given .0 .0)) (sym (n .2 .sums))
+      let token = c .before .before .before .before .token-at2 in
+      let close = close-stands _ _ _ (token .ensures) (n .1 .to) _ (c .before .token2 .given .1) in (
+        ap (λ (x : ℕ × Bool). some (x, c .before .token2 .given .0 .0)) (sym (n .2 .sums))
             ∙ left-last _ _ _ _ _ (head (key b) .loop .inv .1) _ _ (stands (key b) .reads) _ _ (n .1) _
-            (end-bad _ _ _ _ (c .before .before .before .before .before .before .token-at2 .ensures) (c .before .before .before .before .enum-told5 .given .1)) _ close,
+            (no-comma _ _ (token .result) (token .ensures) (c .before .before .before .match5 .keys2)) _ close,
         (omega (arith, n .2 .within, close .from), n .2 .kept),
       )
 
-  comma-stands : (c : lts.After-known-told5 claims asked object-at.Post Inv-loop μ-loop)
-      → let b = c .before .before .before .before in Reads (readToken 0x2C) (text (key b)) (b .before .got .given .0 .0) tt (c .before .next .given .0 .0)
-  comma-stands c = end-reads _ _ _ _ (c .before .before .before .token-at2 .ensures) (token-leaves 0x2C) (node-stands (c .before .before .before .before) .1 .to) _ (c .before .next .given .1)
+  -- a comma stands where `token_at` says
+  comma : (c : lts.After-known-told5 claims asked object-at.Post Inv-loop μ-loop)
+      → let b = c .before .before .before .before in Reads (readToken 0x2C) (text (key b)) (b .before .got .given .0 .0) tt (c .before .token .given .0 .0)
+  comma c = comma-stands _ _ _ (c .before .before .before .token-at2 .ensures) (node-stands (c .before .before .before .before) .1 .to) _ (c .before .token .given .1)
 
   loop-less : lts.Need-loop-less claims asked object-at.Post Inv-loop μ-loop
   loop-less c =
       let b = c .before .before .before .before in
-      let comma = comma-stands c in
-      omega (arith, stands (key b) .reads .from, node-stands b .1 .from, token-moves _ _ _ _ comma, comma .to)
+      let r = comma c in
+      omega (arith, stands (key b) .reads .from, node-stands b .1 .from, token-moves _ _ _ _ r, r .to)
 
   loop-again : lts.Need-loop-again claims asked object-at.Post Inv-loop μ-loop
   loop-again c =
       let b = c .before .before .before .before in
       let n = node-stands b in
-      let comma = comma-stands c in
-      (_, left-again _ _ _ _ _ (head (key b) .loop .inv .1) _ _ (stands (key b) .reads) _ _ (n .1) _ comma, sums-on _ _ _ _ _ _ _ _ _ _ (n .2) _ (comma .from))
+      let r = comma c in
+      (_, left-again _ _ _ _ _ (head (key b) .loop .inv .1) _ _ (stands (key b) .reads) _ _ (n .1) _ r, sums-on _ _ _ _ _ _ _ _ _ _ (n .2) _ (r .from))
 
 pub +object-at-spec : {M : Type 1} → statement M
 +object-at-spec = close μ-object-at λ t. lts.spec (claims t)
@@ -302,12 +293,11 @@ pub +object-at-spec : {M : Type 1} → statement M
     (returns t)
     (token-at-requires t)
     (enum-known-open t)
-    (enum-told t)
     (returns-2 t)
     (loop-holds t)
     (member-at-requires t)
     (enum-known-from t)
-    (enum-told-2 t)
+    (enum-told t)
     (same-length t)
     (returns-3 t)
     (add-note-key t)
@@ -315,20 +305,17 @@ pub +object-at-spec : {M : Type 1} → statement M
     (add-n t)
     (leaf-at-requires t)
     (enum-known-leaf t)
-    (enum-told-3 t)
+    (enum-told-2 t)
     (sub-object-at t)
     (object-at-requires t)
     (enum-known-got t)
-    (enum-told-4 t)
+    (enum-told-3 t)
     (same-length-2 t)
     (returns-4 t)
     (add-fields t)
     (token-at-requires-2 t)
-    (enum-known-next t)
-    (enum-told-5 t)
-    (token-at-requires-3 t)
-    (enum-known-close t)
-    (enum-told-6 t)
+    (enum-known-token t)
+    (enum-known-token-2 t)
     (same-length-3 t)
     (returns-5 t)
     (same-length-4 t)

@@ -9,6 +9,7 @@ use Rattle.reader.proofs.Spaced.{key-spaced, key-is, spaced-none}
 use borrow.Author.Needs.{needs}
 use Rattle.reader.proofs.tokens.key_at.Statement.{statement}
 use Rattle.reader.proofs.tokens.key_at.Tie as tie
+use Rattle.model.specs.Limits.{maxKey}
 
 between-requires : tie.Need-between-requires
 between-requires c κs = search needs
@@ -21,12 +22,12 @@ enum-told c = search needs
 
 returns : tie.Need-returns
 returns c =
-    (spaced-none _ _ key-spaced _ _ (between-bad Name 0x22 1 16 _ _ _ (c .before .before .between .ensures) (c .enum-told .given .1)), tt)
+    (spaced-none _ _ key-spaced _ _ (between-bad Name 0x22 1 maxKey _ _ _ (c .before .before .between .ensures) (c .enum-told .given .1)), tt)
 
 -- a key stands where `between` says
 stands : (c : tie.After-known-told)
-    → let a = c .before .before .before .before .before .args in Stands Name 0x22 1 16 (a .s .now) (a .at) (c .before .e .given .0 .0)
-stands c = between-at Name 0x22 1 16 _ _ _ (c .before .before .before .between .ensures) (search needs) _ (c .before .e .given .1)
+    → let a = c .before .before .before .before .before .args in Stands Name 0x22 1 maxKey (a .s .now) (a .at) (c .before .e .given .0 .0)
+stands c = between-at Name 0x22 1 maxKey _ _ _ (c .before .before .before .between .ensures) (search needs) _ (c .before .e .given .1)
 
 run-requires : tie.Need-run-requires
 run-requires c κs = stands c .reads .to

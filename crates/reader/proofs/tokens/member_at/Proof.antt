@@ -3,7 +3,7 @@ use native.Mathlib.Omega.{arith}
 use Rattle.rows.specs.Positions.{Reads}
 use Rattle.model.specs.Base.{Bytes}
 use Rattle.model.specs.RecordText.{readKey}
-use Rattle.reader.proofs.Spaced.{key-leaves, token-leaves, token-moves, end-bad, end-reads, key-bad, key-reads, member-no-key, member-no-colon, member-is}
+use Rattle.reader.proofs.Spaced.{key-leaves, token-moves, colon-stands, no-colon, key-bad, key-reads, member-no-key, member-no-colon, member-is}
 use borrow.Author.Needs.{needs}
 use Rattle.reader.proofs.tokens.member_at.Statement.{statement}
 use Rattle.reader.proofs.tokens.member_at.Tie as tie
@@ -31,18 +31,15 @@ token-at-requires c κs = key c .1 .to
 enum-known-v : tie.Need-enum-known-v
 enum-known-v c = search needs
 
-enum-told-2 : tie.Need-enum-told-2
-enum-told-2 c = search needs
-
 returns-2 : tie.Need-returns-2
-returns-2 c = (member-no-colon _ _ _ _ (key (c .before .before .before) .1) (end-bad _ _ _ _ (c .before .before .token-at .ensures) (c .enum-told2 .given .1)), tt)
+returns-2 c = (member-no-colon _ _ _ _ (key (c .before .before) .1) (no-colon _ _ (c .before .token-at .result) (c .before .token-at .ensures) (c .match2 .keys2)), tt)
 
 returns-3 : tie.Need-returns-3
 unfolding key
 returns-3 c =
     let k = c .before .before .before .before in
     let inside = rw (k .before .from .given .1) at (k .before .before .before .key-at .ensures .1) in
-    let colon = end-reads _ _ _ _ (c .before .before .before .token-at .ensures) (token-leaves 0x3A) (key k .1 .to) _ (c .before .v .given .1) in
+    let colon = colon-stands _ _ _ (c .before .before .before .token-at .ensures) (key k .1 .to) _ (c .before .v .given .1) in
     (member-is _ _ _ _ (key k .1) _ colon, (inside .0, inside .1, omega (arith, inside .2, token-moves _ _ _ _ colon), colon .to))
 
 pub member-at-spec : {M : Type 1} → statement M
@@ -55,6 +52,5 @@ member-at-spec =
     returns
     token-at-requires
     enum-known-v
-    enum-told-2
     returns-2
     returns-3)

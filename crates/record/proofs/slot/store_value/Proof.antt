@@ -1,7 +1,7 @@
 -- A slot is filled with the path and the value, and stored.
 use mathlib.Core.Path.{_∙_}
-use borrow.Author.Needs.{needs}
 use Rattle.record.specs.Search.{storedIn, storedAt}
+use borrow.Author.Needs.{needs}
 use Rattle.record.proofs.slot.store_value.Statement.{statement}
 use Rattle.record.proofs.slot.store_value.Tie as tie
 
@@ -11,28 +11,14 @@ slice-aggregate-fill c = search needs
 fill-requires : tie.Need-fill-requires
 fill-requires c κs = search needs
 
-slice-aggregate-store : tie.Need-slice-aggregate-store
-slice-aggregate-store c = search needs
-
 store-requires : tie.Need-store-requires
 store-requires c κs = search needs
-
-same-length : tie.Need-same-length
-same-length c = search needs
 
 returns : tie.Need-returns
 unfolding storedIn storedAt
 returns c =
-    let f = c .before .before .before .before .before .before .fill .ensures in
-    c .before .before .store .ensures ∙ rw (f .0, f .1)
+    let f = c .before .before .before .before .fill .ensures in
+    c .store .ensures ∙ rw (f .0, f .1)
 
 pub store-value-spec : {M : Type 1} → statement M
-store-value-spec =
-    tie.close
-    (tie.spec
-    slice-aggregate-fill
-    fill-requires
-    slice-aggregate-store
-    store-requires
-    same-length
-    returns)
+store-value-spec = tie.close (tie.spec slice-aggregate-fill fill-requires store-requires returns)

@@ -1,9 +1,9 @@
 -- A slot is filled with the path and the value, and stored at the place of the path.
 use mathlib.Core.Path.{ap, _∙_}
-use borrow.Author.Needs.{needs}
 use Rattle.model.specs.Fields.{Field}
 use Rattle.record.specs.Slots.{fieldIn}
 use Rattle.record.specs.Search.{storedIn, storedAt}
+use borrow.Author.Needs.{needs}
 use Rattle.record.proofs.slot.store_value_at.Statement.{statement}
 use Rattle.record.proofs.slot.store_value_at.Tie as tie
 
@@ -13,33 +13,20 @@ slice-aggregate-fill c = search needs
 fill-requires : tie.Need-fill-requires
 fill-requires c κs = search needs
 
-slice-aggregate-store-at : tie.Need-slice-aggregate-store-at
-slice-aggregate-store-at c = search needs
-
 store-at-requires : tie.Need-store-at-requires
 unfolding fieldIn
 store-at-requires c κs =
     let f = c .before .before .before in
-    let h = f .before .before .before .before .before .pre in
+    let h = f .before .before .before .before .pre in
     let path = ap (λ (g : Field). g .path) (f .fill .ensures .0) in
-    ((search needs, search needs, f .fill .ensures .1 ∙ h .1 .0), rw path (h .1 .1))
-
-same-length : tie.Need-same-length
-same-length c = search needs
+    (f .fill .ensures .1 ∙ h .1 .0, rw path (h .1 .1))
 
 returns : tie.Need-returns
 unfolding storedIn storedAt
 returns c =
-    let f = c .before .before .before .before .before .before .fill .ensures in
-    c .before .before .store-at .ensures ∙ rw (f .0, f .1)
+    let f = c .before .before .before .before .fill .ensures in
+    c .store-at .ensures ∙ rw (f .0, f .1)
 
 pub store-value-at-spec : {M : Type 1} → statement M
 store-value-at-spec =
-    tie.close
-    (tie.spec
-    slice-aggregate-fill
-    fill-requires
-    slice-aggregate-store-at
-    store-at-requires
-    same-length
-    returns)
+    tie.close (tie.spec slice-aggregate-fill fill-requires store-at-requires returns)

@@ -1,7 +1,7 @@
 -- An empty slot changes nothing; the field of another is stored where the search ends.
 use mathlib.Core.Path.{sym, _∙_}
-use borrow.Author.Needs.{needs}
 use Rattle.record.proofs.Stores.{none-stored}
+use borrow.Author.Needs.{needs}
 use Rattle.record.proofs.table.store.Statement.{statement}
 use Rattle.record.proofs.table.store.Tie as tie
 
@@ -17,17 +17,12 @@ find-requires c κs = search needs
 store-at-requires : tie.Need-store-at-requires
 store-at-requires c κs =
     let f = c .before in
-    let i = f .before .before in
-    let h = i .before .before .before .before .pre in
-    ((h .0, h .1, sym (i .before .is-empty .ensures) ∙ i .if1 .left), f .find .ensures)
-
-same-length : tie.Need-same-length
-same-length c = search needs
+    let i = f .before .before .before in
+    (sym (i .before .is-empty .ensures) ∙ i .if1 .left, f .find .ensures)
 
 returns-2 : tie.Need-returns-2
 returns-2 c = search needs
 
 pub store-spec : {M : Type 1} → statement M
 store-spec =
-    tie.close
-    (tie.spec is-empty-requires returns find-requires store-at-requires same-length returns-2)
+    tie.close (tie.spec is-empty-requires returns find-requires store-at-requires returns-2)

@@ -1,67 +1,66 @@
 -- The field is written or put in where the search ended; behind the last place nothing changes.
-use borrow.Author.Needs.{needs}
-use mathlib.Core.Path.{sym, _∙_}
+use mathlib.Core.Path.{_≡_, sym, _∙_}
 use native.Mathlib.Omega.{arith}
+use Rattle.model.specs.Limits.{maxFields}
+use Rattle.layout.proofs.Changed.{table-set, table-inserted}
+use Rattle.record.specs.Slots.{slotBytes, fieldIn, fieldsIn}
 use Rattle.record.proofs.Places.{at-below, before-within}
-use Rattle.record.proofs.Stores.{fields-fit, at-stored, before-stored, past-stored}
+use Rattle.record.proofs.Search.{fields-used}
+use Rattle.record.proofs.Stores.{at-stored, before-stored, past-stored}
+use borrow.Author.Needs.{needs}
 use Rattle.record.proofs.table.store_at.Statement.{statement}
 use Rattle.record.proofs.table.store_at.Tie as tie
 
 enum-known-place : tie.Need-enum-known-place
 enum-known-place c = search needs
 
-replace-requires : tie.Need-replace-requires
-replace-requires c κs =
-    let a = c .before .before .place .given in
-    let s = c .before .before .before .before .before .before in
+replace-row-requires : tie.Need-replace-row-requires
+replace-row-requires c κs =
+    let a = c .before .before .before .place .given in
+    let s = c .before .before .before .before .before in
     let h = at-below _ _ (a .0 .0) (sym (s .pre .1) ∙ a .1) in
-    ((s .pre .0 .0, omega (arith, h, fields-fit (s .args .table .now)), s .pre .0 .1), (h, s .pre .0 .2))
+    ((search needs, search needs, s .pre .0), omega (arith, fields-used (s .args .table .now)))
 
 enum-known-place-2 : tie.Need-enum-known-place-2
 enum-known-place-2 c = search needs
 
-insert-requires : tie.Need-insert-requires
-insert-requires c κs =
-    let a = c .before .before .before .place2 .given in
-    let s = c .before .before .before .before .before .before .before in
-    ((s .pre .0 .0, c .before .if1 .taken, s .pre .0 .1), (before-within _ _ (a .0 .0) (sym (s .pre .1) ∙ a .1), s .pre .0 .2))
-
-same-length : tie.Need-same-length
-same-length c = search needs
+insert-row-requires : tie.Need-insert-row-requires
+insert-row-requires c κs =
+    let a = c .before .before .before .before .place2 .given in
+    let s = c .before .before .before .before .before .before in
+    let h = before-within _ _ (a .0 .0) (sym (s .pre .1) ∙ a .1) in
+    ((search needs, search needs, s .pre .0), (search needs, omega (arith, fields-used (s .args .table .now))))
 
 returns : tie.Need-returns
+unfolding fieldsIn
 returns c =
-    let r = c .before .before in
-    let a = r .before .before .before .place .given in
-    let s = r .before .before .before .before .before .before .before in
-    r .replace .ensures ∙ at-stored _ _ (a .0 .0) (s .pre .0 .2) (sym (s .pre .1) ∙ a .1)
-
-same-length-2 : tie.Need-same-length-2
-same-length-2 c = search needs
+    let a = c .before .before .before .before .place .given in
+    let s = c .before .before .before .before .before .before in
+    table-set fieldIn slotBytes maxFields (s .args .table .now) _ (s .args .slot .now) (a .0 .0) (c .replace-row .ensures)
+    ∙ at-stored _ _ (a .0 .0) (s .pre .0) (sym (s .pre .1) ∙ a .1)
 
 returns-2 : tie.Need-returns-2
+unfolding fieldsIn
 returns-2 c =
-    let r = c .before .before in
-    let a = r .before .before .before .before .place2 .given in
-    let s = r .before .before .before .before .before .before .before .before in
-    r .insert .ensures ∙ before-stored _ _ (a .0 .0) (s .pre .0 .2) (sym (s .pre .1) ∙ a .1)
+    let a = c .before .before .before .before .before .place2 .given in
+    let s = c .before .before .before .before .before .before .before in
+    table-inserted fieldIn slotBytes maxFields (s .args .table .now) _ (s .args .slot .now) (a .0 .0) (c .insert-row .ensures)
+    ∙ before-stored _ _ (a .0 .0) (s .pre .0) (sym (s .pre .1) ∙ a .1)
 
 returns-3 : tie.Need-returns-3
 returns-3 c =
     let a = c .before .before .place2 .given in
-    let s = c .before .before .before .before .before .before in
-    past-stored _ _ (a .0 .0) (s .pre .0 .2) (sym (s .pre .1) ∙ a .1) (c .if1 .left)
+    let s = c .before .before .before .before in
+    past-stored _ _ (a .0 .0) (s .pre .0) (sym (s .pre .1) ∙ a .1) (c .if1 .left)
 
 pub store-at-spec : {M : Type 1} → statement M
 store-at-spec =
     tie.close
     (tie.spec
     enum-known-place
-    replace-requires
+    replace-row-requires
     enum-known-place-2
-    insert-requires
-    same-length
+    insert-row-requires
     returns
-    same-length-2
     returns-2
     returns-3)

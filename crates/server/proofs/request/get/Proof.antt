@@ -34,21 +34,16 @@ enum-told c = search needs
 
 returns : tie.Need-returns
 returns c l =
-    let a = c .before .before .before .before .before .before .args in
-    get-unknown (a .tables .now) (a .logins .now) (a .fields .now) (a .n) (c .before .before .session .ensures) (a .buffer .now) l (c .enum-told .given .1)
+    let a = c .before .before .before .before .args in
+    let is = get-unknown (a .tables .now) (a .logins .now) (a .fields .now) (a .n) (c .before .before .session .ensures) (a .buffer .now) l (c .enum-told .given .1) in
+    record { is = is; logins-kept = refl; fields-kept = refl }
 
 row-at-requires : tie.Need-row-at-requires
 row-at-requires c κs =
-    (session-inside _ _ _ (c .before .before .before .session .ensures) (c .before .i .given .1) (search needs), search needs)
+    session-inside _ _ _ (c .before .before .before .before .session .ensures) (c .before .before .i .given .1) (search needs)
 
-sub-policy : tie.Need-sub-policy
-sub-policy c = search needs
-
-part-policy-start : tie.Need-part-policy-start
-part-policy-start c = search needs
-
-part-policy-end : tie.Need-part-policy-end
-part-policy-end c = search needs
+policy-of-requires : tie.Need-policy-of-requires
+policy-of-requires c κs = search needs
 
 select-requires : tie.Need-select-requires
 select-requires c κs = search needs
@@ -81,13 +76,15 @@ returns-2 : tie.Need-returns-2
 returns-2 c l =
     let m = c .before .before .before in
     let h = m .before .before .before .before .before .before in
-    let r = h .before .before .before .before in
-    let k = r .before .before .before .before in
-    let a = k .before .before .before .before .args in
     let select = h .before .before .select in
+    let p = h .before .before .before in
+    let r = p .before .before in
+    let k = r .before .before .before .before .before in
+    let a = k .before .before .args in
     let kept = unwritten _ _ (m .put-copy .ensures .0) ∙ unwritten _ _ (h .put-head .ensures .0) in
-    get-refused (a .tables .now) (a .logins .now) (a .fields .now) (a .n) (k .session .ensures) (a .buffer .now) l (select .result)
-    (r .before .before .i .given .1) (r .row-at .ensures .0) refl (select .ensures) kept (m .put-copy .ensures .0) (c .if2 .taken)
+    let is = get-refused (a .tables .now) (a .logins .now) (a .fields .now) (a .n) (k .session .ensures) (a .buffer .now) l (select .result)
+    (r .before .before .before .i .given .1) (r .row-at .ensures .0) (p .policy-of .ensures .0) (select .ensures) kept (m .put-copy .ensures .0) (c .if2 .taken) in
+    record { is = is; logins-kept = refl; fields-kept = refl }
 
 put-copy-requires-2 : tie.Need-put-copy-requires-2
 put-copy-requires-2 c κs = search needs
@@ -97,12 +94,15 @@ same-length-2 c = c .before .before .put-copy2 .kept .0 ∙ ap length (met c .0)
 
 returns-3 : tie.Need-returns-3
 returns-3 c l =
-    let r = c .before .before .before .before .before .before .before .before .before .before .before .before in
-    let k = r .before .before .before .before in
-    let a = k .before .before .before .before .args in
+    let p = c .before .before .before .before .before .before .before .before .before .before .before in
     let select = c .before .before .before .before .before .before .before .before .before .before .select in
-    get-done (a .tables .now) (a .logins .now) (a .fields .now) (a .n) (k .session .ensures) (a .buffer .now) l (select .result)
-    (r .before .before .i .given .1) (r .row-at .ensures .0) refl (select .ensures) (met c .0) (c .before .before .put-copy2 .ensures .0) (met c .1)
+    let r = p .before .before in
+    let k = r .before .before .before .before .before in
+    let a = k .before .before .args in
+    let is = get-done (a .tables .now) (a .logins .now) (a .fields .now) (a .n) (k .session .ensures) (a .buffer .now) l (select .result)
+    (r .before .before .before .i .given .1) (r .row-at .ensures .0) (p .policy-of .ensures .0) (select .ensures) (met c .0)
+    (c .before .before .put-copy2 .ensures .0) (met c .1) in
+    record { is = is; logins-kept = refl; fields-kept = refl }
 
 pub get-spec : {M : Type 1} → statement M
 get-spec =
@@ -113,9 +113,7 @@ get-spec =
     enum-told
     returns
     row-at-requires
-    sub-policy
-    part-policy-start
-    part-policy-end
+    policy-of-requires
     select-requires
     slice-relend-prefix-put-head
     slice-aggregate-put-head

@@ -1,4 +1,5 @@
 -- The answer of the login states is passed on.
+use mathlib.Core.Path.{refl}
 use borrow.Author.Needs.{needs}
 use Rattle.rows.proofs.Parts.{tail-part}
 use Rattle.server.proofs.Replied.{login-replied, login-kept}
@@ -35,29 +36,23 @@ enum-known-n c = search needs
 enum-known-e : tie.Need-enum-known-e
 enum-known-e c = search needs
 
-same-length : tie.Need-same-length
-same-length c = search needs
-
 returns : tie.Need-returns
-returns c =
-    let k = c .before .before .before .before .before in
-    let a = k .before .before .before .before .before .before .before .args in
-    let (answers, (leaves, kept)) = k .login .ensures in
-    let is = c .before .n .given .1 in
-    (rw tail-part at (login-replied (a .tables .now) (a .logins .now) _ _ (k .login .last .1 .0) answers is leaves), tt)
-
-same-length-2 : tie.Need-same-length-2
-same-length-2 c = search needs
+returns c fields b l =
+    let k = c .before .before .before in
+    let a = k .before .before .before .before .before .args in
+    let done = k .login .ensures in
+    let replied = login-replied (a .tables .now) (a .logins .now) _ _ (k .login .last .1 .0) (done .answers) (c .before .n .given .1) (done .leaves) in
+    record { is = rw tail-part at (replied fields b l); logins-kept = tt; fields-kept = refl }
 
 returns-2 : tie.Need-returns-2
-returns-2 c =
-    let k = c .before .before .before .before .before in
-    let a = k .before .before .before .before .before .before .before .args in
-    let (answers, (leaves, kept)) = k .login .ensures in
-    let is = c .before .e .given .1 in (
-      rw tail-part at (login-replied (a .tables .now) (a .logins .now) _ _ (k .login .last .1 .0) answers is leaves),
-      login-kept (a .tables .now) (a .logins .now) _ _ (k .login .last .1 .0) answers is leaves kept,
-    )
+returns-2 c fields b l =
+    let k = c .before .before .before in
+    let a = k .before .before .before .before .before .args in
+    let done = k .login .ensures in
+    let is = c .before .e .given .1 in
+    let replied = login-replied (a .tables .now) (a .logins .now) _ _ (k .login .last .1 .0) (done .answers) is (done .leaves) in
+    let kept = login-kept (a .tables .now) (a .logins .now) _ _ (k .login .last .1 .0) (done .answers) is (done .leaves) (done .kept) in
+    record { is = rw tail-part at (replied fields b l); logins-kept = kept; fields-kept = refl }
 
 pub login-spec : {M : Type 1} → statement M
 login-spec =
@@ -73,7 +68,5 @@ login-spec =
     login-requires
     enum-known-n
     enum-known-e
-    same-length
     returns
-    same-length-2
     returns-2)

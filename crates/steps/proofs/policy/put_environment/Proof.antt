@@ -2,7 +2,7 @@
 use native.Mathlib.Omega.{arith}
 use Rattle.model.specs.Base.{text}
 use Rattle.model.specs.Paths.{stepText}
-use Rattle.values.proofs.Writers.{wrote-both}
+use Rattle.buffers.proofs.Writers.{wrote-both}
 use Rattle.steps.proofs.StepTexts.{operator-length}
 use Rattle.steps.specs.Steps.{operatorOf}
 use borrow.Author.Needs.{needs}

@@ -4,21 +4,22 @@ use mathlib.Core.Path.{_≡_, refl, _∙_}
 use mathlib.Core.List.{_++_, append-nil}
 use mathlib.Core.Logic.{⊎-elim}
 use native.Mathlib.Omega.{arith}
-use lib.ListN.{length, take, length-append}
+use lib.ListN.{length, take, length-append, length-take}
 use Rattle.rows.specs.Rows.{Wrote}
 use Rattle.model.specs.Base.{text, between}
 use Rattle.model.specs.Paths.{nameText, stepText}
-use Rattle.values.proofs.Writers.{wrote-both}
-use Rattle.paths.proofs.Spelled.{wrote-none, name-length}
+use Rattle.buffers.proofs.Writers.{wrote-none, wrote-both}
+use Rattle.layout.proofs.Named.{name-length}
 use Rattle.steps.specs.Steps.{namesIn}
 use Rattle.steps.proofs.StepTexts.{spelledNames, divider, divider-some, divider-none, names-step, names-all}
 use borrow.Author.Needs.{needs}
 use Rattle.steps.proofs.policy.put_list.Statement.{statement}
 use Rattle.steps.proofs.policy.put_list.Tie as tie
+use Rattle.model.specs.Limits.{maxKey}
 
 abbrev Inv-loop : tie.InvT-loop
 Inv-loop out₀ at names n to₀ i₀ out to i =
-    (i ≤ n) × (to ≤ to₀ + 19 * i) × (length out ≡ length out₀) × Wrote to₀ (spelledNames (take i (namesIn names))) out₀ to out
+    (i ≤ n) × (to ≤ to₀ + (maxKey + 3) * i) × (length out ≡ length out₀) × Wrote to₀ (spelledNames (take i (namesIn names))) out₀ to out
 
 abbrev μ-loop : tie.MeasureT-loop
 μ-loop out₀ at names n to₀ i₀ out to i = n - i
@@ -54,13 +55,13 @@ loop-holds c = (search needs, search needs, refl, wrote-none _ _)
 put-byte-requires-2 : tie.Need-put-byte-requires-2 Inv-loop μ-loop
 put-byte-requires-2 c κs = search needs
 
-name-at-requires : tie.Need-name-at-requires Inv-loop μ-loop
-name-at-requires c κs = search needs
+key-at-requires : tie.Need-key-at-requires Inv-loop μ-loop
+key-at-requires c κs = search needs
 
 put-quoted-requires : tie.Need-put-quoted-requires Inv-loop μ-loop
 put-quoted-requires c κs =
     let m = met (c .before .before) in
-    let k = name-length _ _ (c .name-at .ensures) in
+    let k = name-length maxKey _ (c .key-at .ensures) (simp length-take (omega arith)) in
     omega arith
 
 add-i : tie.Need-add-i Inv-loop μ-loop
@@ -75,8 +76,8 @@ loop-again c =
     let l = c .before .before .before .before .before .before .before .loop in
     let s = c .before .before .before .before .before .before .before .before .before .before .before .before .before .before .before .args .names .now in
     let m = met (c .before .before .before .before .before) in
-    let name = c .before .before .before .name-at .ensures in
-    let k = name-length _ _ name in
+    let name = c .before .before .before .key-at .ensures in
+    let k = name-length maxKey _ name (simp length-take (omega arith)) in
     let quoted = c .before .before .put-quoted .ensures in
     let all = wrote-both _ _ _ _ _ _ _ _ (m .2) quoted in
     (search needs, omega (arith, simp length-append at (quoted .0)), search needs, rw (names-step s (l .i) (search needs), ← name) all)
@@ -105,7 +106,7 @@ put-list-spec =
     put-byte-requires
     loop-holds
     put-byte-requires-2
-    name-at-requires
+    key-at-requires
     put-quoted-requires
     add-i
     loop-less

@@ -8,6 +8,7 @@ use Rattle.steps.proofs.StepRows.{row-filled}
 use borrow.Author.Needs.{needs}
 use Rattle.steps.proofs.policy.put_row.Statement.{statement}
 use Rattle.steps.proofs.policy.put_row.Tie as tie
+use Rattle.steps.specs.Steps.{namesSlot}
 
 kind-byte-requires : tie.Need-kind-byte-requires
 kind-byte-requires c κs = search needs
@@ -28,7 +29,7 @@ returns : tie.Need-returns
 returns c =
     let a = c .before .before .before .before .before .before .before .before .args in
     let b = c .before .before .before .before .before .kind-byte in
-    let k : length (a .step .names) ≡ 69 = search needs in
+    let k : length (a .step .names) ≡ namesSlot = search needs in
     c .before .before .put .ensures .1 ∙ written-cons 0 _ _ _ ∙ row-filled (b .result ∷ a .step .names) (a .row .now) (omega arith) ∙ ap (_∷ a .step .names) (b .ensures)
 
 pub put-row-spec : {M : Type 1} → statement M

@@ -1,23 +1,24 @@
--- Before each turn the steps so far are written behind the first byte, each with at most 78 bytes.
+-- Before each turn the steps so far are written behind the first byte, each of bounded length.
 use Prim.Native.Nat.{_+_, _*_, _-_, _≤_}
 use mathlib.Core.Path.{_≡_, refl}
 use native.Mathlib.Omega.{arith}
 use borrow.Author.Needs.{needs}
 use lib.ListN.{length}
+use Rattle.model.specs.Limits.{maxDepth}
 use Rattle.rows.specs.Rows.{Wrote}
 use Rattle.rows.proofs.Parts.{length-part}
 use Rattle.model.specs.Base.{text, joined}
 use Rattle.model.specs.Paths.{stepText, stepsText}
-use Rattle.values.proofs.Writers.{wrote-both}
-use Rattle.steps.specs.Steps.{stepIn, stepsIn}
-use Rattle.paths.proofs.Spelled.{spelled, wrote-none, spelled-step, spelled-all}
+use Rattle.buffers.proofs.Writers.{wrote-none, wrote-both}
+use Rattle.steps.specs.Steps.{stepRow, spelledStep, stepIn, stepsIn}
+use Rattle.paths.proofs.Spelled.{spelled, spelled-step, spelled-all}
 use Rattle.steps.proofs.StepTexts.{step-length}
 use Rattle.steps.proofs.policy.put_steps.Statement.{statement}
 use Rattle.steps.proofs.policy.put_steps.Tie as tie
 
 abbrev Inv-loop : tie.InvT-loop
 Inv-loop out₀ at slot n to₀ i₀ out to i =
-    (i ≤ n) × (to ≤ to₀ + 78 * i) × (length out ≡ length out₀) × Wrote to₀ (spelled stepIn 70 6 stepText slot i) out₀ to out
+    (i ≤ n) × (to ≤ to₀ + spelledStep * i) × (length out ≡ length out₀) × Wrote to₀ (spelled stepIn stepRow maxDepth stepText slot i) out₀ to out
 
 abbrev μ-loop : tie.MeasureT-loop
 μ-loop out₀ at slot n to₀ i₀ out to i = n - i
@@ -32,14 +33,14 @@ loop-holds : tie.Need-loop-holds Inv-loop μ-loop
 unfolding joined
 loop-holds c = (search needs, search needs, refl, wrote-none _ _)
 
-row-requires : tie.Need-row-requires Inv-loop μ-loop
-row-requires c κs = search needs
+row-at-requires : tie.Need-row-at-requires Inv-loop μ-loop
+row-at-requires c κs = search needs
 
 put-step-requires : tie.Need-put-step-requires Inv-loop μ-loop
 put-step-requires c κs =
     let l = c .before .before .before .loop in
     let s = c .before .before .before .before .before .before .before .before .before .before .before .args .slot .now in
-    (rw (c .row .ensures) (length-part (l .i * 70 + 1) 70 s (search needs)), search needs)
+    (c .row-at .ensures .1, search needs)
 
 add-i : tie.Need-add-i Inv-loop μ-loop
 add-i c = search needs
@@ -51,11 +52,11 @@ loop-again : tie.Need-loop-again Inv-loop μ-loop
 loop-again c =
     let l = c .before .before .before .before .before .before .loop in
     let s = c .before .before .before .before .before .before .before .before .before .before .before .before .before .before .args .slot .now in
-    let row = c .before .before .before .row in
+    let row = c .before .before .before .row-at in
     let put = c .before .before .put-step .ensures in
     let k = step-length (row .result .now) in
     let all = wrote-both _ _ _ _ _ _ _ _ (l .inv .3) put in
-    (search needs, omega arith, search needs, rw (spelled-step stepIn 70 6 stepText s (l .i) (search needs), ← row .ensures) all)
+    (search needs, omega arith, search needs, rw (spelled-step stepIn stepRow maxDepth stepText s (l .i) (search needs), ← row .ensures .0) all)
 
 same-length : tie.Need-same-length Inv-loop μ-loop
 same-length c = search needs
@@ -66,7 +67,7 @@ returns c =
     let l = c .before .loop in
     let s = c .before .before .before .before .before .before .before .before .before .args .slot .now in
     let all = wrote-both _ _ _ _ _ _ _ _ (c .before .before .before .before .put-byte .ensures) (l .inv .3) in
-    (rw (← spelled-all stepIn 70 6 stepText s (l .i) (search needs)) all, search needs)
+    (rw (← spelled-all stepIn stepRow maxDepth stepText s (l .i) (search needs)) all, search needs)
 
 pub put-steps-spec : {M : Type 1} → statement M
 put-steps-spec =
@@ -77,7 +78,7 @@ put-steps-spec =
     count-requires
     put-byte-requires
     loop-holds
-    row-requires
+    row-at-requires
     put-step-requires
     add-i
     loop-less

@@ -6,9 +6,9 @@ use lib.ListN.{length, drop}
 use Rattle.rows.specs.Positions.{Takes}
 use Rattle.model.specs.Paths.{readStep, readPath}
 use Rattle.lexical.proofs.Runs.{byte-stands}
-use Rattle.paths.specs.Layout.{counted}
+use Rattle.layout.specs.Layout.{counted}
 use Rattle.paths.proofs.WholePaths.{left, path-unopened, path-opened, left-full, left-bad, left-end}
-use Rattle.steps.specs.Steps.{stepOf, stepsIn}
+use Rattle.steps.specs.Steps.{stepsSlot, stepOf, stepsIn}
 use Rattle.steps.proofs.StepReaders.{step-none, step-takes}
 use Rattle.steps.proofs.StepPushes.{step-turn}
 use borrow.Author.Tests.{not-true, not-false}
@@ -18,7 +18,7 @@ use Rattle.steps.proofs.policy.read_all.Tie as tie
 
 abbrev Inv-loop : tie.InvT-loop
 Inv-loop s slot₀ n₀ at₀ slot n at =
-    (at ≤ length s) × (length slot ≡ 421) × (n ≡ length (stepsIn slot)) × (readPath readStep s ≡ left readStep (stepsIn slot) (drop at s))
+    (at ≤ length s) × (length slot ≡ stepsSlot) × (n ≡ length (stepsIn slot)) × (readPath readStep s ≡ left readStep (stepsIn slot) (drop at s))
 
 abbrev μ-loop : tie.MeasureT-loop
 μ-loop s slot₀ n₀ at₀ slot n at = length s - at

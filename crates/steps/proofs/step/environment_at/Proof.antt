@@ -12,6 +12,7 @@ use borrow.Author.Tests.{not-true, not-false}
 use borrow.Author.Needs.{needs}
 use Rattle.steps.proofs.step.environment_at.Statement.{statement}
 use Rattle.steps.proofs.step.environment_at.Tie as tie
+use Rattle.model.specs.Limits.{maxName}
 
 starts-requires : tie.Need-starts-requires
 starts-requires c κs = search needs
@@ -55,7 +56,7 @@ within : (c : tie.After-known-told)
     → let a = c .before .before .before .before .before .before .before .before .args in
     let from = a .at + length (a .word .now) in
     let to = c .before .to .given .0 .0 in
-    (from + 1 ≤ to) × (to ≤ from + 16) × (to ≤ length (a .s .now))
+    (from + 1 ≤ to) × (to ≤ from + maxName) × (to ≤ length (a .s .now))
 within c =
     let x = c .before .before .before in
     scan-within _ _ _ _ _ _ (x .scan .ensures) (scan-requires (x .before) (x .scan .lifetimes)) _ (c .before .to .given .1)

@@ -6,8 +6,8 @@ use lib.ListN.{length, drop}
 use native.Mathlib.Omega.{arith}
 use Rattle.model.specs.Limits.{maxListed}
 use Rattle.model.specs.Paths.{readNames}
-use Rattle.paths.specs.Layout.{counted}
-use Rattle.steps.specs.Steps.{namesIn}
+use Rattle.layout.specs.Layout.{counted}
+use Rattle.steps.specs.Steps.{namesSlot, namesIn}
 use Rattle.steps.proofs.StepReaders.{NameStands, either-bad, either-at, names-bad, names-full, names-last, names-turn, list-none, list-is}
 use borrow.Author.Tests.{not-true, not-false}
 use borrow.Author.Needs.{needs}
@@ -16,7 +16,7 @@ use Rattle.steps.proofs.step.list_at.Tie as tie
 
 abbrev Inv-loop : tie.InvT-loop
 Inv-loop s at names₀ from₀ n₀ names from n =
-    (at ≤ from) × (from ≤ length s) × (length names ≡ 69) × (n ≡ length (namesIn names))
+    (at ≤ from) × (from ≤ length s) × (length names ≡ namesSlot) × (n ≡ length (namesIn names))
     × (readNames maxListed [] (drop at s) ≡ readNames (maxListed - n) (namesIn names) (drop from s))
 
 abbrev μ-loop : tie.MeasureT-loop
@@ -55,20 +55,20 @@ add-a c = omega (arith, stands c)
 sub-b : tie.Need-sub-b Inv-loop μ-loop
 sub-b c = omega (arith, stands c)
 
-slice-aggregate-push-name : tie.Need-slice-aggregate-push-name Inv-loop μ-loop
-slice-aggregate-push-name c = search needs
+slice-aggregate-push-key : tie.Need-slice-aggregate-push-key Inv-loop μ-loop
+slice-aggregate-push-key c = search needs
 
-sub-push-name : tie.Need-sub-push-name Inv-loop μ-loop
-sub-push-name c = omega (arith, stands (c .before))
+sub-push-key : tie.Need-sub-push-key Inv-loop μ-loop
+sub-push-key c = omega (arith, stands (c .before))
 
-part-push-name-start : tie.Need-part-push-name-start Inv-loop μ-loop
-part-push-name-start c = omega (arith, stands (c .before))
+part-push-key-start : tie.Need-part-push-key-start Inv-loop μ-loop
+part-push-key-start c = omega (arith, stands (c .before))
 
-part-push-name-end : tie.Need-part-push-name-end Inv-loop μ-loop
-part-push-name-end c = omega (arith, stands (c .before))
+part-push-key-end : tie.Need-part-push-key-end Inv-loop μ-loop
+part-push-key-end c = omega (arith, stands (c .before))
 
-push-name-requires : tie.Need-push-name-requires Inv-loop μ-loop
-push-name-requires c κs = search needs
+push-key-requires : tie.Need-push-key-requires Inv-loop μ-loop
+push-key-requires c κs = search needs
 
 is-at-requires : tie.Need-is-at-requires Inv-loop μ-loop
 is-at-requires c κs = search needs
@@ -85,7 +85,7 @@ returns-2 c =
     let t = k .before .before .before .before in
     let l = t .before .loop in
     let comma = sym (w .is-at .ensures) ∙ not-true _ (c .before .if1 .taken) in
-    let last = names-last _ _ _ (stands k) (namesIn (l .names)) _ (push .push-name .ensures) (l .n) (l .inv .3) (t .loop-test .taken) comma in
+    let last = names-last _ _ _ (stands k) (namesIn (l .names)) _ (push .push-key .ensures) (l .n) (l .inv .3) (t .loop-test .taken) comma in
     c .found .ensures ∙ list-is _ _ _ _ (omega (arith, stands k)) (stands k .reads .to) (l .inv .4 ∙ last)
 
 add-from : tie.Need-add-from Inv-loop μ-loop
@@ -106,8 +106,8 @@ loop-again c =
     let t = k .before .before .before .before in
     let l = t .before .loop in
     let comma = sym (w .is-at .ensures) ∙ not-false _ (c .if1 .left) in
-    let turn = names-turn _ _ _ (stands k) (namesIn (l .names)) _ (push .push-name .ensures) (l .n) (l .inv .3) (t .loop-test .taken) comma in
-    (omega (arith, stands k), turn .0, push .push-name .kept .0 ∙ l .inv .2, turn .1, l .inv .4 ∙ turn .2)
+    let turn = names-turn _ _ _ (stands k) (namesIn (l .names)) _ (push .push-key .ensures) (l .n) (l .inv .3) (t .loop-test .taken) comma in
+    (omega (arith, stands k), turn .0, push .push-key .kept .0 ∙ l .inv .2, turn .1, l .inv .4 ∙ turn .2)
 
 no-step-requires-2 : tie.Need-no-step-requires-2 Inv-loop μ-loop
 no-step-requires-2 c κs = search needs
@@ -131,11 +131,11 @@ list-at-spec =
     returns
     add-a
     sub-b
-    slice-aggregate-push-name
-    sub-push-name
-    part-push-name-start
-    part-push-name-end
-    push-name-requires
+    slice-aggregate-push-key
+    sub-push-key
+    part-push-key-start
+    part-push-key-end
+    push-key-requires
     is-at-requires
     found-requires
     returns-2

@@ -12,7 +12,7 @@ use Rattle.model.specs.Base.{if_then_else_, any}
 use Rattle.model.specs.Rights.{conflictsWith}
 use Rattle.model.specs.Opening.{conflictFrom}
 use Rattle.steps.specs.Steps.{stepsIn}
-use Rattle.tables.specs.Memory.{policyIn}
+use Rattle.tables.specs.Memory.{pathAt, policyIn}
 use Rattle.tables.proofs.Policy.{rule-inside, conflict-from, rules-over}
 use Rattle.tables.proofs.conflicts.first_conflict.Statement.{statement}
 use Rattle.tables.proofs.conflicts.first_conflict.Tie as tie
@@ -30,7 +30,7 @@ turn : (c : tie.After-is-write Inv-loop μ-loop)
     let p = policyIn (c .before .before .before .before .before .before .args .policy .now) in
     let row = c .before .row-at .result .now in
     conflictFrom 2 [] p
-    ≡ (if c .is-write .result && any (conflictsWith (stepsIn (take (length row - 18) (drop 18 row)))) (take i p) then some (i + 2)
+    ≡ (if c .is-write .result && any (conflictsWith (stepsIn (take (length row - pathAt) (drop pathAt row)))) (take i p) then some (i + 2)
     else conflictFrom (i + 1 + 2) (take (i + 1) p) (drop (i + 1) p))
 turn c =
     let k = c .before in
@@ -45,7 +45,7 @@ loop-holds : tie.Need-loop-holds Inv-loop μ-loop
 loop-holds c = (search needs, refl)
 
 row-at-requires : tie.Need-row-at-requires Inv-loop μ-loop
-row-at-requires c κs = (rule-inside _ (c .before .before .row-count .ensures) (c .before .loop .i) (c .loop-test .taken) (search needs), search needs)
+row-at-requires c κs = rule-inside _ (c .before .before .row-count .ensures) (c .before .loop .i) (c .loop-test .taken) (search needs)
 
 is-write-requires : tie.Need-is-write-requires Inv-loop μ-loop
 is-write-requires c κs = search needs

@@ -11,7 +11,7 @@ use borrow.Author.Needs.{needs}
 use Rattle.model.specs.Base.{any}
 use Rattle.model.specs.Rights.{conflict, conflictsWith}
 use Rattle.steps.specs.Steps.{stepsIn}
-use Rattle.tables.specs.Memory.{policyIn}
+use Rattle.tables.specs.Memory.{pathAt, policyIn}
 use Rattle.tables.proofs.Policy.{rule-inside, conflict-rule, rules-over}
 use Rattle.tables.proofs.conflicts.has_conflict.Statement.{statement}
 use Rattle.tables.proofs.conflicts.has_conflict.Tie as tie
@@ -29,7 +29,7 @@ turn : (c : tie.After-is-write Inv-loop μ-loop)
     let a = c .before .before .before .before .before .before .before .before .args in
     let row = c .before .row-at .result .now in
     any (conflictsWith (stepsIn (a .steps .now))) (take (a .n) (policyIn (a .policy .now)))
-    ≡ ((c .is-write .result && conflict (stepsIn (a .steps .now)) (stepsIn (take (length row - 18) (drop 18 row))))
+    ≡ ((c .is-write .result && conflict (stepsIn (a .steps .now)) (stepsIn (take (length row - pathAt) (drop pathAt row))))
     || any (conflictsWith (stepsIn (a .steps .now))) (take (a .n - (i + 1)) (drop (i + 1) (policyIn (a .policy .now)))))
 turn c =
     let k = c .before in
@@ -52,7 +52,7 @@ returns c =
     sym (l .inv .1 ∙ rw e)
 
 row-at-requires : tie.Need-row-at-requires Inv-loop μ-loop
-row-at-requires c κs = (rule-inside _ (c .before .before .before .row-count .ensures) (c .before .before .loop .i) (c .before .loop-test .taken) (search needs), search needs)
+row-at-requires c κs = rule-inside _ (c .before .before .before .row-count .ensures) (c .before .before .loop .i) (c .before .loop-test .taken) (search needs)
 
 is-write-requires : tie.Need-is-write-requires Inv-loop μ-loop
 is-write-requires c κs = search needs

@@ -1,5 +1,10 @@
 -- The value is written and then the name before it: each part is read back, and the first byte is the length of a name that is not empty.
-use Rattle.tables.proofs.Pushed.{named, binding-put}
+use Rattle.layout.proofs.Named.{named-part, length-named}
+use Rattle.tables.proofs.Pushed.{binding-put}
+use Rattle.model.specs.Limits.{maxName, maxKey}
+use native.Mathlib.Omega.{arith}
+use Rattle.layout.specs.Layout.{nameRow, keyRow}
+use Rattle.rows.specs.Rows.{replaced}
 use borrow.Author.Needs.{needs}
 use Rattle.tables.proofs.push.put_binding.Statement.{statement}
 use Rattle.tables.proofs.push.put_binding.Tie as tie
@@ -36,9 +41,10 @@ returns c =
     let s = c .before .before .before .before .before .before .before .before .before .before .before in
     let value = c .before .before .before .before .before .before .put-name in
     let name = c .before .before .put-name2 in
-    let v = named (s .args .value .now) _ (put-name-requires (c .before .before .before .before .before .before .before) (value .lifetimes)) (value .ensures) in
-    let n = named (s .args .name .now) _ (put-name-requires-2 (c .before .before .before) (name .lifetimes)) (name .ensures) in
-    binding-put (s .args .row .now) (s .pre .0) v n (s .pre .1)
+    let row = s .args .row .now in
+    let v = named-part maxKey nameRow (s .args .value .now) row (omega (arith, s .pre .0)) (value .ensures) in
+    let n = named-part maxName 0 (s .args .name .now) (replaced nameRow keyRow (value .last .0) row) (omega (arith, s .pre .0, length-named maxKey nameRow row v (omega (arith, s .pre .0)))) (name .ensures) in
+    binding-put row (s .pre .0) v n (s .pre .1)
 
 pub put-binding-spec : {M : Type 1} → statement M
 put-binding-spec =

@@ -1,6 +1,13 @@
 -- The access and the steps are written and then the role before them: each is read back, and the first byte is the length of a role that is not empty.
-use Rattle.values.proofs.Writers.{wrote-both}
-use Rattle.tables.proofs.Pushed.{named, rule-put}
+use Rattle.buffers.proofs.Writers.{wrote-both}
+use Rattle.layout.proofs.Named.{named-part}
+use Rattle.tables.proofs.Pushed.{rule-put}
+use Rattle.model.specs.Limits.{maxName}
+use mathlib.Core.Path.{ap, _∙_}
+use lib.ListN.{length}
+use native.Mathlib.Omega.{arith}
+use Rattle.rows.proofs.Writing.{length-written}
+use Rattle.tables.specs.Memory.{accessAt}
 use borrow.Author.Needs.{needs}
 use Rattle.tables.proofs.push.put_rule.Statement.{statement}
 use Rattle.tables.proofs.push.put_rule.Tie as tie
@@ -30,8 +37,9 @@ returns : tie.Need-returns
 returns c =
     let s = c .before .before .before .before .before .before .before .before .before .before .before .before .before .before .before in
     let role = c .before .before .put-name in
-    let n = named (s .args .role .now) _ (put-name-requires (c .before .before .before) (role .lifetimes)) (role .ensures) in
     let tail = wrote-both _ _ _ _ _ _ _ _ (c .before .before .before .before .before .before .before .before .before .before .put-byte .ensures) (c .before .before .before .before .before .before .put .ensures) in
+    let long = length-written accessAt _ (s .args .row .now) in
+    let n = named-part maxName 0 (s .args .role .now) (c .before .before .before .before .before .before .put .last .0) (omega (arith, s .pre .0, ap length (tail .1) ∙ long)) (role .ensures) in
     rule-put (s .args .row .now) (s .args .access) (s .args .steps .now) (s .pre .0) (s .pre .2) (tail .1) n (s .pre .1)
 
 pub put-rule-spec : {M : Type 1} → statement M

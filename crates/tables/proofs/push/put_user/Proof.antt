@@ -1,6 +1,15 @@
 -- The quota, an empty first line, the key, the role and the name are written from the end of the row on, so that each leaves what is behind it: each is read back.
-use Rattle.values.proofs.Writers.{wrote-both}
-use Rattle.tables.proofs.Pushed.{named, user-put}
+use Rattle.buffers.proofs.Writers.{wrote-both}
+use Rattle.layout.proofs.Named.{named-part, length-named}
+use Rattle.tables.proofs.Pushed.{user-put}
+use Rattle.model.specs.Limits.{maxName}
+use mathlib.Core.Path.{ap, _∙_}
+use native.Mathlib.Omega.{arith}
+use lib.ListN.{length}
+use Rattle.rows.specs.Rows.{replaced}
+use Rattle.layout.specs.Layout.{nameRow}
+use Rattle.rows.proofs.Writing.{length-written}
+use Rattle.tables.specs.Memory.{roleAt, keyAt, quotaAt}
 use borrow.Author.Needs.{needs}
 use Rattle.tables.proofs.push.put_user.Statement.{statement}
 use Rattle.tables.proofs.push.put_user.Tie as tie
@@ -66,11 +75,17 @@ returns c =
     let key = c .before .before .before .before .before .before .before .before .before .before .put-name in
     let role = c .before .before .before .before .before .before .put-name2 in
     let name = c .before .before .put-name3 in
-    let k = named (s .args .key .now) _ (put-name-requires (c .before .before .before .before .before .before .before .before .before .before .before) (key .lifetimes)) (key .ensures) in
-    let r = named (s .args .role .now) _ (put-name-requires-2 (c .before .before .before .before .before .before .before) (role .lifetimes)) (role .ensures) in
-    let n = named (s .args .name .now) _ (put-name-requires-3 (c .before .before .before) (name .lifetimes)) (name .ensures) in
     let both = wrote-both _ _ _ _ _ _ _ _ (bytes .before .before .before .before .before .before .before .before .put-byte .ensures) (bytes .before .before .before .before .put-byte2 .ensures) in
     let tail = wrote-both _ _ _ _ _ _ _ _ both (bytes .put-byte3 .ensures) in
+    let s₀ = bytes .put-byte3 .last .0 in
+    let s₁ = replaced keyAt nameRow (key .last .0) s₀ in
+    let s₂ = replaced roleAt nameRow (role .last .0) s₁ in
+    let long = ap length (tail .1) ∙ length-written quotaAt _ (s .args .row .now) in
+    let k = named-part maxName keyAt (s .args .key .now) s₀ (omega (arith, s .pre .0, long)) (key .ensures) in
+    let two = length-named maxName keyAt s₀ k (omega (arith, s .pre .0, long)) in
+    let r = named-part maxName roleAt (s .args .role .now) s₁ (omega (arith, s .pre .0, long, two)) (role .ensures) in
+    let three = length-named maxName roleAt s₁ r (omega (arith, s .pre .0, long, two)) in
+    let n = named-part maxName 0 (s .args .name .now) s₂ (omega (arith, s .pre .0, long, two, three)) (name .ensures) in
     user-put (s .args .row .now) (s .args .quota) (s .pre .0) (tail .1) k r n (s .pre .1)
 
 pub put-user-spec : {M : Type 1} → statement M

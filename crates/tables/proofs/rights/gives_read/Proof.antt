@@ -3,7 +3,7 @@ use mathlib.Core.Path.{sym, _∙_}
 use borrow.Author.Tests.{not-true, not-false}
 use borrow.Author.Needs.{needs}
 use Rattle.rows.proofs.Parts.{tail-part}
-use Rattle.tables.specs.Memory.{ruleIn}
+use Rattle.tables.specs.Memory.{pathAt, ruleIn}
 use Rattle.tables.specs.Grants.{givesRead}
 use Rattle.tables.proofs.rights.gives_read.Statement.{statement}
 use Rattle.tables.proofs.rights.gives_read.Tie as tie
@@ -29,7 +29,7 @@ part-lines-match-end c = search needs
 
 lines-match-requires : tie.Need-lines-match-requires
 unfolding ruleIn
-lines-match-requires c κs = (search needs, rw (tail-part 18 _) (c .before .before .before .before .before .before .before .pre .1))
+lines-match-requires c κs = (search needs, rw (tail-part pathAt _) (c .before .before .before .before .before .before .before .pre .1))
 
 returns-2 : tie.Need-returns-2
 unfolding givesRead ruleIn

@@ -8,10 +8,10 @@ use Rattle.rows.specs.Marks.{marked}
 use Rattle.rows.proofs.Marks.{marking, marking-step, marking-end}
 use Rattle.model.specs.Limits.{maxUsers}
 use Rattle.paths.specs.Layout.{pathIn}
-use Rattle.steps.specs.Environments.{isEmptyRow}
-use Rattle.tables.specs.Memory.{userIn, usersIn, ruleIn}
+use Rattle.layout.specs.Layout.{inUse}
+use Rattle.tables.specs.Memory.{userRow, userIn, usersIn, ruleIn}
 use Rattle.tables.specs.Grants.{givesRead}
-use Rattle.tables.proofs.Tabled.{counted-within}
+use Rattle.layout.proofs.Used.{used-fit}
 use Rattle.tables.proofs.Users.{users-over, user-inside, user-left}
 use Rattle.tables.proofs.rights.mark_readers.Statement.{statement}
 use Rattle.tables.proofs.rights.mark_readers.Tie as tie
@@ -28,14 +28,15 @@ loop-holds c = (search needs, refl)
 
 row-at-requires : tie.Need-row-at-requires Inv-loop μ-loop
 row-at-requires c κs =
-    (user-inside _ (c .before .before .before .before .before .pre .1 .0) (c .before .loop .j) (c .loop-test .taken) (search needs), search needs)
+    user-inside _ (c .before .before .before .before .before .pre .1 .0) (c .before .loop .j) (c .loop-test .taken) (search needs)
 
 gives-read-requires : tie.Need-gives-read-requires Inv-loop μ-loop
 gives-read-requires c κs = (search needs, c .before .before .before .before .before .before .pre .1 .1)
 
 element-write-marks : tie.Need-element-write-marks Inv-loop μ-loop
 element-write-marks c =
-    omega (arith, counted-within isEmptyRow userIn 597 maxUsers _ (c .before .before .before .before .before .before .before .before .pre .1 .0))
+    let s = c .before .before .before .before .before .before .before .before in
+    omega (arith, s .pre .1 .0, used-fit userRow maxUsers (s .args .tables .now))
 
 add-j : tie.Need-add-j Inv-loop μ-loop
 add-j c = search needs

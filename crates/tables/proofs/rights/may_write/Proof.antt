@@ -27,7 +27,7 @@ unfolding mayWrite givesWrite
 loop-holds c = (search needs, refl)
 
 row-at-requires : tie.Need-row-at-requires Inv-loop μ-loop
-row-at-requires c κs = (rule-inside _ (c .before .before .row-count .ensures) (c .before .loop .i) (c .loop-test .taken) (search needs), search needs)
+row-at-requires c κs = rule-inside _ (c .before .before .row-count .ensures) (c .before .loop .i) (c .loop-test .taken) (search needs)
 
 gives-write-requires : tie.Need-gives-write-requires Inv-loop μ-loop
 gives-write-requires c κs = search needs

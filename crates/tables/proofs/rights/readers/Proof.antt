@@ -5,7 +5,7 @@ use mathlib.Core.Logic.{⊎-elim}
 use borrow.Author.Needs.{needs}
 use Rattle.rows.proofs.Parts.{tail-part}
 use Rattle.paths.specs.Layout.{pathIn}
-use Rattle.tables.specs.Memory.{ruleIn}
+use Rattle.tables.specs.Memory.{usersBytes, pathAt, ruleIn}
 use Rattle.tables.proofs.Policy.{rule-inside}
 use Rattle.tables.proofs.Given.{ReadersLeft, readers-start, readers-end, readers-same, readers-more}
 use Rattle.tables.proofs.rights.readers.Statement.{statement}
@@ -33,10 +33,10 @@ row-count-requires-2 : tie.Need-row-count-requires-2 Inv-loop μ-loop
 row-count-requires-2 c κs = search needs
 
 loop-holds : tie.Need-loop-holds Inv-loop μ-loop
-loop-holds c = let s = c .before .before .before .before .before .args .tables .now in (search needs, readers-start s _ _ (tail-part 19104 s))
+loop-holds c = let s = c .before .before .before .before .before .args .tables .now in (search needs, readers-start s _ _ (tail-part usersBytes s))
 
 row-at-requires : tie.Need-row-at-requires Inv-loop μ-loop
-row-at-requires c κs = (rule-inside _ (c .before .before .row-count2 .ensures) (c .before .loop .i) (c .loop-test .taken) (search needs), search needs)
+row-at-requires c κs = rule-inside _ (c .before .before .row-count2 .ensures) (c .before .loop .i) (c .loop-test .taken) (search needs)
 
 sub-may-match : tie.Need-sub-may-match Inv-loop μ-loop
 sub-may-match c = search needs
@@ -54,7 +54,7 @@ mark-readers-requires : tie.Need-mark-readers-requires Inv-loop μ-loop
 unfolding ruleIn
 mark-readers-requires c κs =
     let k = c .before .before in
-    let may = rw (tail-part 18 _) at (sym (k .may-match .ensures) ∙ c .before .if1 .taken) in
+    let may = rw (tail-part pathAt _) at (sym (k .may-match .ensures) ∙ c .before .if1 .taken) in
     (search needs, (k .before .before .before .before .before .before .before .row-count .ensures, may))
 
 add-i : tie.Need-add-i Inv-loop μ-loop

@@ -19,16 +19,13 @@ returns c = rw (row-short _ _ _ _ (c .before .before .count .ensures) (c .before
 add-row-requires : tie.Need-add-row-requires
 add-row-requires c κs = search needs
 
-same-length : tie.Need-same-length
-same-length c = search needs
-
 returns-2 : tie.Need-returns-2
 returns-2 c =
-    let k = c .before .before .before .before in
+    let k = c .before .before in
     rw (row-whole _ _ _ _ (k .before .before .count .ensures) (k .before .count2 .ensures) (k .if1 .left))
-    (c .before .before .add-row .ensures)
+    (c .add-row .ensures)
 
 pub read-row-spec : {M : Type 1} → statement M
 read-row-spec =
     tie.close
-    (tie.spec count-requires count-requires-2 returns add-row-requires same-length returns-2)
+    (tie.spec count-requires count-requires-2 returns add-row-requires returns-2)

@@ -15,7 +15,7 @@ use Rattle.tabletext.proofs.read.read_table.Tie as tie
 
 abbrev Inv-loop : tie.InvT-loop
 Inv-loop t tables₀ s end head at₀ n₀ tables at n =
-    (length tables ≡ 47200) × (at ≤ length s) × (n ≤ at + 1) × Left (tableOf t) (tablesIn tables₀) s (split head) n at (tablesIn tables)
+    (at ≤ length s) × (n ≤ at + 1) × Left (tableOf t) (tablesIn tables₀) s (split head) n at (tablesIn tables)
 
 abbrev μ-loop : tie.MeasureT-loop
 μ-loop t tables₀ s end head at₀ n₀ tables at n = length s - at
@@ -47,16 +47,13 @@ loop-holds : tie.Need-loop-holds Inv-loop μ-loop
 loop-holds c =
     let u = c .before .before .before .before in
     let w = run-within _ _ _ _ (u .until .ensures) (search needs) in
-    (search needs, omega arith, omega arith, head-right _ _ _ _ (u .until .ensures) (omega arith) (sym (c .before .is-head .ensures) ∙ not-false _ (c .if2 .left)))
+    (omega arith, omega arith, head-right _ _ _ _ (u .until .ensures) (omega arith) (sym (c .before .is-head .ensures) ∙ not-false _ (c .if2 .left)))
 
 until-requires-2 : tie.Need-until-requires-2 Inv-loop μ-loop
 until-requires-2 c κs = search needs
 
-same-length : tie.Need-same-length Inv-loop μ-loop
-same-length c = search needs
-
 returns-3 : tie.Need-returns-3 Inv-loop μ-loop
-returns-3 c = left-broken _ _ _ _ _ _ _ (c .before .before .before .loop .inv .3) _ (c .before .until2 .ensures) (c .before .before .loop-test .taken) (c .if3 .taken)
+returns-3 c = left-broken _ _ _ _ _ _ _ (c .before .before .before .loop .inv .2) _ (c .before .until2 .ensures) (c .before .before .loop-test .taken) (c .if3 .taken)
 
 sub-read-row : tie.Need-sub-read-row Inv-loop μ-loop
 sub-read-row c = run-within _ _ _ _ (c .before .before .until2 .ensures) (search needs) .0
@@ -68,48 +65,42 @@ part-read-row-end : tie.Need-part-read-row-end Inv-loop μ-loop
 part-read-row-end c = run-within _ _ _ _ (c .before .before .until2 .ensures) (search needs) .1
 
 read-row-requires : tie.Need-read-row-requires Inv-loop μ-loop
-read-row-requires c κs = (search needs, simp length-take (omega arith), simp (length-take, length-drop) (omega arith))
+read-row-requires c κs = (simp length-take (omega arith), simp (length-take, length-drop) (omega arith))
 
 enum-known-e : tie.Need-enum-known-e Inv-loop μ-loop
 enum-known-e c = search needs
 
-same-length-2 : tie.Need-same-length-2 Inv-loop μ-loop
-same-length-2 c = search needs
-
 returns-4 : tie.Need-returns-4 Inv-loop μ-loop
 returns-4 c =
-    let k = c .before .before .before .before .before in
+    let k = c .before .before .before in
     let u = k .before .before .before .before in
     let l = u .before .before .loop in
-    let w = run-within _ _ _ _ (u .until2 .ensures) (l .inv .1) in
-    left-refused _ _ _ _ _ _ _ (l .inv .3) _ (u .until2 .ensures) (omega arith) _ _ (k .read-row .ensures .0) (k .read-row .ensures .1) _ (c .before .e .given .1)
+    let w = run-within _ _ _ _ (u .until2 .ensures) (l .inv .0) in
+    left-refused _ _ _ _ _ _ _ (l .inv .2) _ (u .until2 .ensures) (omega arith) _ _ (k .read-row .ensures .0) (k .read-row .ensures .1) _ (c .before .e .given .1)
 
 enum-told : tie.Need-enum-told Inv-loop μ-loop
 enum-told c = search needs
 
 add-at-2 : tie.Need-add-at-2 Inv-loop μ-loop
-add-at-2 c = let w = run-within _ _ _ _ (c .before .before .before .before .before .before .before .before .until2 .ensures) (search needs) in omega arith
+add-at-2 c = let w = run-within _ _ _ _ (c .before .before .before .before .before .before .until2 .ensures) (search needs) in omega arith
 
 add-n : tie.Need-add-n Inv-loop μ-loop
 add-n c = search needs
 
 loop-less : tie.Need-loop-less Inv-loop μ-loop
-loop-less c = let w = run-within _ _ _ _ (c .before .before .before .before .before .before .before .before .until2 .ensures) (search needs) in omega arith
+loop-less c = let w = run-within _ _ _ _ (c .before .before .before .before .before .before .until2 .ensures) (search needs) in omega arith
 
 loop-again : tie.Need-loop-again Inv-loop μ-loop
 loop-again c =
-    let k = c .before .before .before .before in
+    let k = c .before .before in
     let u = k .before .before .before .before in
     let l = u .before .before .loop in
-    let w = run-within _ _ _ _ (u .until2 .ensures) (l .inv .1) in
-    let next = left-done _ _ _ _ _ _ _ (l .inv .3) _ (u .until2 .ensures) (omega arith) _ _ (k .read-row .ensures .0) (k .read-row .ensures .1) (c .enum-told .given .1) in
-    (search needs, omega arith, omega arith, next)
-
-same-length-3 : tie.Need-same-length-3 Inv-loop μ-loop
-same-length-3 c = search needs
+    let w = run-within _ _ _ _ (u .until2 .ensures) (l .inv .0) in
+    let next = left-done _ _ _ _ _ _ _ (l .inv .2) _ (u .until2 .ensures) (omega arith) _ _ (k .read-row .ensures .0) (k .read-row .ensures .1) (c .enum-told .given .1) in
+    (omega arith, omega arith, next)
 
 returns-5 : tie.Need-returns-5 Inv-loop μ-loop
-returns-5 c = left-none _ _ _ _ _ _ _ (c .before .loop .inv .3) (c .loop-test .left)
+returns-5 c = left-none _ _ _ _ _ _ _ (c .before .loop .inv .2) (c .loop-test .left)
 
 pub read-table-spec : {M : Type 1} → statement M
 read-table-spec =
@@ -125,19 +116,16 @@ read-table-spec =
     add-at
     loop-holds
     until-requires-2
-    same-length
     returns-3
     sub-read-row
     part-read-row-start
     part-read-row-end
     read-row-requires
     enum-known-e
-    same-length-2
     returns-4
     enum-told
     add-at-2
     add-n
     loop-less
     loop-again
-    same-length-3
     returns-5)

@@ -13,6 +13,7 @@ use Rattle.tabletext.proofs.Added.{passed, failed, refuses, plain-named
 use Rattle.tabletext.proofs.Added.{binding-unnamed, binding-lost, binding-doubled, binding-full, binding-added}
 use Rattle.tabletext.proofs.row.add_binding.Statement.{statement}
 use Rattle.tabletext.proofs.row.add_binding.Tie as tie
+use Rattle.tables.specs.Memory.{userRow, usersBytes}
 
 -- the line's values under its columns
 abbrev val : tie.Start → Bytes → Bytes
@@ -41,7 +42,7 @@ found : (c : tie.After-known-told) → let s = start (c .before .before .before 
 unfolding text
 found c = stands _ (user-known _ (c .before .before .before .before .before .before .before .before .before .before .before .before .before .before .before .value-under .ensures) (c .before .before .before .find-user .ensures) (c .before .i .given .1) .1)
 
-inside : (c : tie.After-known-told) → c .before .i .given .0 .0 * 597 + 597 ≤ 19104
+inside : (c : tie.After-known-told) → c .before .i .given .0 .0 * userRow + userRow ≤ usersBytes
 inside c = found c .inside
 
 -- what the search for the line said, and that it found none

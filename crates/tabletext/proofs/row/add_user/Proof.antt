@@ -131,7 +131,7 @@ returns-5 c =
     refuses _ (user-bad _ _ (names (c .before .before .before .before .before .before .before .before)) (one-role (c .before .before .before .before .before)) (rw (← c .before .before .before .value-under4 .ensures) bad))
 
 find-user-requires : tie.Need-find-user-requires
-find-user-requires c κs = let s = start (c .before .before .before .before .before .before .before .before .before .before .before .before .before .before) in (omega (arith, s .pre .0), omega (arith, s .pre .0))
+find-user-requires c κs = let s = start (c .before .before .before .before .before .before .before .before .before .before .before .before .before .before) in omega (arith, s .pre .0)
 
 enum-told-2 : tie.Need-enum-told-2
 enum-told-2 c = search needs
@@ -150,7 +150,7 @@ enum-told-3 : tie.Need-enum-told-3
 enum-told-3 c = search needs
 
 row-count-requires : tie.Need-row-count-requires
-row-count-requires c κs = let s = start (c .before .before .before .before .before .before .before .before .before .before .before .before .before .before .before .before .before .before) in (omega (arith, s .pre .0), omega (arith, s .pre .0), omega arith)
+row-count-requires c κs = let s = start (c .before .before .before .before .before .before .before .before .before .before .before .before .before .before .before .before .before .before) in (omega arith, omega (arith, s .pre .0))
 
 same-length-2 : tie.Need-same-length-2
 same-length-2 c = search needs

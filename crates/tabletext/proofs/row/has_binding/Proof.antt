@@ -7,7 +7,7 @@ use lib.ListN.{drop}
 use borrow.Author.Needs.{needs}
 use Rattle.model.specs.Base.{any}
 use Rattle.model.specs.Tables.{sameBinding}
-use Rattle.steps.specs.Environments.{bindingsIn}
+use Rattle.steps.specs.Environments.{bindingRow, bindingsBytes, bindingsIn}
 use Rattle.tabletext.proofs.Bindings.{binding-inside, binding-left, binding-over}
 use Rattle.tabletext.proofs.row.has_binding.Statement.{statement}
 use Rattle.tabletext.proofs.row.has_binding.Tie as tie
@@ -20,7 +20,7 @@ abbrev μ-loop : tie.MeasureT-loop
 μ-loop lines name value n i₀ i = n - i
 
 -- the row at i is inside
-inside : (c : tie.In-loop Inv-loop μ-loop) → c .before .loop .i * 34 + 34 ≤ 544
+inside : (c : tie.In-loop Inv-loop μ-loop) → c .before .loop .i * bindingRow + bindingRow ≤ bindingsBytes
 inside c = binding-inside _ (c .before .before .row-count .ensures) (c .before .loop .i) (c .loop-test .taken)
 
 row-count-requires : tie.Need-row-count-requires Inv-loop μ-loop

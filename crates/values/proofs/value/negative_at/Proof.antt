@@ -20,7 +20,7 @@ is-at-requires : tie.Need-is-at-requires
 is-at-requires c κs = search needs
 
 returns : tie.Need-returns
-returns c = negative-unsigned _ _ (sym (c .before .is-at .ensures) ∙ not-true _ (c .if1 .taken))
+returns c = (negative-unsigned _ _ (sym (c .before .is-at .ensures) ∙ not-true _ (c .if1 .taken)), tt)
 
 -- the sign stands there
 signed : (c : tie.Else1) → let a = c .before .before .before .args in isSome (after (0x2D ∷ []) (drop (a .at) (a .s .now))) ≡ true
@@ -53,20 +53,22 @@ enum-told c = search needs
 returns-2 : tie.Need-returns-2
 returns-2 c =
     let r = c .before .before .before .before in
-    negative-bad _ _ (signed (r .before)) _ (r .run .ensures) (told numberAnswer (c .before .before .number .ensures) (c .enum-told .given .1))
+    (negative-bad _ _ (signed (r .before)) _ (r .run .ensures) (told numberAnswer (c .before .before .number .ensures) (c .enum-told .given .1)), tt)
 
 returns-3 : tie.Need-returns-3
 returns-3 c =
     let k = c .before .before in
     let r = k .before .before .before .before in
-    negative-zero _ _ (signed (r .before)) _ (r .run .ensures) _ (c .if2 .taken) (told numberAnswer (k .before .before .number .ensures) (k .n .given .1))
+    (negative-zero _ _ (signed (r .before)) _ (r .run .ensures) _ (c .if2 .taken) (told numberAnswer (k .before .before .number .ensures) (k .n .given .1)), tt)
 
 returns-4 : tie.Need-returns-4
 returns-4 c =
     let k = c .before .before .before in
-    let r = k .before .before .before .before in
-    negative-is _ _ (signed (r .before)) _ (r .run .ensures) _ _ (c .before .if2 .left) (rw (c .if3 .taken))
-    (told numberAnswer (k .before .before .number .ensures) (k .n .given .1))
+    let r = k .before .before .before .before in (
+      negative-is _ _ (signed (r .before)) _ (r .run .ensures) _ _ (c .before .if2 .left) (rw (c .if3 .taken))
+          (told numberAnswer (k .before .before .number .ensures) (k .n .given .1)),
+      tt,
+    )
 
 -- any other is below the smallest one's size
 below : (c : tie.Else3) → c .before .before .before .n .given .0 .0 ≤ 2147483647
@@ -74,18 +76,20 @@ below c =
     let k = c .before .before .before in
     omega (arith, c .if3 .left, number-some _ _ _ (told numberAnswer (k .before .before .number .ensures) (k .n .given .1)) .2)
 
-cast-t14 : tie.Need-cast-t14
-cast-t14 c = cast-fits _ (below c)
+cast-t15 : tie.Need-cast-t15
+cast-t15 c = cast-fits _ (below c)
 
-sub-t15 : tie.Need-sub-t15
-sub-t15 c = minus-fits _ (c .before .if2 .left) (below c)
+sub-t16 : tie.Need-sub-t16
+sub-t16 c = minus-fits _ (c .before .if2 .left) (below c)
 
 returns-5 : tie.Need-returns-5
 returns-5 c =
     let k = c .before .before .before in
-    let r = k .before .before .before .before in
-    negative-is _ _ (signed (r .before)) _ (r .run .ensures) _ _ (c .before .if2 .left) (minus-is _ (c .before .if2 .left) (below c))
-    (told numberAnswer (k .before .before .number .ensures) (k .n .given .1))
+    let r = k .before .before .before .before in (
+      negative-is _ _ (signed (r .before)) _ (r .run .ensures) _ _ (c .before .if2 .left) (minus-is _ (c .before .if2 .left) (below c))
+          (told numberAnswer (k .before .before .number .ensures) (k .n .given .1)),
+      tt,
+    )
 
 pub negative-at-spec : {M : Type 1} → statement M
 negative-at-spec =
@@ -104,6 +108,6 @@ negative-at-spec =
     returns-2
     returns-3
     returns-4
-    cast-t14
-    sub-t15
+    cast-t15
+    sub-t16
     returns-5)

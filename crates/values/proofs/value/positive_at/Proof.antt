@@ -31,7 +31,7 @@ enum-told c = search needs
 returns : tie.Need-returns
 returns c =
     let r = c .before .before .before .before in
-    positive-bad _ _ _ (r .run .ensures) (told numberAnswer (c .before .before .number .ensures) (c .enum-told .given .1))
+    (positive-bad _ _ _ (r .run .ensures) (told numberAnswer (c .before .before .number .ensures) (c .enum-told .given .1)), tt)
 
 cast-t11 : tie.Need-cast-t11
 cast-t11 c = cast-fits _ (number-some _ _ _ (told numberAnswer (c .before .before .before .number .ensures) (c .before .n .given .1)) .2)
@@ -39,7 +39,7 @@ cast-t11 c = cast-fits _ (number-some _ _ _ (told numberAnswer (c .before .befor
 returns-2 : tie.Need-returns-2
 returns-2 c =
     let r = c .before .before .before .before .before in
-    positive-is _ _ _ (r .run .ensures) (r .before .before .pre) _ (told numberAnswer (c .before .before .before .number .ensures) (c .before .n .given .1))
+    (positive-is _ _ _ (r .run .ensures) (r .before .before .pre) _ (told numberAnswer (c .before .before .before .number .ensures) (c .before .n .given .1)), tt)
 
 pub positive-at-spec : {M : Type 1} → statement M
 positive-at-spec =

@@ -5,7 +5,7 @@ use borrow.Author.Needs.{needs}
 use lib.ListN.{length, length-take, length-drop}
 use Rattle.model.specs.Base.{text}
 use Rattle.model.specs.Values.{quoted, valueText}
-use Rattle.values.proofs.Writers.{i32-kept}
+use Rattle.values.proofs.Wholes.{i32-kept}
 use Rattle.values.proofs.value.put_value.Statement.{statement}
 use Rattle.values.proofs.value.put_value.Tie as tie
 

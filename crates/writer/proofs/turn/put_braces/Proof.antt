@@ -5,7 +5,7 @@ use native.Mathlib.Nat.{add-zero, sub-zero}
 use native.Mathlib.Omega.{arith}
 use borrow.Author.Needs.{needs}
 use lib.ListN.{length, replicate}
-use Rattle.paths.proofs.Spelled.{wrote-none}
+use Rattle.buffers.proofs.Writers.{wrote-none}
 use Rattle.writer.proofs.Remains.{Remains, remains-step, remains-end}
 use Rattle.writer.proofs.turn.put_braces.Statement.{statement}
 use Rattle.writer.proofs.turn.put_braces.Tie as tie

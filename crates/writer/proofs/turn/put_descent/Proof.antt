@@ -3,19 +3,21 @@ use Prim.Native.Nat.{_+_, _*_, _-_, _≤_}
 use mathlib.Core.Path.{_≡_, refl}
 use native.Mathlib.Omega.{arith}
 use borrow.Author.Needs.{needs}
-use lib.ListN.{length, drop}
+use lib.ListN.{length, drop, length-take}
 use Rattle.model.specs.Base.{text}
 use Rattle.model.specs.SavedText.{descend}
 use Rattle.paths.specs.Layout.{pathIn}
-use Rattle.paths.proofs.Spelled.{wrote-none, name-length}
+use Rattle.buffers.proofs.Writers.{wrote-none}
+use Rattle.layout.proofs.Named.{name-length}
 use Rattle.writer.proofs.Remains.{Remains, remains-step, remains-end}
 use Rattle.writer.proofs.Turns.{descend-more, descend-last, descend-over}
 use Rattle.writer.proofs.turn.put_descent.Statement.{statement}
 use Rattle.writer.proofs.turn.put_descent.Tie as tie
+use Rattle.model.specs.Limits.{maxKey}
 
 abbrev Inv-loop : tie.InvT-loop
 Inv-loop out₀ at path from n to₀ i₀ out to i =
-    (to + 20 * (n - i) ≤ at + 20 * (n - from)) × (length out ≡ length out₀)
+    (to + (maxKey + 4) * (n - i) ≤ at + (maxKey + 4) * (n - from)) × (length out ≡ length out₀)
     × Remains at (descend (drop from (pathIn path))) out₀ to (descend (drop i (pathIn path))) out
 
 abbrev μ-loop : tie.MeasureT-loop
@@ -30,23 +32,23 @@ loop-holds c = (search needs, refl, (refl, refl))
 put-byte-requires : tie.Need-put-byte-requires Inv-loop μ-loop
 put-byte-requires c κs = search needs
 
-name-at-requires : tie.Need-name-at-requires Inv-loop μ-loop
-name-at-requires c κs = search needs
+key-at-requires : tie.Need-key-at-requires Inv-loop μ-loop
+key-at-requires c κs = search needs
 
 put-requires : tie.Need-put-requires Inv-loop μ-loop
-put-requires c κs = let k = name-length _ _ (c .name-at .ensures) in omega arith
+put-requires c κs = let k = name-length maxKey _ (c .key-at .ensures) (simp length-take (omega arith)) in omega arith
 
 put-byte-requires-2 : tie.Need-put-byte-requires-2 Inv-loop μ-loop
-put-byte-requires-2 c κs = let k = name-length _ _ (c .before .before .before .before .name-at .ensures) in omega arith
+put-byte-requires-2 c κs = let k = name-length maxKey _ (c .before .before .before .before .key-at .ensures) (simp length-take (omega arith)) in omega arith
 
 put-byte-requires-3 : tie.Need-put-byte-requires-3 Inv-loop μ-loop
-put-byte-requires-3 c κs = let k = name-length _ _ (c .before .before .before .before .before .before .before .before .name-at .ensures) in omega arith
+put-byte-requires-3 c κs = let k = name-length maxKey _ (c .before .before .before .before .before .before .before .before .key-at .ensures) (simp length-take (omega arith)) in omega arith
 
 add-i : tie.Need-add-i Inv-loop μ-loop
 add-i c = search needs
 
 put-byte-requires-4 : tie.Need-put-byte-requires-4 Inv-loop μ-loop
-put-byte-requires-4 c κs = let k = name-length _ _ (c .before .before .before .before .before .before .before .before .before .before .before .before .before .name-at .ensures) in omega arith
+put-byte-requires-4 c κs = let k = name-length maxKey _ (c .before .before .before .before .before .before .before .before .before .before .before .before .before .key-at .ensures) (simp length-take (omega arith)) in omega arith
 
 loop-less : tie.Need-loop-less Inv-loop μ-loop
 loop-less c = search needs
@@ -57,8 +59,8 @@ loop-again c =
     let p = c .before .before .before .before .before .before .before in
     let n = p .before .before .before .before .before .before .before .before .before in
     let l = n .before .before .before .before .before .before .before .loop in
-    let name = n .name-at .ensures in
-    let k = name-length _ _ name in
+    let name = n .key-at .ensures in
+    let k = name-length maxKey _ name (simp length-take (omega arith)) in
     let e = descend-more (n .before .before .before .before .before .before .before .before .before .before .before .args .path .now) (l .i) name (search needs) (search needs) in
     let opened = remains-step _ _ _ _ _ _ _ _ _ (rw e at (l .inv .2)) (n .before .before .before .before .put-byte .ensures) in
     let key = remains-step _ _ _ _ _ _ _ _ _ opened (p .before .before .before .before .before .before .before .before .put .ensures) in
@@ -75,8 +77,8 @@ loop-again-2 c =
     let p = c .before .before .before in
     let n = p .before .before .before .before .before .before .before .before .before in
     let l = n .before .before .before .before .before .before .before .loop in
-    let name = n .name-at .ensures in
-    let k = name-length _ _ name in
+    let name = n .key-at .ensures in
+    let k = name-length maxKey _ name (simp length-take (omega arith)) in
     let e = descend-last (n .before .before .before .before .before .before .before .before .before .before .before .args .path .now) (l .i) name (search needs) (search needs) in
     let opened = remains-step _ _ _ _ _ _ _ _ _ (rw e at (l .inv .2)) (n .before .before .before .before .put-byte .ensures) in
     let key = remains-step _ _ _ _ _ _ _ _ _ opened (p .before .before .before .before .before .before .before .before .put .ensures) in
@@ -101,7 +103,7 @@ put-descent-spec =
     count-requires
     loop-holds
     put-byte-requires
-    name-at-requires
+    key-at-requires
     put-requires
     put-byte-requires-2
     put-byte-requires-3

@@ -3,8 +3,7 @@ use native.Mathlib.Omega.{arith}
 use borrow.Author.Needs.{needs}
 use lib.ListN.{length-replicate}
 use Rattle.model.specs.Base.{text}
-use Rattle.values.proofs.Writers.{wrote-both}
-use Rattle.paths.proofs.Spelled.{wrote-none}
+use Rattle.buffers.proofs.Writers.{wrote-none, wrote-both}
 use Rattle.writer.proofs.Turns.{slots-apart, slots-within}
 use Rattle.writer.proofs.turn.put_turn.Statement.{statement}
 use Rattle.writer.proofs.turn.put_turn.Tie as tie

@@ -1,0 +1,2 @@
+-- Laws that the proofs cite, and callers too.
+pub mod Writers

@@ -1,0 +1,5 @@
+-- Laws of rows in use, of rows behind a count and of names in rows, each over the size, the number and the decoding.
+pub mod Used
+pub mod Changed
+pub mod Counts
+pub mod Named

@@ -1,0 +1,24 @@
+-- What stands there moves by the length of the row, and the row is copied to its start.
+use Rattle.layout.proofs.Changed.{put-first}
+use borrow.Author.Needs.{needs}
+use Rattle.layout.proofs.table.put_before.Statement.{statement}
+use Rattle.layout.proofs.table.put_before.Tie as tie
+
+shift-requires : tie.Need-shift-requires
+shift-requires c κs = search needs
+
+copy-requires : tie.Need-copy-requires
+copy-requires c κs = search needs
+
+same-length : tie.Need-same-length
+same-length c = search needs
+
+returns : tie.Need-returns
+returns c =
+    let copy = c .before .before in
+    let shift = copy .before .before .before .before in
+    let s = shift .before .before .before .before in
+    put-first (s .args .tail .now) (s .args .row .now) _ _ (s .pre .1) (shift .shift .ensures) (copy .copy .ensures)
+
+pub put-before-spec : {M : Type 1} → statement M
+put-before-spec = tie.close (tie.spec shift-requires copy-requires same-length returns)

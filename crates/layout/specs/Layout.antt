@@ -1,0 +1,47 @@
+-- Rows of one size in memory, whatever the bytes are: which are in use, and what they mean.
+use Prim.Native.Nat.{ℕ, _+_, _*_, _≤_, _<_, min}
+use mathlib.Core.Bool.{Bool}
+use mathlib.Core.List.{List, map}
+use lib.Dec.{eqb}
+use lib.ListN.{length, getD, take, drop}
+use Rattle.rows.specs.Rows.{rows, upTo}
+use Rattle.model.specs.Base.{Bytes}
+use Rattle.model.specs.Limits.{maxName, maxKey}
+
+-- ── Rows up to the first that is empty ──
+-- a row whose first byte is 0
+unfoldable pub isEmpty : Bytes → Bool
+isEmpty row = eqb (getD row 0 0) 0
+
+-- of the first n rows of k bytes, those before the first that is empty
+abbrev pub inUse : ℕ → ℕ → Bytes → List Bytes
+inUse k n s = upTo isEmpty (rows k n s)
+
+-- what they mean
+unfoldable pub table : {A : Type 0} → (Bytes → A) → ℕ → ℕ → Bytes → List A
+table decode k n s = map decode (inUse k n s)
+
+-- n rows of k bytes lie in s
+abbrev pub Holds : ℕ → ℕ → Bytes → Type 0
+Holds k n s = (0 < k) × (n * k ≤ length s)
+
+-- ── Rows behind a byte that says how many they are ──
+-- at most n rows of k bytes
+abbrev pub countedRows : ℕ → ℕ → Bytes → List Bytes
+countedRows k n s = take (min (getD s 0 0) n) (rows k n (drop 1 s))
+
+-- what they mean
+unfoldable pub counted : {A : Type 0} → (Bytes → A) → ℕ → ℕ → Bytes → List A
+counted decode k n s = map decode (countedRows k n s)
+
+-- ── A name in a row ──
+-- rows of a name and of a key: how long it is, and room for the longest
+abbrev pub nameRow : ℕ
+nameRow = 1 + maxName
+
+abbrev pub keyRow : ℕ
+keyRow = 1 + maxKey
+
+-- how many bytes, and the bytes, as many as the row has
+unfoldable pub nameIn : Bytes → Bytes
+nameIn row = take (getD row 0 0) (drop 1 row)

@@ -1,0 +1,119 @@
+// Rows of `size` bytes, at most `most`: those before the first empty one are in use. A row is empty where its first byte is 0.
+use buffers::copy;
+use buffers::put_byte;
+use lexical::bounds::least;
+ghost use mathlib.Core.Path.{_≡_};
+ghost use mathlib.Core.Bool.{false};
+ghost use mathlib.Core.List.{[], _∷_, _++_};
+ghost use Prim.Native.Nat.{_+_, _*_, _-_, _≤_, _<_, min};
+ghost use lib.ListN.{length, take, drop, set};
+ghost use Rattle.rows.specs.Rows.{insertAt};
+ghost use Rattle.rows.specs.Moves.{movedLater};
+ghost use Rattle.layout.specs.Layout.{isEmpty, inUse, Holds};
+
+// Whether a row is empty.
+pub fn is_empty(row: &[u8]) -> bool
+    requires { ⌜ 0 < length (now row) ⌝ }
+    ensures { λ r. ⌜ r ≡ isEmpty (now (row .entry)) ⌝ }
+{
+    row[0] == 0
+}
+
+// The i-th row.
+pub fn row_at(t: &[u8], size: usize, i: usize) -> &[u8]
+    requires { ⌜ i * size + size ≤ length (now t) ⌝ }
+    ensures { λ r. ⌜ (now r ≡ take size (drop (i * size) (now (t .entry)))) × (length (now r) ≡ size) ⌝ }
+{
+    let start = i * size;
+    let end = start + size;
+    &t[start..end]
+}
+
+// How many rows are in use.
+pub fn row_count(t: &[u8], size: usize, most: usize) -> usize
+    requires { ⌜ Holds size most (now t) ⌝ }
+    ensures { λ r. ⌜ r ≡ length (inUse size most (now (t .entry))) ⌝ }
+{
+    let mut i: usize = 0;
+    while i < most {
+        if t[i * size] == 0 {
+            return i;
+        }
+        i += 1;
+    }
+    i
+}
+
+// One row more behind those in use, where there is room for it: the row behind it is made empty.
+pub fn push_row(t: &mut [u8], size: usize, most: usize, row: &[u8])
+    requires { ⌜ Holds size most (now t) × (length (now row) ≡ size) × (isEmpty (now row) ≡ false) ⌝ }
+    ensures { λ _. ⌜ inUse size most (now (t .exit)) ≡ take most (inUse size most (now (t .entry)) ++ now (row .entry) ∷ []) ⌝ }
+{
+    let n = row_count(t, size, most);
+    if n < most {
+        let start = n * size;
+        let end = start + size;
+        put_byte(t, end, 0);
+        copy(&mut t[start..], row);
+    }
+}
+
+// A row in the place of the i-th, which is in use.
+pub fn replace_row(t: &mut [u8], size: usize, most: usize, i: usize, row: &[u8])
+    requires { ⌜ Holds size most (now t) × (length (now row) ≡ size) × (isEmpty (now row) ≡ false) ⌝ }
+    requires { ⌜ i < length (inUse size most (now t)) ⌝ }
+    ensures { λ _. ⌜ inUse size most (now (t .exit)) ≡ set (inUse size most (now (t .entry))) i (now (row .entry)) ⌝ }
+{
+    let start = i * size;
+    copy(&mut t[start..], row);
+}
+
+// Each byte `size` places later: the last fall off, and the first stay as they were.
+fn shift(tail: &mut [u8], size: usize)
+    requires { ⌜ (0 < size) × (size ≤ length (now tail)) ⌝ }
+    ensures { λ _. ⌜ now (tail .exit) ≡ movedLater size (now (tail .entry)) ⌝ }
+{
+    let mut i = tail.len();
+    while size < i {
+        i -= 1;
+        tail[i] = tail[i - size];
+    }
+}
+
+// A row before what stands in `tail`, whose last row falls off.
+fn put_before(tail: &mut [u8], row: &[u8])
+    requires { ⌜ (0 < length (now row)) × (length (now row) ≤ length (now tail)) ⌝ }
+    ensures { λ _. ⌜ now (tail .exit) ≡ now (row .entry) ++ take (length (now (tail .entry)) - length (now (row .entry))) (now (tail .entry)) ⌝ }
+{
+    shift(tail, row.len());
+    copy(tail, row);
+}
+
+// Where what a new row moves ends: the rows in use, one more for it, and the empty one behind them; at most all rows.
+fn moved_end(t: &[u8], size: usize, most: usize) -> usize
+    requires { ⌜ Holds size most (now t) ⌝ }
+    ensures { λ r. ⌜ r ≡ min (length (inUse size most (now (t .entry))) + 2) most * size ⌝ }
+{
+    least(row_count(t, size, most) + 2, most) * size
+}
+
+// A row at the place i, before what stood there: only rows in use move, and the empty one behind them. Of more than `most`, the last falls off.
+pub fn insert_row(t: &mut [u8], size: usize, most: usize, i: usize, row: &[u8])
+    requires { ⌜ Holds size most (now t) × (length (now row) ≡ size) × (isEmpty (now row) ≡ false) ⌝ }
+    requires { ⌜ (i < most) × (i ≤ length (inUse size most (now t))) ⌝ }
+    ensures { λ _. ⌜ inUse size most (now (t .exit)) ≡ take most (insertAt i (now (row .entry)) (inUse size most (now (t .entry)))) ⌝ }
+{
+    let start = i * size;
+    let end = moved_end(t, size, most);
+    put_before(&mut t[start..end], row);
+}
+
+// The rows in use, with the empty one that ends them, into another table: what stands behind counts for nothing and is not copied.
+pub fn copy_rows(to: &mut [u8], from: &[u8], size: usize, most: usize)
+    requires { ⌜ Holds size most (now from) × (length (now from) ≤ length (now to)) ⌝ }
+    ensures { λ _. ⌜ inUse size most (now (to .exit)) ≡ inUse size most (now (from .entry)) ⌝ }
+{
+    let n = least(row_count(from, size, most) + 1, most);
+    let end = n * size;
+    copy(to, &from[..end]);
+}
