@@ -12,6 +12,13 @@
 #define JESOVANGA_COPY 51069   /* bytes: no copy and no saved text of a run is longer */
 #define JESOVANGA_LIST 32      /* numbers that a list has to have room for */
 
+/* The same numbers as the library has them: a caller compares them once, when it starts. */
+size_t jesovanga_tables(void);
+size_t jesovanga_logins(void);
+size_t jesovanga_record(void);
+size_t jesovanga_copy(void);
+size_t jesovanga_list(void);
+
 /* What an answered number is. */
 enum jesovanga_kind { JESOVANGA_REFUSED = 0, JESOVANGA_SESSION = 1, JESOVANGA_LENGTH = 2, JESOVANGA_PUSHED = 3 };
 

@@ -2,12 +2,11 @@
 
 use std::hint::black_box;
 
+use jesovanga::{COPY, LIST};
+
 use crate::halls::{Hall, Line};
 use crate::subject::Subject;
 use crate::timing::{Contest, Round};
-
-const BUFFER: usize = 51_069;
-const LIST: usize = 32;
 
 /// The fewest requests of a round, so that it is not too short for the clock.
 const ROUND: usize = 32;
@@ -23,7 +22,7 @@ struct Desk {
 
 impl Desk {
     fn new() -> Self {
-        Desk { buffer: vec![0; BUFFER], list: [0; LIST] }
+        Desk { buffer: vec![0; COPY], list: [0; LIST] }
     }
 
     fn ask<S: Subject>(&mut self, server: &mut S, lines: &[Line]) {

@@ -10,6 +10,7 @@ mod lines;
 mod pair;
 mod rng;
 mod run;
+mod sizes;
 mod tally;
 mod texts;
 mod watchdog;
@@ -56,6 +57,10 @@ fn main() -> ExitCode {
         eprintln!("{USAGE}");
         return ExitCode::from(2);
     };
+    if let Err(different) = sizes::compare() {
+        println!("{different}");
+        return ExitCode::FAILURE;
+    }
     println!("seed {}", options.seed);
     let mut run = Run::new(options.seed);
     let ended = run.run(options.requests, Duration::from_secs(options.seconds));

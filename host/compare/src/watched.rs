@@ -1,7 +1,7 @@
 //! The proved server, with all that it is lent between guards. What has to
 //! hold of a call whatever the arrays contain is checked here.
 
-use jesovanga::{Fault, Memory};
+use jesovanga::{Fault, Memory, LIST};
 
 use crate::answer::{Answer, Opened};
 use crate::lent::{Lent, LentMemory};
@@ -9,9 +9,6 @@ use crate::texts::Texts;
 
 /// A result, or what is wrong with a call.
 pub type Checked<T> = Result<T, String>;
-
-/// How many numbers a list is said to receive at most.
-const LIST: usize = 32;
 
 /// How many numbers a login state has.
 const LOGIN: usize = 3;

@@ -6,9 +6,19 @@ pub const TABLES: usize = 47_200;
 pub const LOGINS: usize = 96;
 /// Bytes of the fields.
 pub const RECORD: usize = 35_328;
+/// Bytes that no copy and no saved text of a run exceeds.
+pub const COPY: usize = 51_069;
+/// Numbers that a list has to have room for.
+pub const LIST: usize = 32;
 
 mod exports {
     extern "C" {
+        pub fn jesovanga_tables() -> usize;
+        pub fn jesovanga_logins() -> usize;
+        pub fn jesovanga_record() -> usize;
+        pub fn jesovanga_copy() -> usize;
+        pub fn jesovanga_list() -> usize;
+
         pub fn jesovanga_open(
             tables: *mut u8,
             logins: *mut u16,
@@ -44,6 +54,29 @@ mod exports {
             buffer_length: usize,
             kind: *mut u32,
         ) -> usize;
+    }
+}
+
+/// A size by its name, as it stands above and as the library says it.
+pub struct Size {
+    pub name: &'static str,
+    pub wrapper: usize,
+    pub library: usize,
+}
+
+/// Every size. The arrays' types need constants, so that the library's own numbers can only be compared.
+pub fn sizes() -> [Size; 5] {
+    use exports::*;
+    let size = |name, wrapper, library| Size { name, wrapper, library };
+    // These functions take nothing and touch no memory.
+    unsafe {
+        [
+            size("TABLES", TABLES, jesovanga_tables()),
+            size("LOGINS", LOGINS, jesovanga_logins()),
+            size("RECORD", RECORD, jesovanga_record()),
+            size("COPY", COPY, jesovanga_copy()),
+            size("LIST", LIST, jesovanga_list()),
+        ]
     }
 }
 
