@@ -1,13 +1,14 @@
 // Who may read and who may write a path.
-use crate::memory::POLICY;
 use crate::memory::RULE;
 use crate::memory::RULES;
 use crate::memory::STEPS_AT;
+use crate::memory::TABLES;
 use crate::memory::USER;
 use crate::memory::USERS;
 use crate::memory::bindings;
 use crate::memory::is_for;
 use crate::memory::is_write;
+use crate::memory::policy_of;
 use layout::table::row_at;
 use layout::table::row_count;
 use matching::path::lines_match;
@@ -24,7 +25,7 @@ ghost use Rattle.model.specs.Serving.{readsAt};
 ghost use Rattle.paths.specs.Layout.{pathSlot, pathIn};
 ghost use Rattle.layout.specs.Layout.{inUse};
 ghost use Rattle.matching.specs.Parts.{mayMatch};
-ghost use Rattle.tables.specs.Memory.{userRow, ruleRow, policyBytes, tablesBytes, userIn, usersIn, ruleIn, policyIn, tablesIn};
+ghost use Rattle.tables.specs.Memory.{userRow, ruleRow, policyBytes, userIn, usersIn, ruleIn, policyIn, tablesIn};
 ghost use Rattle.tables.specs.Grants.{givesRead, givesWrite, isMarked};
 
 // Whether a line gives a user the right to write a path.
@@ -70,8 +71,8 @@ fn gives_read(rule: &[u8], user: &[u8], path: &[u8]) -> bool
 }
 
 // Marks those of the n users to whom a line that may match the path gives the right to read it.
-fn mark_readers(marks: &mut [u8; USERS], tables: &[u8], n: usize, rule: &[u8], path: &[u8])
-    requires { ⌜ (length (now tables) ≡ tablesBytes) × (length (now rule) ≡ ruleRow) × (pathSlot ≤ length (now path)) ⌝ }
+fn mark_readers(marks: &mut [u8; USERS], tables: &[u8; TABLES], n: usize, rule: &[u8], path: &[u8])
+    requires { ⌜ (length (now rule) ≡ ruleRow) × (pathSlot ≤ length (now path)) ⌝ }
     requires { ⌜ n ≡ length (inUse userRow maxUsers (now tables)) ⌝ }
     requires { ⌜ mayMatch (ruleIn (now rule) .path) (pathIn (now path)) ≡ true ⌝ }
     ensures { λ _. ⌜ now (marks .exit) ≡ marked (givesRead (pathIn (now (path .entry))) (ruleIn (now (rule .entry)))) (usersIn (now (tables .entry))) (now (marks .entry)) ⌝ }
@@ -86,12 +87,12 @@ fn mark_readers(marks: &mut [u8; USERS], tables: &[u8], n: usize, rule: &[u8], p
 }
 
 // Who may read a path: a byte for each user index, not 0 where the user may. Lines that match for nobody are passed over once, not for each user.
-pub fn readers(tables: &[u8], path: &[u8]) -> [u8; USERS]
-    requires { ⌜ (length (now tables) ≡ tablesBytes) × (pathSlot ≤ length (now path)) ⌝ }
+pub fn readers(tables: &[u8; TABLES], path: &[u8]) -> [u8; USERS]
+    requires { ⌜ pathSlot ≤ length (now path) ⌝ }
     ensures { λ r. ⌜ ((j : ℕ) → isMarked r j ≡ readsAt (tablesIn (now (tables .entry))) j (pathIn (now (path .entry)))) ⌝ }
 {
     let users = row_count(tables, USER, USERS);
-    let policy = &tables[POLICY..];
+    let policy = policy_of(tables);
     let n = row_count(policy, RULE, RULES);
     let mut marks = [0u8; USERS];
     let mut i: usize = 0;

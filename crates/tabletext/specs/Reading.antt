@@ -1,10 +1,11 @@
 -- The three tables as tables of one memory, and what the answers say.
 use Prim.Native.Nat.{ℕ}
+use mathlib.Core.Path.{_≡_}
 use mathlib.Core.Option.{Option, none, some}
 use mathlib.Core.List.{List, [], _∷_}
 use Rattle.model.specs.Base.{Bytes, if_then_else_}
 use Rattle.model.specs.Refusals.{Result, refused, done, _>>=_}
-use Rattle.model.specs.Table.{Table, Line, ended, broken, lines, split, isHead, readRow}
+use Rattle.model.specs.Table.{Table, Line, ended, broken, lines, split, under, isHead, readRow}
 use Rattle.model.specs.Tables.{User, Access, Rule, Tables, usersTable, environmentsTable, policyTable}
 use Rattle.tables.specs.Memory.{accessByte}
 use Rattle.tabletext.specs.declared.row.RowRead.{RowRead}
@@ -28,6 +29,14 @@ rowAnswer (done a) = row-read.Done
 unfoldable pub keptOr : {E A : Type 0} → A → Result E A → A
 keptOr a (refused e) = a
 keptOr a (done b) = b
+
+-- the values of a line by their columns' names
+abbrev pub valuesIn : Bytes → Bytes → Bytes → Bytes
+valuesIn head line = under (split head) (split line)
+
+-- what a line adds to what there was before: the answer, and what there is then
+abbrev pub Adds : {A : Type 0} → (A → Result ℕ A) → A → RowRead → A → Type 0
+Adds row before r after = (r ≡ rowAnswer (row before)) × (after ≡ keptOr before (row before))
 
 -- a table of users, or of policy lines, in the tables that hold both
 unfoldable pub inUsers : Table (List User) → Table Tables

@@ -15,9 +15,9 @@ ghost use Prim.Native.Nat.{_≤_};
 ghost use lib.ListN.{length};
 ghost use Rattle.model.specs.Base.{all, among};
 ghost use Rattle.model.specs.Limits.{maxText};
-ghost use Rattle.model.specs.Table.{split, under, sameLength, isHead, readRow, readTable, ended};
+ghost use Rattle.model.specs.Table.{split, sameLength, isHead, readRow, readTable, ended};
 ghost use Rattle.tables.specs.Memory.{tablesBytes, tablesIn};
-ghost use Rattle.tabletext.specs.Reading.{rowAnswer, keptOr, tableOf, tableAnswer, tablesAsFar};
+ghost use Rattle.tabletext.specs.Reading.{valuesIn, Adds, tableOf, tableAnswer, tablesAsFar};
 
 pub enum Table {
     Users,
@@ -65,8 +65,8 @@ fn is_head(t: Table, head: &[u8]) -> bool
 // What a line adds to the tables.
 fn add_row(t: Table, tables: &mut [u8], head: &[u8], line: &[u8]) -> RowRead
     requires { ⌜ (length (now tables) ≡ tablesBytes) × (length (now head) ≤ maxText) ⌝ }
-    ensures { λ r. ⌜ r ≡ rowAnswer (tableOf t .row (under (split (now (head .entry))) (split (now (line .entry)))) (tablesIn (now (tables .entry)))) ⌝ }
-    ensures { λ r. ⌜ tablesIn (now (tables .exit)) ≡ keptOr (tablesIn (now (tables .entry))) (tableOf t .row (under (split (now (head .entry))) (split (now (line .entry)))) (tablesIn (now (tables .entry)))) ⌝ }
+    ensures { λ r. ⌜ Adds (tableOf t .row (valuesIn (now (head .entry)) (now (line .entry))))
+        (tablesIn (now (tables .entry))) r (tablesIn (now (tables .exit))) ⌝ }
 {
     match t {
         Table::Users => add_user(&mut tables[..POLICY], head, line),
@@ -78,8 +78,8 @@ fn add_row(t: Table, tables: &mut [u8], head: &[u8], line: &[u8]) -> RowRead
 // The same, if the line has as many values as the head.
 fn read_row(t: Table, tables: &mut [u8; TABLES], head: &[u8], line: &[u8]) -> RowRead
     requires { ⌜ (length (now head) ≤ maxText) × (length (now line) ≤ maxText) ⌝ }
-    ensures { λ r. ⌜ r ≡ rowAnswer (readRow (tableOf t) (split (now (head .entry))) (tablesIn (now (tables .entry))) (ended (now (line .entry)))) ⌝ }
-    ensures { λ r. ⌜ tablesIn (now (tables .exit)) ≡ keptOr (tablesIn (now (tables .entry))) (readRow (tableOf t) (split (now (head .entry))) (tablesIn (now (tables .entry))) (ended (now (line .entry)))) ⌝ }
+    ensures { λ r. ⌜ Adds (λ m. readRow (tableOf t) (split (now (head .entry))) m (ended (now (line .entry))))
+        (tablesIn (now (tables .entry))) r (tablesIn (now (tables .exit))) ⌝ }
 {
     if count(line) != count(head) {
         return RowRead::Refused(2);

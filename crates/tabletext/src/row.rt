@@ -30,11 +30,10 @@ ghost use Prim.Native.Nat.{_≤_};
 ghost use lib.ListN.{length};
 ghost use Rattle.model.specs.Base.{any};
 ghost use Rattle.model.specs.Limits.{maxText};
-ghost use Rattle.model.specs.Table.{split, under};
 ghost use Rattle.model.specs.Tables.{usersTable, environmentsTable, policyTable, sameBinding, accessOf};
 ghost use Rattle.steps.specs.Environments.{bindingsBytes, bindingsIn};
 ghost use Rattle.tables.specs.Memory.{usersBytes, policyBytes, usersIn, policyIn};
-ghost use Rattle.tabletext.specs.Reading.{accessAnswer, rowAnswer, keptOr};
+ghost use Rattle.tabletext.specs.Reading.{accessAnswer, valuesIn, Adds};
 
 pub enum RowRead {
     Done,
@@ -49,8 +48,8 @@ pub enum AccessRead {
 // A user.
 pub fn add_user(users: &mut [u8], head: &[u8], line: &[u8]) -> RowRead
     requires { ⌜ (length (now users) ≡ usersBytes) × (length (now head) ≤ maxText) ⌝ }
-    ensures { λ r. ⌜ r ≡ rowAnswer (usersTable .row (under (split (now (head .entry))) (split (now (line .entry)))) (usersIn (now (users .entry)))) ⌝ }
-    ensures { λ r. ⌜ usersIn (now (users .exit)) ≡ keptOr (usersIn (now (users .entry))) (usersTable .row (under (split (now (head .entry))) (split (now (line .entry)))) (usersIn (now (users .entry)))) ⌝ }
+    ensures { λ r. ⌜ Adds (usersTable .row (valuesIn (now (head .entry)) (now (line .entry))))
+        (usersIn (now (users .entry))) r (usersIn (now (users .exit))) ⌝ }
 {
     let name = value_under(head, line, b"user");
     let role = value_under(head, line, b"role");
@@ -102,8 +101,8 @@ fn has_binding(lines: &[u8], name: &[u8], value: &[u8]) -> bool
 // An environment line, which joins those of its user.
 pub fn add_binding(users: &mut [u8], head: &[u8], line: &[u8]) -> RowRead
     requires { ⌜ (length (now users) ≡ usersBytes) × (length (now head) ≤ maxText) ⌝ }
-    ensures { λ r. ⌜ r ≡ rowAnswer (environmentsTable .row (under (split (now (head .entry))) (split (now (line .entry)))) (usersIn (now (users .entry)))) ⌝ }
-    ensures { λ r. ⌜ usersIn (now (users .exit)) ≡ keptOr (usersIn (now (users .entry))) (environmentsTable .row (under (split (now (head .entry))) (split (now (line .entry)))) (usersIn (now (users .entry)))) ⌝ }
+    ensures { λ r. ⌜ Adds (environmentsTable .row (valuesIn (now (head .entry)) (now (line .entry))))
+        (usersIn (now (users .entry))) r (usersIn (now (users .exit))) ⌝ }
 {
     let user = value_under(head, line, b"user");
     let name = value_under(head, line, b"name");
@@ -148,8 +147,8 @@ fn access(s: &[u8]) -> AccessRead
 // A policy line.
 pub fn add_rule(policy: &mut [u8], head: &[u8], line: &[u8]) -> RowRead
     requires { ⌜ (length (now policy) ≡ policyBytes) × (length (now head) ≤ maxText) ⌝ }
-    ensures { λ r. ⌜ r ≡ rowAnswer (policyTable .row (under (split (now (head .entry))) (split (now (line .entry)))) (policyIn (now (policy .entry)))) ⌝ }
-    ensures { λ r. ⌜ policyIn (now (policy .exit)) ≡ keptOr (policyIn (now (policy .entry))) (policyTable .row (under (split (now (head .entry))) (split (now (line .entry)))) (policyIn (now (policy .entry)))) ⌝ }
+    ensures { λ r. ⌜ Adds (policyTable .row (valuesIn (now (head .entry)) (now (line .entry))))
+        (policyIn (now (policy .entry))) r (policyIn (now (policy .exit))) ⌝ }
 {
     let role = value_under(head, line, b"role");
     if !is_name(role) {

@@ -29,7 +29,7 @@ readers-requires : tie.Need-readers-requires Inv-loop μ-loop
 readers-requires c κs = search needs
 
 loop-holds : tie.Need-loop-holds Inv-loop μ-loop
-loop-holds c = (users-fit _ (c .before .before .before .row-count .ensures), search needs, search needs, refl, (search needs, refl))
+loop-holds c = (users-fit _ (c .before .before .row-count .ensures), search needs, search needs, refl, (search needs, refl))
 
 state-at-requires : tie.Need-state-at-requires Inv-loop μ-loop
 state-at-requires c κs = search needs
@@ -79,8 +79,8 @@ same-length c = search needs
 returns : tie.Need-returns Inv-loop μ-loop
 returns c =
     let l = c .before .loop in
-    let n = c .before .before .before .before .before .row-count .ensures in
-    let a = c .before .before .before .before .before .before .before .before .args in
+    let n = c .before .before .before .before .row-count .ensures in
+    let a = c .before .before .before .before .before .before .before .args in
     let all = receivers-from _ (loginsIn (a .logins .now)) (a .i) (pathIn (a .path .now)) n in
     let (listed, counted) = listed-all _ _ _ _ _ _ (l .told) (l .j) (l .list) (l .inv .4) (search needs) (search needs) in
     record { listed = rw (← all) listed; counted = rw (← all) counted }

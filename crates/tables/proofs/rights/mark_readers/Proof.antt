@@ -28,7 +28,7 @@ loop-holds c = (search needs, refl)
 
 row-at-requires : tie.Need-row-at-requires Inv-loop μ-loop
 row-at-requires c κs =
-    user-inside _ (c .before .before .before .before .before .pre .1 .0) (c .before .loop .j) (c .loop-test .taken) (search needs)
+    user-inside _ (c .before .before .before .before .before .pre .1 .0) (c .before .before .loop .j) (c .before .loop-test .taken) (search needs)
 
 gives-read-requires : tie.Need-gives-read-requires Inv-loop μ-loop
 gives-read-requires c κs = (search needs, c .before .before .before .before .before .before .pre .1 .1)
@@ -47,9 +47,9 @@ loop-less c = search needs
 loop-again : tie.Need-loop-again Inv-loop μ-loop
 loop-again c =
     let k = c .before .before in
-    let l = k .before .before .loop in
+    let l = k .before .before .before .loop in
     let start = k .before .before .before .before .before .before in
-    let user = user-left _ (start .pre .1 .0) (l .j) (k .before .loop-test .taken) (k .row-at .ensures .0) in
+    let user = user-left _ (start .pre .1 .0) (l .j) (k .before .before .loop-test .taken) (k .row-at .ensures .0) in
     let turn = l .inv .1 ∙ marking-step _ (l .j) _ (l .marks) _ _ user (sym (c .before .gives-read .ensures)) in (
       search needs,
       ⊎-elim (λ w. rw (w .1) (rw (w .0 .taken) at turn)) (λ w. rw (w .1) (rw (w .0 .left) at turn)) (c .if1 .came),
@@ -58,7 +58,7 @@ loop-again c =
 returns : tie.Need-returns Inv-loop μ-loop
 returns c =
     let l = c .before .loop in
-    let none = users-over _ (c .before .before .before .before .before .pre .1 .0) (l .j) (search needs) in
+    let none = users-over _ (c .before .before .before .before .pre .1 .0) (l .j) (search needs) in
     sym (l .inv .1 ∙ marking-end _ (l .j) _ _ none)
 
 pub mark-readers-spec : {M : Type 1} → statement M

@@ -5,7 +5,7 @@ use mathlib.Core.Logic.{⊎-elim}
 use borrow.Author.Needs.{needs}
 use Rattle.rows.proofs.Parts.{tail-part}
 use Rattle.paths.specs.Layout.{pathIn}
-use Rattle.tables.specs.Memory.{usersBytes, pathAt, ruleIn}
+use Rattle.tables.specs.Memory.{pathAt, ruleIn}
 use Rattle.tables.proofs.Policy.{rule-inside}
 use Rattle.tables.proofs.Given.{ReadersLeft, readers-start, readers-end, readers-same, readers-more}
 use Rattle.tables.proofs.rights.readers.Statement.{statement}
@@ -20,20 +20,14 @@ abbrev μ-loop : tie.MeasureT-loop
 row-count-requires : tie.Need-row-count-requires Inv-loop μ-loop
 row-count-requires c κs = search needs
 
-sub-policy : tie.Need-sub-policy Inv-loop μ-loop
-sub-policy c = search needs
-
-part-policy-start : tie.Need-part-policy-start Inv-loop μ-loop
-part-policy-start c = search needs
-
-part-policy-end : tie.Need-part-policy-end Inv-loop μ-loop
-part-policy-end c = search needs
+policy-of-requires : tie.Need-policy-of-requires Inv-loop μ-loop
+policy-of-requires c κs = search needs
 
 row-count-requires-2 : tie.Need-row-count-requires-2 Inv-loop μ-loop
 row-count-requires-2 c κs = search needs
 
 loop-holds : tie.Need-loop-holds Inv-loop μ-loop
-loop-holds c = let s = c .before .before .before .before .before .args .tables .now in (search needs, readers-start s _ _ (tail-part usersBytes s))
+loop-holds c = (search needs, readers-start _ _ _ (c .before .policy-of .ensures .0))
 
 row-at-requires : tie.Need-row-at-requires Inv-loop μ-loop
 row-at-requires c κs = rule-inside _ (c .before .before .row-count2 .ensures) (c .before .loop .i) (c .loop-test .taken) (search needs)
@@ -55,7 +49,7 @@ unfolding ruleIn
 mark-readers-requires c κs =
     let k = c .before .before in
     let may = rw (tail-part pathAt _) at (sym (k .may-match .ensures) ∙ c .before .if1 .taken) in
-    (search needs, (k .before .before .before .before .before .before .before .row-count .ensures, may))
+    (search needs, (k .before .before .before .before .before .before .before .before .row-count .ensures, may))
 
 add-i : tie.Need-add-i Inv-loop μ-loop
 add-i c = search needs
@@ -85,9 +79,7 @@ readers-spec =
     Inv-loop
     μ-loop
     row-count-requires
-    sub-policy
-    part-policy-start
-    part-policy-end
+    policy-of-requires
     row-count-requires-2
     loop-holds
     row-at-requires
