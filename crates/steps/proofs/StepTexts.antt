@@ -108,7 +108,7 @@ unfolding operatorText text
 operator-length equals = omega arith
 operator-length isIn = omega arith
 
--- a step has at most 78 bytes, the longest one four names
+-- a step is longest where it has four names
 kind-length : (k : Kind) (s : Bytes) → length (stepText (byKind k (namesIn s))) ≤ spelledStep
 unfolding stepText operatorText text
 kind-length Names s = unfold spelledNames in simp length-append (omega (arith, names-length s))

@@ -33,7 +33,7 @@ use Rattle.record.proofs.Stores.{fields-fit}
 use Rattle.record.proofs.Search.{fields-last, fields-step}
 use Rattle.writer.specs.Selected.{selected, shownFrom}
 
--- the value of a slot is spelled with at most 34 bytes
+-- the value of a slot is spelled within its room
 pub held-short : (s : Bytes) → length (valueText (valueIn s)) ≤ valueRoom
 unfolding valueIn
 held-short s = go (readValue (textIn s)) refl

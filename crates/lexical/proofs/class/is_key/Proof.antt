@@ -1,4 +1,4 @@
--- A key is a name of at most 16 bytes.
+-- A key is a name of at most `maxKey` bytes.
 use Rattle.model.specs.Names.{isKey}
 use borrow.Author.Needs.{needs}
 use Rattle.lexical.proofs.class.is_key.Statement.{statement}

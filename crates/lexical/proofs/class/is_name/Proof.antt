@@ -1,4 +1,4 @@
--- A name is one of at most 16 bytes.
+-- A name is one of at most `maxName` bytes.
 use Rattle.model.specs.Names.{isName}
 use borrow.Author.Needs.{needs}
 use Rattle.lexical.proofs.class.is_name.Statement.{statement}

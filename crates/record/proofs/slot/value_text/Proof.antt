@@ -1,4 +1,4 @@
--- The text is as long as the byte before it says, at most 34 bytes.
+-- The text is as long as the byte before it says, at most what there is room for.
 use borrow.Author.Needs.{needs}
 use Rattle.record.proofs.Slots.{text-part, text-short}
 use Rattle.record.proofs.slot.value_text.Statement.{statement}

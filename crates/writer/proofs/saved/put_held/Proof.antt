@@ -1,4 +1,4 @@
--- What is read at the start of the slot's text is how the value is written, and false is written where nothing is: at most 34 bytes.
+-- What is read at the start of the slot's text is how the value is written, and false is written where nothing is: no more than there is room for.
 use native.Mathlib.Omega.{arith}
 use borrow.Author.Needs.{needs}
 use lib.ListN.{length-take}
