@@ -1,9 +1,9 @@
-// Writers: each stores what falls inside the buffer from `at` on, and answers where the text ends; and a copy of a slice.
+// Writers: each stores what falls inside the buffer from `at` on, and answers where the text ends; and a slice copied or wiped.
 use lexical::bounds::least;
 ghost use mathlib.Core.Path.{_≡_};
 ghost use mathlib.Core.List.{[], _∷_, _++_};
 ghost use Prim.Native.Nat.{_+_, _≤_, _<_, _^_};
-ghost use lib.ListN.{length, drop};
+ghost use lib.ListN.{length, drop, replicate};
 ghost use Rattle.rows.specs.Rows.{Wrote};
 ghost use Rattle.model.specs.Base.{decimal};
 
@@ -63,6 +63,17 @@ pub fn copy(dst: &mut [u8], src: &[u8])
     let mut i: usize = 0;
     while i < src.len() {
         dst[i] = src[i];
+        i += 1;
+    }
+}
+
+// Every byte 0: nothing of what stood there stays.
+pub fn wipe(s: &mut [u8])
+    ensures { λ _. ⌜ now (s .exit) ≡ replicate (length (now (s .entry))) 0 ⌝ }
+{
+    let mut i = 0;
+    while i < s.len() {
+        s[i] = 0;
         i += 1;
     }
 }

@@ -1,4 +1,4 @@
--- Which rows are in use where one is written behind the last, over another or before another, and where rows are copied.
+-- Which rows are in use where one is written behind the last, over another or before another.
 use Prim.Native.Nat.{ℕ, suc, _+_, _*_, _-_, _≤_, _<_, min}
 use mathlib.Core.Path.{_≡_, refl, sym, ap, _∙_}
 use mathlib.Core.Bool.{Bool, false}

@@ -57,6 +57,12 @@ module _ (k n : ℕ) (s : Bytes) where
     unfolding isEmpty
     byte-full f = ne-eqb _ 0 (λ z. f (sym first-byte ∙ z))
 
+  -- where the first row is empty, none is in use
+  pub used-none : 0 < k → getD s 0 0 ≡ 0 → inUse k n s ≡ []
+  used-none size e = over (inUse k n s) 0 (by-cases (ltb 0 n)
+      (λ t. used-last 0 (ltb-true 0 n t) (omega arith) (byte-empty 0 size (rw zero-mul e)))
+      (λ f. omega (arith, used-fit, ltb-false 0 n f)))
+
   -- the row at i, where it is in use
   pub used-at : (i : ℕ) (z : Bytes) → i < length (inUse k n s) → getD (inUse k n s) i z ≡ take k (drop (i * k) s)
   used-at i z h =
@@ -81,9 +87,8 @@ module _ {A : Type 0} (decode : Bytes → A) (k n : ℕ) (s : Bytes) where
 
   -- where the first row is empty, there is none
   pub table-none : 0 < k → getD s 0 0 ≡ 0 → table decode k n s ≡ []
-  table-none size e = by-cases (ltb 0 n)
-      (λ t. over (table decode k n s) 0 (omega (arith, length-table, used-last k n s 0 (ltb-true 0 n t) (omega arith) (byte-empty k n s 0 size (rw zero-mul e)))))
-      (λ f. over (table decode k n s) 0 (omega (arith, table-fit, ltb-false 0 n f)))
+  unfolding table
+  table-none size e = rw (used-none k n s size e)
 
   -- m rows are in use: what is left at the row i, and what stands before it
   module _ {m : ℕ} (counted : m ≡ length (inUse k n s)) (i : ℕ) where

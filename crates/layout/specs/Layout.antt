@@ -1,11 +1,11 @@
 -- Rows of one size in memory, whatever the bytes are: which are in use, and what they mean.
-use Prim.Native.Nat.{ℕ, _+_, _*_, _≤_, _<_, min}
+use Prim.Native.Nat.{ℕ, _+_, _*_, _-_, _≤_, _<_, min}
 use mathlib.Core.Bool.{Bool}
-use mathlib.Core.List.{List, map}
+use mathlib.Core.List.{List, _++_, map}
 use lib.Dec.{eqb}
-use lib.ListN.{length, getD, take, drop}
+use lib.ListN.{length, getD, take, drop, replicate}
 use Rattle.rows.specs.Rows.{rows, upTo}
-use Rattle.model.specs.Base.{Bytes}
+use Rattle.model.specs.Base.{Bytes, joined}
 use Rattle.model.specs.Limits.{maxName, maxKey}
 
 -- ── Rows up to the first that is empty ──
@@ -24,6 +24,14 @@ table decode k n s = map decode (inUse k n s)
 -- n rows of k bytes lie in s
 abbrev pub Holds : ℕ → ℕ → Bytes → Type 0
 Holds k n s = (0 < k) × (n * k ≤ length s)
+
+-- xs, and zeros behind them up to n bytes
+abbrev pub padded : ℕ → Bytes → Bytes
+padded n xs = xs ++ replicate (n - length xs) 0
+
+-- the rows in use alone: one behind the other, and zeros up to the end of the n-th row
+unfoldable pub wiped : ℕ → ℕ → Bytes → Bytes
+wiped k n s = padded (n * k) (joined (inUse k n s))
 
 -- ── Rows behind a byte that says how many they are ──
 -- at most n rows of k bytes

@@ -1,6 +1,7 @@
 // Rows of `size` bytes, at most `most`: those before the first empty one are in use. A row is empty where its first byte is 0.
 use buffers::copy;
 use buffers::put_byte;
+use buffers::wipe;
 use lexical::bounds::least;
 ghost use mathlib.Core.Path.{_≡_};
 ghost use mathlib.Core.Bool.{false};
@@ -9,7 +10,7 @@ ghost use Prim.Native.Nat.{_+_, _*_, _-_, _≤_, _<_, min};
 ghost use lib.ListN.{length, take, drop, set};
 ghost use Rattle.rows.specs.Rows.{insertAt};
 ghost use Rattle.rows.specs.Moves.{movedLater};
-ghost use Rattle.layout.specs.Layout.{isEmpty, inUse, Holds};
+ghost use Rattle.layout.specs.Layout.{isEmpty, inUse, Holds, wiped};
 
 // Whether a row is empty.
 pub fn is_empty(row: &[u8]) -> bool
@@ -108,12 +109,12 @@ pub fn insert_row(t: &mut [u8], size: usize, most: usize, i: usize, row: &[u8])
     put_before(&mut t[start..end], row);
 }
 
-// The rows in use, with the empty one that ends them, into another table: what stands behind counts for nothing and is not copied.
+// The rows in use into a table of as many rows, and zeros behind them: nothing of what stood there stays.
 pub fn copy_rows(to: &mut [u8], from: &[u8], size: usize, most: usize)
-    requires { ⌜ Holds size most (now from) × (length (now from) ≤ length (now to)) ⌝ }
-    ensures { λ _. ⌜ inUse size most (now (to .exit)) ≡ inUse size most (now (from .entry)) ⌝ }
+    requires { ⌜ Holds size most (now from) × (length (now to) ≡ most * size) ⌝ }
+    ensures { λ _. ⌜ now (to .exit) ≡ wiped size most (now (from .entry)) ⌝ }
 {
-    let n = least(row_count(from, size, most) + 1, most);
-    let end = n * size;
+    let end = row_count(from, size, most) * size;
     copy(to, &from[..end]);
+    wipe(&mut to[end..]);
 }

@@ -20,7 +20,7 @@ use Rattle.record.specs.Slots.{fieldsIn}
 use Rattle.opening.specs.declared.answer.Opening.{Opening}
 use Rattle.opening.specs.declared.answer.Opening.the-variants.{Done, Refused}
 use Rattle.sessions.specs.Logins.{loginNumbers, loginIn, loginsIn}
-use Rattle.opening.specs.Memory.{Arrays, arrays, stateIn}
+use Rattle.opening.specs.Memory.{Arrays, arrays, stateIn, wipedTables, wipedFields}
 use Rattle.opening.specs.Answers.{textsOf, tooLong, openingResult, Opens}
 
 -- the state that opened tables and fields make
@@ -85,10 +85,11 @@ module _ (u e p r : Bytes) where
 pub refusal : (texts : Texts) (a : Arrays) {answer : Opening} {k t l : ℕ} → answer ≡ Refused k t l → opened texts ≡ refused (fault k t l)
     → Opens a texts answer a
 unfolding afterOpening kept fault
-refusal texts a i h = record { answered = rw (i, h); state = rw h; kept = rw i refl }
+refusal texts a i h = record { answered = rw (i, h); state = rw h; kept = rw i refl; wiped = rw i tt }
 
 -- what an accepted opening answers and leaves
 pub acceptance : (texts : Texts) (before : Arrays) (tables fields : Bytes) → opened texts ≡ done (fresh (tablesIn tables) (fieldsIn fields))
-    → Opens before texts Done (arrays tables (replicate loginNumbers 0) fields)
+    → tables ≡ wipedTables tables → fields ≡ wipedFields fields → Opens before texts Done (arrays tables (replicate loginNumbers 0) fields)
 unfolding afterOpening kept stateIn
-acceptance texts before tables fields h = record { answered = rw h; state = rw (h, no-logins); kept = tt }
+acceptance texts before tables fields h t f =
+    record { answered = rw h; state = rw (h, no-logins); kept = tt; wiped = record { tables = t; logins = refl; fields = f } }

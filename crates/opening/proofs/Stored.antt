@@ -1,49 +1,85 @@
--- The tables and the fields, where their rows were copied.
-use Prim.Native.Nat.{ℕ, _+_, _*_, _-_, _≤_}
-use mathlib.Core.Path.{_≡_, refl}
-use mathlib.Core.List.{List, [], _++_, append-nil}
-use native.Mathlib.Nat.{le-refl, sub-self}
+-- The tables and the fields, where their rows were copied and the rest was wiped.
+use Prim.Native.Nat.{ℕ, _*_, _-_}
+use mathlib.Core.Path.{_≡_, refl, sym, ap, _∙_}
+use mathlib.Core.List.{_++_}
 use native.Mathlib.Omega.{arith}
-use lib.ListN.{length, take, drop}
-use lib.Seq.{length-take-le, take-all, take-at, drop-at}
+use lib.ListN.{length, take, drop, length-drop}
+use lib.Seq.{take-at, drop-at}
 use Rattle.rows.specs.Rows.{rows, replaced}
-use Rattle.layout.specs.Layout.{inUse, table}
+use Rattle.layout.specs.Layout.{inUse, table, Holds, wiped}
+use Rattle.layout.proofs.Wiped.{length-wiped, used-wiped, wiped-same}
 use Rattle.rows.proofs.Parts.{tail-part, tail-replaced}
-use Rattle.rows.proofs.Rows.{length-rows, rows-keep}
+use Rattle.rows.proofs.Rows.{rows-take}
 use Rattle.model.specs.Base.{Bytes}
 use Rattle.model.specs.Limits.{maxUsers, maxRules, maxFields}
 use Rattle.model.specs.Tables.{Tables}
-use Rattle.tables.specs.Memory.{userRow, usersBytes, ruleRow, userIn, ruleIn, usersIn, policyIn, tablesIn}
-use Rattle.record.specs.Slots.{slotBytes, fieldsIn}
+use Rattle.tables.specs.Memory.{userRow, usersBytes, ruleRow, tablesBytes, userIn, ruleIn, usersIn, policyIn, tablesIn}
+use Rattle.record.specs.Slots.{slotBytes, recordBytes, fieldsIn}
+use Rattle.opening.specs.Memory.{wipedTables, wipedFields}
 
-no-rows : (k : ℕ) (s : Bytes) → rows k 0 s ≡ []
-unfolding rows
-no-rows k s = refl
+-- what two tables in one list mean
+tablesOf : (k n r w b : ℕ) → Bytes → Tables
+tablesOf k n r w b s = record { users = table userIn k n s; policy = table ruleIn r w (drop b s) }
 
--- the tables, where the policy's rows were stored behind the users': these stay as they are. For any sizes, so that `rw` meets only variables
-module _ (k n r w b : ℕ) (all-users : b ≡ n * k) where
-  tablesOf : Bytes → Tables
-  tablesOf s = record { users = table userIn k n s; policy = table ruleIn r w (drop b s) }
+-- two tables in one list, b bytes of n rows and behind them w rows. For any sizes, so that `rw` meets only variables
+module _ (k n r w b : ℕ) (all-users : b ≡ n * k) (s : Bytes) (users : Holds k n s) (rules : Holds r w (drop b s)) where
+  abbrev both : Bytes
+  both = wiped k n s ++ wiped r w (drop b s)
 
-  tables-stored : (m t p : Bytes) → b ≤ length t → inUse k n t ≡ inUse k n m
-      → inUse r w p ≡ inUse r w (take (length m - b) (drop b m))
-      → tablesOf (replaced b (length t - b) p t) ≡ tablesOf m
+  long : length (wiped k n s) ≡ b
+  long = length-wiped k n s users ∙ sym all-users
+
+  -- the first as it was lent and came back, then the second
+  both-stored : (to u p : Bytes) → u ≡ wiped k n s → p ≡ wiped r w (take (length s - b) (drop b s))
+      → replaced b (length (u ++ drop b to) - b) p (u ++ drop b to) ≡ both
+  both-stored to u p first second = rw (tail-replaced, first, take-at (wiped k n s) (drop b to) b long, second, tail-part)
+
+  users-same : inUse k n both ≡ inUse k n s
+  users-same =
+      let first = take-at (wiped k n s) (wiped r w (drop b s)) b long in
+      let same : rows k n both ≡ rows k n (wiped k n s) = sym (rows-take k n b both (omega arith)) ∙ rw first in
+      rw same (used-wiped k n s users)
+
+  rules-same : inUse r w (drop b both) ≡ inUse r w (drop b s)
+  rules-same = rw (drop-at (wiped k n s) (wiped r w (drop b s)) b long) (used-wiped r w (drop b s) rules)
+
+  both-same : tablesOf k n r w b both ≡ tablesOf k n r w b s
   unfolding tablesOf table
-  tables-stored m t p long users rules =
-      let first = rows-keep k n n t p (le-refl _) (rw all-users at long) in
-      let all = take-all n (rows k n t) (omega (arith, length-rows k n t)) in
-      let behind = drop-at (take b t) p b (length-take-le b t long) in
-      let start : take b t ++ p ≡ take (n * k) t ++ p = rw all-users in
-      let kept : inUse k n (take b t ++ p) ≡ inUse k n m = rw (start, first, sub-self, no-rows, append-nil, all) users in
-      rw (tail-replaced, kept, behind, rules, tail-part)
+  both-same = rw (users-same, rules-same)
 
-pub stored-tables : (m t p : Bytes) → usersBytes ≤ length t → inUse userRow maxUsers t ≡ inUse userRow maxUsers m
-    → inUse ruleRow maxRules p ≡ inUse ruleRow maxRules (take (length m - usersBytes) (drop usersBytes m))
-    → tablesIn (replaced usersBytes (length t - usersBytes) p t) ≡ tablesIn m
-unfolding tablesIn usersIn policyIn tablesOf
-stored-tables = tables-stored userRow maxUsers ruleRow maxRules usersBytes refl
+  both-wiped : both ≡ wiped k n both ++ wiped r w (drop b both)
+  both-wiped = rw (wiped-same k n s both users-same, wiped-same r w (drop b s) (drop b both) rules-same)
+
+-- the tables
+module _ (s : Bytes) (long : length s ≡ tablesBytes) where
+  users-fit : Holds userRow maxUsers s
+  users-fit = (omega arith, omega arith)
+
+  rules-fit : Holds ruleRow maxRules (drop usersBytes s)
+  rules-fit = (omega arith, rw length-drop (omega arith))
+
+  pub tables-stored : (to u p : Bytes) → u ≡ wiped userRow maxUsers s → p ≡ wiped ruleRow maxRules (take (length s - usersBytes) (drop usersBytes s))
+      → replaced usersBytes (length (u ++ drop usersBytes to) - usersBytes) p (u ++ drop usersBytes to) ≡ wipedTables s
+  unfolding wipedTables
+  tables-stored = both-stored userRow maxUsers ruleRow maxRules usersBytes refl s users-fit rules-fit
+
+  pub tables-same : {t : Bytes} → t ≡ wipedTables s → tablesIn t ≡ tablesIn s
+  unfolding wipedTables tablesIn usersIn policyIn tablesOf
+  tables-same e = ap tablesIn e ∙ both-same userRow maxUsers ruleRow maxRules usersBytes refl s users-fit rules-fit
+
+  pub tables-wiped : {t : Bytes} → t ≡ wipedTables s → t ≡ wipedTables t
+  unfolding wipedTables
+  tables-wiped e = rw e (both-wiped userRow maxUsers ruleRow maxRules usersBytes refl s users-fit rules-fit)
 
 -- the fields
-pub stored-fields : (s t : Bytes) → inUse slotBytes maxFields t ≡ inUse slotBytes maxFields s → fieldsIn t ≡ fieldsIn s
-unfolding fieldsIn table
-stored-fields s t e = rw e
+module _ (s : Bytes) (long : length s ≡ recordBytes) where
+  fields-fit : Holds slotBytes maxFields s
+  fields-fit = (omega arith, omega arith)
+
+  pub fields-same : {t : Bytes} → t ≡ wiped slotBytes maxFields s → fieldsIn t ≡ fieldsIn s
+  unfolding fieldsIn table
+  fields-same e = rw (e, used-wiped slotBytes maxFields s fields-fit)
+
+  pub fields-wiped : {t : Bytes} → t ≡ wiped slotBytes maxFields s → t ≡ wipedFields t
+  unfolding wipedFields
+  fields-wiped e = rw e (sym (wiped-same slotBytes maxFields s _ (used-wiped slotBytes maxFields s fields-fit)))

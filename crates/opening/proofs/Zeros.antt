@@ -1,12 +1,11 @@
 -- "Before any accepted opening there are no users and no fields": arrays of zeros mean that.
-use Prim.Native.Nat.{ℕ, zero, suc, _<_}
-use mathlib.Core.Path.{_≡_, refl, _∙_}
+use mathlib.Core.Path.{_≡_, _∙_}
 use mathlib.Core.List.{[]}
 use native.Mathlib.Omega.{arith}
-use lib.ListN.{getD, take, drop, replicate}
+use lib.ListN.{getD, drop}
 use lib.Seq.{getD-drop}
 use Rattle.layout.proofs.Used.{table-none}
-use Rattle.model.specs.Base.{Bytes}
+use Rattle.layout.proofs.Wiped.{zeros, zero-at}
 use Rattle.model.specs.Opening.{initial}
 use Rattle.tables.specs.Memory.{userRow, usersBytes, ruleRow, tablesBytes, userIn, usersIn, ruleIn, policyIn, tablesIn}
 use Rattle.sessions.specs.Logins.{loginNumbers}
@@ -14,15 +13,6 @@ use Rattle.record.specs.Slots.{slotBytes, recordBytes, fieldIn, fieldsIn}
 use Rattle.opening.specs.Memory.{stateIn}
 use Rattle.opening.proofs.AllOpened.{no-logins}
 use Rattle.model.specs.Limits.{maxFields, maxUsers, maxRules}
-
-abbrev pub zeros : ℕ → Bytes
-zeros n = replicate n 0
-
-zero-at : (n i : ℕ) → getD (zeros n) i 0 ≡ 0
-zero-at zero zero = refl
-zero-at zero (suc i) = refl
-zero-at (suc n) zero = refl
-zero-at (suc n) (suc i) = zero-at n i
 
 no-fields : fieldsIn (zeros recordBytes) ≡ []
 unfolding fieldsIn

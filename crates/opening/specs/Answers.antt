@@ -7,7 +7,7 @@ use Rattle.model.specs.Base.{Bytes, if_then_else_}
 use Rattle.model.specs.Limits.{maxText}
 use Rattle.model.specs.Refusals.{Result, refused, done}
 use Rattle.model.specs.Opening.{Texts, Fault, fault, opened, afterOpening}
-use Rattle.opening.specs.Memory.{Arrays, stateOf}
+use Rattle.opening.specs.Memory.{Arrays, stateOf, Wiped}
 use Rattle.opening.specs.declared.answer.Opening.{Opening}
 use Rattle.opening.specs.declared.answer.Opening.the-variants.{Done, Refused}
 
@@ -36,8 +36,14 @@ abbrev pub KeptIfRefused : {A : Type 0} → Opening → A → A → Type 0
 KeptIfRefused Done before now = Unit {0}
 KeptIfRefused (Refused n t l) before now = now ≡ before
 
+-- an acceptance leaves nothing in them but what it stored
+abbrev pub WipedIfDone : Opening → Arrays → Type 0
+WipedIfDone Done now = Wiped now
+WipedIfDone (Refused n t l) now = Unit {0}
+
 -- four texts opened: what is answered, and what the arrays are afterwards
 pub record Opens (before : Arrays) (texts : Texts) (answer : Opening) (after : Arrays) : Type 0 where
   pub answered : answer ≡ openingAnswer (opened texts)
   pub state : stateOf after ≡ afterOpening (stateOf before) texts
   pub kept : KeptIfRefused answer before after
+  pub wiped : WipedIfDone answer after

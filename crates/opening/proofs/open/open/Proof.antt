@@ -70,8 +70,9 @@ returns-4 c =
     let t = k .before .before .before in
     let accepted = l .before .before .before .enum-told .given .1 in
     let done = opened-done _ _ _ _ (t .too-long .ensures) (omega arith) _ (k .open-tables .ensures) accepted _ (l .open-record .ensures) (kept .before .before .before .enum-told3 .given .1) in
-    acceptance _ _ (kept .copy-tables .last .0) (c .before .copy-fields .last .0)
-    (rw (← kept .copy-tables .ensures, ← c .before .copy-fields .ensures) at done)
+    let tables = kept .copy-tables .ensures in
+    let fields = c .before .copy-fields .ensures in
+    acceptance _ _ (kept .copy-tables .last .0) (c .before .copy-fields .last .0) (rw (← tables .0, ← fields .0) at done) (tables .1) (fields .1)
 
 pub open-spec : {M : Type 1} → statement M
 open-spec =

@@ -1,11 +1,19 @@
--- Users' rows, and behind them the policy's, which change none of the users'.
+-- The users' rows into their part, and the policy's into the part behind it.
+use native.Mathlib.Omega.{arith}
+use lib.ListN.{length-take}
 use borrow.Author.Needs.{needs}
-use Rattle.opening.proofs.Stored.{stored-tables}
+use Rattle.opening.proofs.Stored.{tables-stored}
 use Rattle.opening.proofs.store.copy_both.Statement.{statement}
 use Rattle.opening.proofs.store.copy_both.Tie as tie
 
+slice-relend-prefix-copy-rows : tie.Need-slice-relend-prefix-copy-rows
+slice-relend-prefix-copy-rows c = search needs
+
+slice-aggregate-copy-rows : tie.Need-slice-aggregate-copy-rows
+slice-aggregate-copy-rows c = simp length-take (omega arith)
+
 copy-rows-requires : tie.Need-copy-rows-requires
-copy-rows-requires c κs = search needs
+copy-rows-requires c κs = (search needs, simp length-take (omega arith))
 
 sub-copy-rows : tie.Need-sub-copy-rows
 sub-copy-rows c = search needs
@@ -33,13 +41,16 @@ same-length c = search needs
 
 returns : tie.Need-returns
 returns c =
-    let users = c .before .before .before .before .before .before .before .copy-rows in
-    stored-tables _ _ _ (search needs) (users .ensures) (c .before .before .copy-rows2 .ensures)
+    let users = c .before .before .before .before .before .before .before in
+    let s = users .before .before .before .before in
+    tables-stored (s .args .from .now) (s .pre .1) (s .args .to .now) _ _ (users .copy-rows .ensures) (c .before .before .copy-rows2 .ensures)
 
 pub copy-both-spec : {M : Type 1} → statement M
 copy-both-spec =
     tie.close
     (tie.spec
+    slice-relend-prefix-copy-rows
+    slice-aggregate-copy-rows
     copy-rows-requires
     sub-copy-rows
     part-copy-rows-start
