@@ -10,9 +10,8 @@ use lib.ListN.{length, take, drop, set}
 use lib.Seq.{take-take, take-set-le, take-suc-set, drop-append-le, length-take-le}
 use Rattle.rows.proofs.Rows.{drop-take}
 use Rattle.model.specs.Base.{Bytes, among}
-use Rattle.model.specs.Limits.{maxText}
 use Rattle.model.specs.RecordText.{Node, Members, noMembers, member, keysIn, twiceIn, twice, countIn, count}
-use Rattle.reader.specs.Summaries.{keysRoom, memberBytes, standsAtOne, summary, FieldsWithin}
+use Rattle.reader.specs.Summaries.{memberBytes, HaveRoom, standsAtOne, summary, FieldsWithin}
 use Rattle.reader.specs.declared.grammar.ObjectAt.{ObjectAt}
 use Rattle.reader.specs.declared.grammar.ObjectAt.the-variants.{At, Bad}
 use Rattle.reader.proofs.Spaced.{MemberStands, member-quoted}
@@ -40,7 +39,7 @@ positions-more top keys now n a above room same =
 
 -- the members m of the object that begins at `at` end before i, and the table has the positions of their keys from `top` to n
 pub record Sums (s : Bytes) (at top : ℕ) (keys₀ keys : List ℕ) (n fields : ℕ) (doubled : Bool) (m : Members) (i : ℕ) : Type 0 where
-  pub long : length keys ≡ keysRoom
+  pub long : length keys ≡ length keys₀
   pub above : top ≤ n
   pub room : memberBytes * n ≤ i
   pub kept : take top keys ≡ take top keys₀
@@ -48,10 +47,10 @@ pub record Sums (s : Bytes) (at top : ℕ) (keys₀ keys : List ℕ) (n fields :
   pub within : at + fields ≤ i
   pub sums : summary m ≡ (fields, doubled)
 
-pub sums-start : (s : Bytes) (at top : ℕ) (keys : List ℕ) (o : ℕ) → length keys ≡ keysRoom → memberBytes * top ≤ at → at ≤ o → Sums s at top keys keys top 0 false noMembers o
+pub sums-start : (s : Bytes) (at top : ℕ) (keys : List ℕ) (o : ℕ) → memberBytes * top ≤ at → at ≤ o → Sums s at top keys keys top 0 false noMembers o
 unfolding summary count twice
-sums-start s at top keys o l r f = record {
-  long = l;
+sums-start s at top keys o r f = record {
+  long = refl;
   above = omega arith;
   room = omega arith;
   kept = refl;
@@ -79,9 +78,9 @@ module _ (s : Bytes) (at top : ℕ) (keys₀ keys : List ℕ) (n fields : ℕ) (
       ∙ rw same (take-take top (n + 1) (set keys n a) (omega (arith, before .above)) ∙ take-set-le top keys n a (before .above) ∙ before .kept)
 
   -- a member more: its key stands from `from` to `to`, and what it holds ends at e
-  module _ (short : length s ≤ maxText) (from to v : ℕ) (key : MemberStands s i from to v) where
-    pub sums-room : n < keysRoom
-    sums-room = omega (arith, before .room, key .quote, key .least, key .colon, key .reads .to)
+  module _ (fit : HaveRoom s keys₀) (from to v : ℕ) (key : MemberStands s i from to v) where
+    pub sums-room : n < length keys
+    sums-room = omega (arith, before .long, before .room, key .quote, key .least, key .colon, key .reads .to)
 
     sums-seen : standsAtOne (take (to + 1 - from) (drop from s)) s (take (n - top) (drop top keys)) ≡ among (take (to - from) (drop from s)) (keysIn m)
     sums-seen =
@@ -89,18 +88,17 @@ module _ (s : Bytes) (at top : ℕ) (keys₀ keys : List ℕ) (n fields : ℕ) (
         word-seen s _ m (before .names) _ (q .0) i (q .1) from (key .quote) to (omega (arith, key .least)) (omega (arith, key .colon, key .reads .to)) refl
 
     pub sums-more : (seen : Bool) → seen ≡ standsAtOne (take (to + 1 - from) (drop from s)) s (take (n - top) (drop top keys))
-        → (now : List ℕ) → length now ≡ keysRoom → take (n + 1) now ≡ take (n + 1) (set keys n from)
+        → (now : List ℕ) → length now ≡ length keys₀ → take (n + 1) now ≡ take (n + 1) (set keys n from)
         → (a : Node) (e more : ℕ) (again : Bool) → v ≤ e → i + more ≤ e → nodeSummary a ≡ (more, again)
         → Sums s at top keys₀ now (n + 1) (fields + more) (seen || again || doubled) (member m (take (to - from) (drop from s)) a) e
     sums-more seen is now l same a e more again f w is-sum =
         let q = member-quoted _ _ _ (key .reads .is) in
-        let r : n < length keys = omega (arith, sums-room, before .long) in
         record {
           long = l;
           above = omega (arith, before .above);
           room = omega (arith, before .room, key .quote, key .least, key .colon);
           kept = sums-kept now from same;
-          names = rw (positions-more top keys now n from (before .above) r same) (names-more s _ m (before .names) _ (q .0) i (q .1) from (key .quote) a);
+          names = rw (positions-more top keys now n from (before .above) sums-room same) (names-more s _ m (before .names) _ (q .0) i (q .1) from (key .quote) a);
           within = omega (arith, before .within);
           sums = summary-more m _ a fields more doubled again (before .sums) is-sum ∙ rw (is ∙ sums-seen);
         }

@@ -1,11 +1,10 @@
 -- What is asked of a record's text before a field of it is stored, and what the answers say.
-use Prim.Native.Nat.{ℕ, _+_, _/_, _≤_}
+use Prim.Native.Nat.{ℕ, _+_, _*_, _≤_}
 use mathlib.Core.Bool.{Bool}
 use mathlib.Core.Option.{Option, none, some}
 use mathlib.Core.List.{List}
-use lib.ListN.{drop}
+use lib.ListN.{length, drop}
 use Rattle.model.specs.Base.{Bytes, any, isSome, after}
-use Rattle.model.specs.Limits.{maxText}
 use Rattle.model.specs.RecordText.{Members, treeOf, twice, count}
 use Rattle.model.specs.Refusals.{Result, refused, done, _>>=_, _>>_, refuse_if_, _or_}
 use Rattle.reader.specs.declared.grammar.ObjectAt.{ObjectAt}
@@ -13,14 +12,14 @@ use Rattle.reader.specs.declared.grammar.ObjectAt.the-variants as object
 use Rattle.reader.specs.declared.grammar.RecordRead.{RecordRead}
 use Rattle.reader.specs.declared.grammar.RecordRead.the-variants as record-read
 
--- ── Sizes ──
+-- ── Keys of a text ──
 -- a key, its quotes and its colon take at least these bytes
 abbrev pub memberBytes : ℕ
 memberBytes = 4
 
--- so many keys a text has at most
-abbrev pub keysRoom : ℕ
-keysRoom = maxText / memberBytes
+-- so the keys of a text s have room in a table
+abbrev pub HaveRoom : Bytes → List ℕ → Type 0
+HaveRoom s keys = length s ≤ memberBytes * length keys
 
 -- ── Meanings ──
 -- the word w stands in s at one of the positions

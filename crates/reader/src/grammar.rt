@@ -17,12 +17,17 @@ ghost use Rattle.rows.specs.Positions.{placed};
 ghost use Rattle.model.specs.Limits.{maxText};
 ghost use Rattle.model.specs.RecordText.{readObject};
 ghost use Rattle.reader.specs.Tokens.{mapped, readTop};
-ghost use Rattle.reader.specs.Summaries.{memberBytes, keysRoom, summary, objectAnswer, FieldsWithin, readingOf, readAnswer};
+ghost use Rattle.reader.specs.Summaries.{memberBytes, HaveRoom, summary, objectAnswer, FieldsWithin, readingOf, readAnswer};
 
 // A key, its quotes and its colon take at least these bytes: so many keys a text has at most.
 const MEMBER: usize = 4;
 
-pub const KEYS: usize = MAX_TEXT / MEMBER;
+const KEYS: usize = MAX_TEXT / MEMBER;
+
+// A text is short up to a sixteenth of what it may have: with room for fewer keys there is less to set to 0 before it is read.
+const SHORT_TEXT: usize = MAX_TEXT / 16;
+
+const SHORT_KEYS: usize = SHORT_TEXT / MEMBER;
 
 // Where an object ends, how many fields it has, and whether a key stands twice in it or in an object in it.
 pub enum ObjectAt {
@@ -39,7 +44,7 @@ pub enum RecordRead {
 
 // An object with members, in which at most `depth` keys stand one inside the other; `keys` has those of the objects around it before `top`.
 fn object_at(s: &[u8], at: usize, depth: usize, keys: &mut [u16], top: usize) -> ObjectAt
-    requires { ⌜ (at ≤ length (now s)) × (length (now s) ≤ maxText) × (length (now keys) ≡ keysRoom) × (memberBytes * top ≤ at) ⌝ }
+    requires { ⌜ (at ≤ length (now s)) × (length (now s) ≤ maxText) × HaveRoom (now s) (now keys) × (memberBytes * top ≤ at) ⌝ }
     ensures { λ r. ⌜ objectAnswer r ≡ placed (mapped summary (readObject depth)) (now (s .entry)) at ⌝ }
     ensures { λ r. ⌜ FieldsWithin at r ⌝ }
     ensures { λ r. ⌜ take top (now (keys .exit)) ≡ take top (now (keys .entry)) ⌝ }
@@ -91,6 +96,10 @@ fn top_at(s: &[u8], at: usize) -> ObjectAt
     };
     if let TokenAt::Close(e) = token_at(s, open) {
         return ObjectAt::At(e, 0, false);
+    }
+    if s.len() <= SHORT_TEXT {
+        let mut few = [0u16; SHORT_KEYS];
+        return object_at(s, at, MAX_DEPTH, &mut few, 0);
     }
     let mut keys = [0u16; KEYS];
     object_at(s, at, MAX_DEPTH, &mut keys, 0)

@@ -11,7 +11,7 @@ use Rattle.model.specs.Base.{Bytes}
 use Rattle.model.specs.RecordText.{Node, Members, member, count, twice}
 use Rattle.values.proofs.Values.{told}
 use Rattle.reader.specs.Tokens.{readToken, mapped}
-use Rattle.reader.specs.Summaries.{keysRoom, summary, objectAnswer, FieldsWithin}
+use Rattle.reader.specs.Summaries.{summary, objectAnswer, FieldsWithin}
 use Rattle.reader.proofs.Spaced.{token-moves, open-stands, close-stands, comma-stands, no-open, no-close, no-comma, key-bad, MemberStands, member-stands}
 use Rattle.reader.proofs.Mapped.{mapped-is, mapped-bad, mapped-reads}
 use Rattle.reader.proofs.Objects.{readNode, leaves-node, leaves-object, node-leaf, node-mapped, Left, object-none, object-unopened, left-start, left-no-member, left-no-value, left-unclosed, left-last, left-again}
@@ -66,7 +66,7 @@ module _ (t : ℕ) where
   loop-holds c =
       let asks = c .before .before .before .before .before .before .before .pre .1 in
       let r = open-stands _ _ _ (c .before .before .before .token-at .ensures) (asks .0) _ (c .before .«open» .given .1) in
-      (_, left-start _ _ _ (c .before .before .before .before .if1 .left) _ r, sums-start _ _ _ _ _ (asks .2) (asks .3) (r .from))
+      (_, left-start _ _ _ (c .before .before .before .before .if1 .left) _ r, sums-start _ _ _ _ _ (asks .3) (r .from))
 
   member-at-requires : lts.Need-member-at-requires claims asked object-at.Post Inv-loop μ-loop
   member-at-requires c κs = c .loop .inv .1 .to
@@ -78,7 +78,7 @@ module _ (t : ℕ) where
   enum-told c = search needs
 
   same-length : lts.Need-same-length claims asked object-at.Post Inv-loop μ-loop
-  same-length c = c .before .before .before .loop .inv .2 .long ∙ sym (c .before .before .before .before .before .before .before .before .before .before .before .pre .1 .2)
+  same-length c = c .before .before .before .loop .inv .2 .long
 
   returns-3 : lts.Need-returns-3 claims asked object-at.Post Inv-loop μ-loop
   returns-3 c =
@@ -118,12 +118,12 @@ module _ (t : ℕ) where
   note-key-requires : lts.Need-note-key-requires claims asked object-at.Post Inv-loop μ-loop
   note-key-requires c κs =
       let k = stands (c .before) in
-      let short = start (c .before) .pre .1 .1 in
+      let asks = start (c .before) .pre .1 in
       let l = head (c .before) .loop .inv .2 in
-      (omega (arith, k .least), omega (arith, k .colon, k .reads .to), short, l .above, omega (arith, sums-room _ _ _ _ _ _ _ _ _ _ l short _ _ _ k, l .long))
+      (omega (arith, k .least), omega (arith, k .colon, k .reads .to), asks .1, l .above, sums-room _ _ _ _ _ _ _ _ _ _ l (asks .2) _ _ _ k)
 
   add-n : lts.Need-add-n claims asked object-at.Post Inv-loop μ-loop
-  add-n c = let k = c .before .before .before .before in omega (arith, sums-room _ _ _ _ _ _ _ _ _ _ (head k .loop .inv .2) (start k .pre .1 .1) _ _ _ (stands k))
+  add-n c = let k = c .before .before .before .before in omega (arith, head k .loop .inv .2 .room, head k .loop .inv .1 .to, start k .pre .1 .1)
 
   leaf-at-requires : lts.Need-leaf-at-requires claims asked object-at.Post Inv-loop μ-loop
   leaf-at-requires c κs = stands (c .before .before .before .before) .reads .to
@@ -146,7 +146,7 @@ module _ (t : ℕ) where
         (
           stands k .reads .to,
           asks .1 .1,
-          c .before .before .before .before .before .before .note-key .kept .1 .1 .1 .0 ∙ l .long,
+          omega (arith, asks .1 .2, c .before .before .before .before .before .before .note-key .kept .1 .1 .1 .0, l .long),
           omega (arith, l .room, stands k .quote, stands k .least, stands k .colon),
         ),
       )
@@ -157,7 +157,7 @@ module _ (t : ℕ) where
       let l = head k .loop in
       (objectAnswer (c .match3 .got) ≡ placed (mapped nodeSummary (readNode (start k .args .depth - 1))) (text k) (value k))
       × FieldsWithin (l .i) (c .match3 .got)
-      × (length (c .match3 .keys) ≡ keysRoom)
+      × (length (c .match3 .keys) ≡ length (start k .args .keys .now))
       × (take (l .n + 1) (c .match3 .keys) ≡ take (l .n + 1) (set (l .keys) (l .n) (from k)))
   unfolding nodeSummary summary count twice
   held c =
@@ -188,7 +188,7 @@ module _ (t : ℕ) where
   enum-told-3 c = search needs
 
   same-length-2 : lts.Need-same-length-2 claims asked object-at.Post Inv-loop μ-loop
-  same-length-2 c = held (c .before .before) .2 ∙ sym (start (c .before .before .before .before .before .before .before .before) .pre .1 .2)
+  same-length-2 c = held (c .before .before) .2
 
   returns-4 : lts.Need-returns-4 claims asked object-at.Post Inv-loop μ-loop
   returns-4 c =
@@ -221,7 +221,7 @@ module _ (t : ℕ) where
       let (node, reads, is) = mapped-reads nodeSummary (readNode _) _ _ (leaves-node _ (leaves-object _)) (stands k .reads .to) _ _ read in (
         node,
         reads,
-        sums-more _ _ _ _ _ _ _ _ _ _ (head k .loop .inv .2) (start k .pre .1 .1) _ _ _ (stands k) _ (b .before .before .before .before .before .before .before .note-key .ensures .0)
+        sums-more _ _ _ _ _ _ _ _ _ _ (head k .loop .inv .2) (start k .pre .1 .2) _ _ _ (stands k) _ (b .before .before .before .before .before .before .before .note-key .ensures .0)
             _ (h .2) (h .3) node _ _ _ (reads .from) (rw (b .before .got .given .1) at (h .1)) is,
       )
 
@@ -238,7 +238,7 @@ module _ (t : ℕ) where
   enum-known-token-2 c = search needs
 
   same-length-3 : lts.Need-same-length-3 claims asked object-at.Post Inv-loop μ-loop
-  same-length-3 c = let b = c .before .before .before in node-stands b .2 .long ∙ sym (start (key b) .pre .1 .2)
+  same-length-3 c = node-stands (c .before .before .before) .2 .long
 
   returns-5 : lts.Need-returns-5 claims asked object-at.Post Inv-loop μ-loop
   returns-5 c =
@@ -252,7 +252,7 @@ module _ (t : ℕ) where
       )
 
   same-length-4 : lts.Need-same-length-4 claims asked object-at.Post Inv-loop μ-loop
-  same-length-4 c = let b = c .before .before .before .before .before in node-stands b .2 .long ∙ sym (start (key b) .pre .1 .2)
+  same-length-4 c = node-stands (c .before .before .before .before .before) .2 .long
 
   returns-6 : lts.Need-returns-6 claims asked object-at.Post Inv-loop μ-loop
   returns-6 c =
