@@ -7,7 +7,7 @@ use Rattle.model.specs.Base.{Bytes, if_then_else_}
 use Rattle.model.specs.Refusals.{Result, refused, done}
 use Rattle.model.specs.Opening.{State, Texts, Fault, opened, afterOpening}
 use Rattle.model.specs.Serving.{Answer, refusal, session, length-is, accepted, Act, save, Outcome, outcome}
-use Rattle.opening.specs.Memory.{Arrays, stateIn, stateOf}
+use Rattle.opening.specs.Memory.{Arrays, stateIn, stateOf, Wiped}
 use Rattle.server.specs.declared.answer.Reply.{Reply}
 use Rattle.server.specs.declared.answer.Reply.the-variants.{Refused, Session, Length, Pushed}
 
@@ -54,6 +54,11 @@ unfoldable pub KeptUnless0 : {A : Type 0} → ℕ → A → A → Type 0
 KeptUnless0 zero before now = Unit {0}
 KeptUnless0 (suc e) before now = now ≡ before
 
+-- an accepted one leaves nothing in them but what it stored
+unfoldable pub WipedIf0 : ℕ → Arrays → Type 0
+WipedIf0 zero now = Wiped now
+WipedIf0 (suc e) now = Unit {0}
+
 -- a refusal and a length keep the login states
 unfoldable pub LoginsKeptAs : ℕ → List ℕ → List ℕ → Type 0
 LoginsKeptAs zero before now = now ≡ before
@@ -76,6 +81,7 @@ pub record OpensAs (before : Arrays) (texts : Texts) (r inText inLine : ℕ) (af
   pub line : inLine ≡ faultLine (opened texts)
   pub state : stateOf after ≡ afterOpening (stateOf before) texts
   pub kept : KeptUnless0 r before after
+  pub wiped : WipedIf0 r after
 
 -- an act served: the answer by its kind and number, and what the arrays, the buffer and the list are afterwards
 pub record ServesAs (before : Arrays) (act : Act) (kind r : ℕ) (after : Arrays) (buffer : Bytes) (list : List ℕ) : Type 0 where
