@@ -24,7 +24,7 @@ const MEMBER: usize = 4;
 
 const KEYS: usize = MAX_TEXT / MEMBER;
 
-// A text is short up to a sixteenth of what it may have: with room for fewer keys there is less to set to 0 before it is read.
+// A text of at most a sixteenth of the longest is short: room for fewer keys is less to set to 0 before it is read.
 const SHORT_TEXT: usize = MAX_TEXT / 16;
 
 const SHORT_KEYS: usize = SHORT_TEXT / MEMBER;
