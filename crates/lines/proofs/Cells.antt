@@ -1,13 +1,11 @@
 -- The values of a line by positions, and a name looked up among a head's.
 use Prim.Native.Nat.{ℕ, suc, _+_, _-_, _≤_, _<_}
-use mathlib.Core.Path.{_≡_, refl, sym, ap₂, _∙_}
+use mathlib.Core.Path.{_≡_, refl, ap₂, _∙_}
 use mathlib.Core.Bool.{true, false}
 use mathlib.Core.List.{List, [], _∷_}
-use native.Mathlib.Nat.{add-zero}
 use native.Mathlib.Omega.{arith}
 use lib.Dec.{eqb}
 use lib.ListN.{length, getD, take, drop}
-use lib.Seq.{getD-drop, drop-drop}
 use borrow.Author.Tests.{eq-eqb, ne-eqb}
 use Rattle.rows.specs.Rows.{upTo}
 use Rattle.rows.specs.Positions.{run, runEnd}
@@ -72,44 +70,41 @@ module _ (s : Bytes) (i : ℕ) where
   unfolding split
   count-over h = rw (over s i h)
 
--- ── A name among a head's, from the column j on, where h is that column's name ──
-module _ (n : Bytes) (hs : List Bytes) (j : ℕ) where
-  pub among-over : length hs ≤ j → among n (drop j hs) ≡ false
+-- ── A name among a head's columns, of which the first from the position `at` on ends at e ──
+module _ (n s : Bytes) (at e : ℕ) (is : e ≡ runEnd (isNot 0x3B) s at) where
+  pub among-here : (n == take (e - at) (drop at s)) ≡ true → among n (split (drop at s)) ≡ true
   unfolding among any
-  among-over p = rw (over hs j p)
+  among-here h = rw (split-at s at e is, h)
 
-  module _ (p : j < length hs) (h : Bytes) (is : h ≡ getD hs j []) where
-    pub among-here : (n == h) ≡ true → among n (drop j hs) ≡ true
+  module _ (other : (n == take (e - at) (drop at s)) ≡ false) where
+    pub among-last : length s ≤ e → among n (split (drop at s)) ≡ false
     unfolding among any
-    among-here e = rw (here [] hs j p, ← is, e)
+    among-last h = rw (split-last s at e is h, other)
 
-    pub among-next : (n == h) ≡ false → among n (drop j hs) ≡ among n (drop (j + 1) hs)
+    pub among-more : e < length s → among n (split (drop at s)) ≡ among n (split (drop (e + 1) s))
     unfolding among any
-    among-next e = rw (here [] hs j p, ← is, e)
+    among-more h = rw (split-more s at e is h, other)
 
--- ── The value under a name, the same way ──
-module _ (n h : Bytes) (hs : List Bytes) where
-  under-yes : (vs : List Bytes) → (h == n) ≡ true → under (h ∷ hs) vs n ≡ getD vs 0 []
+-- ── The value under a name, the same way: the line's value from the position `from` on ends at k ──
+under-none : (hs : List Bytes) (n : Bytes) → under hs [] n ≡ []
+unfolding under
+under-none [] n = refl
+under-none (h ∷ hs) n = refl
+
+module _ (n s : Bytes) (at e : ℕ) (is : e ≡ runEnd (isNot 0x3B) s at) (t : Bytes) (from k : ℕ) (is₁ : k ≡ runEnd (isNot 0x3B) t from) where
+  pub under-here : (take (e - at) (drop at s) == n) ≡ true → under (split (drop at s)) (split (drop from t)) n ≡ take (k - from) (drop from t)
   unfolding under
-  under-yes [] e = refl
-  under-yes (v ∷ vs) e = rw e
+  under-here h = rw (split-at s at e is, split-at t from k is₁, h)
 
-  under-no : (vs : List Bytes) → (h == n) ≡ false → under (h ∷ hs) vs n ≡ under hs (drop 1 vs) n
-  under-no [] e = none (h ∷ hs) ∙ sym (none hs)
-    where
-      none : (l : List Bytes) → under l [] n ≡ []
-      none [] = unfold under in refl
-      none (x ∷ l) = unfold under in refl
-  under-no (v ∷ vs) e = unfold under in rw e
+  module _ (other : (take (e - at) (drop at s) == n) ≡ false) where
+    pub under-last : length s ≤ e → under (split (drop at s)) (split (drop from t)) n ≡ []
+    unfolding under
+    under-last h = rw (split-last s at e is h, split-at t from k is₁, other)
 
-module _ (hs vs : List Bytes) (n : Bytes) (j : ℕ) where
-  pub under-over : length hs ≤ j → under (drop j hs) (drop j vs) n ≡ []
-  unfolding under
-  under-over p = rw (over hs j p)
+    pub under-short : length t ≤ k → under (split (drop at s)) (split (drop from t)) n ≡ []
+    unfolding under
+    under-short h = rw (split-at s at e is, split-last t from k is₁ h, other) (under-none (further (drop e s)) n)
 
-  module _ (p : j < length hs) (h : Bytes) (is : h ≡ getD hs j []) where
-    pub under-here : (h == n) ≡ true → under (drop j hs) (drop j vs) n ≡ getD vs j []
-    under-here e = rw (here [] hs j p, ← is) (under-yes n h (drop (j + 1) hs) (drop j vs) e ∙ rw (getD-drop, add-zero))
-
-    pub under-next : (h == n) ≡ false → under (drop j hs) (drop j vs) n ≡ under (drop (j + 1) hs) (drop (j + 1) vs) n
-    under-next e = rw (here [] hs j p, ← is) (under-no n h (drop (j + 1) hs) (drop j vs) e ∙ rw drop-drop)
+    pub under-more : e < length s → k < length t → under (split (drop at s)) (split (drop from t)) n ≡ under (split (drop (e + 1) s)) (split (drop (k + 1) t)) n
+    unfolding under
+    under-more h l = rw (split-more s at e is h, split-more t from k is₁ l, other)

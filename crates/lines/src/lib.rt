@@ -48,29 +48,39 @@ pub fn has_column(head: &[u8], name: &[u8]) -> bool
     requires { ⌜ length (now head) ≤ maxText ⌝ }
     ensures { λ r. ⌜ r ≡ among (now (name .entry)) (split (now (head .entry))) ⌝ }
 {
-    let n = count(head);
-    let mut j: usize = 0;
-    while j < n {
-        if same(name, value(head, j)) {
+    let mut at: usize = 0;
+    loop {
+        let end = until(head, at, b';');
+        if same(name, &head[at..end]) {
             return true;
         }
-        j += 1;
+        if end == head.len() {
+            return false;
+        }
+        at = end + 1;
     }
-    false
 }
 
-// The value of a line under the column of the name.
+// The value of a line under the column of the name: head and line are gone through side by side.
 pub fn value_under<'a>(head: &[u8], line: &'a [u8], name: &[u8]) -> &'a [u8]
     requires { ⌜ length (now head) ≤ maxText ⌝ }
     ensures { λ r. ⌜ now r ≡ under (split (now (head .entry))) (split (now (line .entry))) (now (name .entry)) ⌝ }
 {
-    let n = count(head);
-    let mut j: usize = 0;
-    while j < n {
-        if same(value(head, j), name) {
-            return value(line, j);
+    let mut at: usize = 0;
+    let mut from: usize = 0;
+    loop {
+        let end = until(head, at, b';');
+        let to = until(line, from, b';');
+        if same(&head[at..end], name) {
+            return &line[from..to];
         }
-        j += 1;
+        if end == head.len() {
+            return &line[..0];
+        }
+        if to == line.len() {
+            return &line[..0];
+        }
+        at = end + 1;
+        from = to + 1;
     }
-    &line[..0]
 }
