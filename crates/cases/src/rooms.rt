@@ -33,7 +33,7 @@ fn print_reply(name: &[u8], room: usize, reply: Reply) -> bool {
             text(b"\n");
             false
         }
-        Reply::Session(_) | Reply::Pushed(_) => {
+        Reply::Session(_) | Reply::Accepted(_, _) => {
             text(b": neither\n");
             false
         }

@@ -25,7 +25,7 @@ unfoldable pub receiversOf : Tables → List LoginState → ℕ → Keys → Lis
 receiversOf t ls i p = map (λ j. sessionNumber j (getD ls j emptyLogin)) (keep (receives t ls i p) (range 0 (length (t .users))))
 
 -- a push by the user at i: the numbers of all whom it reaches stand at the start of the list, whose rest is as it was; `told` counts them
-pub record Reached (tables : Bytes) (logins : List ℕ) (i : ℕ) (path : Bytes) (before : List ℕ) (told : ℕ) (after : List ℕ) : Type 0 where
+pub record Listed (tables : Bytes) (logins : List ℕ) (i : ℕ) (path : Bytes) (before : List ℕ) (told : ℕ) (after : List ℕ) : Type 0 where
   pub listed : after ≡ over (receiversOf (tablesIn tables) (loginsIn logins) i (pathIn path)) before
   pub counted : told ≡ length (receiversOf (tablesIn tables) (loginsIn logins) i (pathIn path))
 

@@ -19,7 +19,7 @@ ghost use lib.Dec.{eqb};
 ghost use lib.ListN.{length};
 ghost use Rattle.rows.specs.Rows.{Wrote};
 ghost use Rattle.model.specs.Limits.{maxUsers, maxLine};
-ghost use Rattle.deliveries.specs.Receivers.{Reached, deliveryText, deliveryOf, deliveriesText, deliveriesOf};
+ghost use Rattle.deliveries.specs.Receivers.{Listed, deliveryText, deliveryOf, deliveriesText, deliveriesOf};
 
 // Whether a push by the user at i reaches the one at j, who has this login state and may read the path or not.
 fn receives(i: usize, j: usize, state: LoginState, reads: bool) -> bool
@@ -43,7 +43,7 @@ pub fn put_receivers(
     path: &[u8; PATH],
 ) -> usize
     requires { ⌜ maxUsers ≤ length (now list) ⌝ }
-    ensures { λ r. ⌜ Reached (now (tables .entry)) (now (logins .entry))
+    ensures { λ r. ⌜ Listed (now (tables .entry)) (now (logins .entry))
         i (now (path .entry)) (now (list .entry)) r (now (list .exit)) ⌝ }
 {
     let n = row_count(tables, USER, USERS);

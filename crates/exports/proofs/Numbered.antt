@@ -9,32 +9,16 @@ use Rattle.model.specs.Opening.{State, Fault}
 use Rattle.opening.specs.declared.answer.Opening.{Opening}
 use Rattle.opening.specs.declared.answer.Opening.the-variants as opening
 use Rattle.opening.specs.Answers.{openingAnswer}
+use Rattle.model.specs.Serving.{Outcome}
 use Rattle.server.specs.declared.answer.Reply.{Reply}
-use Rattle.server.specs.declared.answer.Reply.the-variants.{Refused, Session, Length, Pushed}
-use Rattle.server.specs.Replies.{outcomeIn, LoginsKept, FieldsKept}
-use Rattle.exports.specs.Numbers.{faultNumber, faultText, faultLine, kindOf, numberOf, outcomeAs, KeptUnless0, LoginsKeptAs, FieldsKeptAs}
+use Rattle.server.specs.Replies.{answerIn, toldIn, outcomeIn}
+use Rattle.exports.specs.Numbers.{faultNumber, faultText, faultLine, kindOf, numberOf, Tells, KeptUnless0}
 
--- a reply, with what it left
-pub reply-as : (r : Reply) (s : State) (b : Bytes) (l : List ℕ) → outcomeAs (kindOf r) (numberOf r) s b l ≡ outcomeIn r s b l
-unfolding outcomeAs outcomeIn
-reply-as (Refused e) s b l = refl
-reply-as (Session n) s b l = refl
-reply-as (Length n) s b l = refl
-reply-as (Pushed k) s b l = refl
-
-pub logins-as : (r : Reply) (before now : List ℕ) → LoginsKept r before now → LoginsKeptAs (kindOf r) before now
-unfolding LoginsKeptAs
-logins-as (Refused e) before now h = h
-logins-as (Session n) before now h = tt
-logins-as (Length n) before now h = h
-logins-as (Pushed k) before now h = tt
-
-pub fields-as : (r : Reply) (before now : Bytes) → FieldsKept r before now → FieldsKeptAs (kindOf r) before now
-unfolding FieldsKeptAs
-fields-as (Refused e) before now h = h
-fields-as (Session n) before now h = h
-fields-as (Length n) before now h = h
-fields-as (Pushed k) before now h = tt
+-- a reply's kind and number, where the reply with what it left is an outcome
+pub reply-tells : (r : Reply) (s : State) (b : Bytes) (l : List ℕ) {o : Outcome} {kind number : ℕ} → outcomeIn r s b l ≡ o
+    → kind ≡ kindOf (answerIn r) → number ≡ numberOf (answerIn r) (toldIn r) → Tells o kind number s b l
+unfolding outcomeIn
+reply-tells r s b l is k n = rw (← is) (record { kind-is = k; number-is = n; state-is = refl; buffer-is = refl; list-is = refl })
 
 -- an opening that was accepted, and one that was refused
 pub done-as : (o : Result Fault State) → opening.Done ≡ openingAnswer o → (0 ≡ faultNumber o) × (0 ≡ faultText o) × (0 ≡ faultLine o)

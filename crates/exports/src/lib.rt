@@ -1,5 +1,6 @@
 // The three operations for callers in C and Rust. Slices go as a pointer and a length, arrays as a pointer.
 use copies::COPY;
+use lexical::limits::LIST_ROOM;
 use opening::answer::Opening;
 use server::answer::Reply;
 use server::open::LOGINS;
@@ -8,14 +9,14 @@ use server::open::TABLES;
 use server::open::open;
 use server::request::request;
 use server::save::save;
-use tables::memory::USERS;
 ghost use mathlib.Core.Path.{_≡_};
-ghost use Rattle.model.specs.Limits.{maxCopy, maxUsers};
+ghost use Rattle.model.specs.Limits.{maxCopy, listRoom};
 ghost use Rattle.model.specs.Serving as serving;
 ghost use Rattle.opening.specs.Answers.{textsOf};
 ghost use Rattle.opening.specs.Memory.{arrays};
 ghost use Rattle.record.specs.Slots.{recordBytes};
 ghost use Rattle.sessions.specs.Logins.{loginNumbers};
+ghost use Rattle.server.specs.Replies.{answerIn, toldIn};
 ghost use Rattle.tables.specs.Memory.{tablesBytes};
 ghost use Rattle.exports.specs.Numbers.{kindOf, numberOf, OpensAs, ServesAs, SavesAs};
 
@@ -51,30 +52,30 @@ pub extern "C" fn jesovanga_copy() -> usize
 
 #[no_mangle]
 pub extern "C" fn jesovanga_list() -> usize
-    ensures { λ r. ⌜ r ≡ maxUsers ⌝ }
+    ensures { λ r. ⌜ r ≡ listRoom ⌝ }
 {
-    USERS
+    LIST_ROOM
 }
 
 fn kind_of(reply: Reply) -> u32
-    ensures { λ r. ⌜ r ≡ kindOf reply ⌝ }
+    ensures { λ r. ⌜ r ≡ kindOf (answerIn reply) ⌝ }
 {
     match reply {
         Reply::Refused(_) => 0,
         Reply::Session(_) => 1,
         Reply::Length(_) => 2,
-        Reply::Pushed(_) => 3,
+        Reply::Accepted(_, _) => 3,
     }
 }
 
 fn number_of(reply: Reply) -> usize
-    ensures { λ r. ⌜ r ≡ numberOf reply ⌝ }
+    ensures { λ r. ⌜ r ≡ numberOf (answerIn reply) (toldIn reply) ⌝ }
 {
     match reply {
         Reply::Refused(e) => e,
         Reply::Session(n) => n as usize,
         Reply::Length(n) => n,
-        Reply::Pushed(told) => told,
+        Reply::Accepted(told, _) => told,
     }
 }
 

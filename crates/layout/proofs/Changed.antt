@@ -18,7 +18,7 @@ use Rattle.rows.proofs.Parts.{tail-part, tail-replaced, length-part}
 use Rattle.rows.proofs.Writing.{take-written}
 use Rattle.model.specs.Base.{Bytes}
 use Rattle.model.proofs.Lists.{by-cases}
-use Rattle.layout.specs.Layout.{isEmpty, inUse, table, Holds}
+use Rattle.layout.specs.Layout.{isEmpty, inUse, table, Holds, insertedRow}
 use Rattle.layout.proofs.Used.{used-fit, byte-empty}
 
 -- ── A part that was lent from the place a on and came back with a row at its start ──
@@ -142,15 +142,21 @@ module _ (k n : ℕ) where
             let t = take-take j (length xs - i * k - k) (drop (i * k) xs) (omega (arith, inside)) in
             put-start (next j ++ ys) ∙ rw (take-at (next j) ys j w, ← t) (sym (put-start (next (length xs - i * k - k))))
 
-        pub used-inserted : (ys : Bytes) → ys ≡ row ++ take (length (next (e - i * k)) - length row) (next (e - i * k))
-            → inUse k n (replaced (i * k) (e - i * k) ys xs) ≡ take n (insertAt i row (inUse k n xs))
-        used-inserted ys p =
-            let j = e - i * k in
-            let w = length-part (i * k) j xs (omega (arith, room, inside)) in
-            let q : ys ≡ row ++ next (j - k) = p ∙ rw (w, long, take-take (j - k) j (drop (i * k) xs) (omega arith)) in
-            let same = same-start (drop j (drop (i * k) xs)) in
-            rw (q, append-assoc) (used-same m e all _ (omega arith) (omega arith) (omega (arith, all-count)) same)
-            ∙ all-inserted
+        module _ (ys : Bytes) (came : ys ≡ row ++ take (length (next (e - i * k)) - length row) (next (e - i * k))) where
+          part-inserted : ys ≡ row ++ next (e - i * k - k)
+          part-inserted =
+              let w = length-part (i * k) (e - i * k) xs (omega (arith, room, inside)) in
+              came ∙ rw (w, long, take-take (e - i * k - k) (e - i * k) (drop (i * k) xs) (omega arith))
+
+          pub used-inserted : inUse k n (replaced (i * k) (e - i * k) ys xs) ≡ take n (insertAt i row (inUse k n xs))
+          used-inserted =
+              let same = same-start (drop (e - i * k) (drop (i * k) xs)) in
+              rw (part-inserted, append-assoc) (used-same m e all _ (omega arith) (omega arith) (omega (arith, all-count)) same)
+              ∙ all-inserted
+
+          pub bytes-inserted : replaced (i * k) (e - i * k) ys xs ≡ insertedRow k n i row xs
+          unfolding insertedRow
+          bytes-inserted = rw (part-inserted, ends, moved)
 
 -- after each byte has moved by the length of a row, the copy of the row
 pub put-first : (tail row mid out : Bytes) → length row ≤ length tail → mid ≡ movedLater (length row) tail → out ≡ row ++ drop (length row) mid

@@ -4,7 +4,7 @@ use mathlib.Core.Bool.{Bool}
 use mathlib.Core.List.{List, _++_, map}
 use lib.Dec.{eqb}
 use lib.ListN.{length, getD, take, drop, replicate}
-use Rattle.rows.specs.Rows.{rows, upTo}
+use Rattle.rows.specs.Rows.{rows, upTo, replaced}
 use Rattle.model.specs.Base.{Bytes, joined}
 use Rattle.model.specs.Limits.{maxName, maxKey}
 
@@ -25,6 +25,22 @@ table decode k n s = map decode (inUse k n s)
 abbrev pub Holds : ℕ → ℕ → Bytes → Type 0
 Holds k n s = (0 < k) × (n * k ≤ length s)
 
+-- ── A row stored, byte for byte ──
+-- over the i-th
+abbrev pub overRow : ℕ → ℕ → Bytes → Bytes → Bytes
+overRow k i row s = replaced (i * k) k row s
+
+-- where the rows in use end, with one more and the empty row behind them
+abbrev pub movedEnd : ℕ → ℕ → Bytes → ℕ
+movedEnd k n s = min (length (inUse k n s) + 2) n * k
+
+-- before the i-th: what stands from there on up to that end is one row later, and its last row falls off
+unfoldable pub insertedRow : ℕ → ℕ → ℕ → Bytes → Bytes → Bytes
+insertedRow k n i row s =
+    let m = movedEnd k n s - i * k in
+    replaced (i * k) m (row ++ take (m - k) (drop (i * k) s)) s
+
+-- ── Rows in use alone ──
 -- xs, and zeros behind them up to n bytes
 abbrev pub padded : ℕ → Bytes → Bytes
 padded n xs = xs ++ replicate (n - length xs) 0

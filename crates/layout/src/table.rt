@@ -6,11 +6,11 @@ use lexical::bounds::least;
 ghost use mathlib.Core.Path.{_≡_};
 ghost use mathlib.Core.Bool.{false};
 ghost use mathlib.Core.List.{[], _∷_, _++_};
-ghost use Prim.Native.Nat.{_+_, _*_, _-_, _≤_, _<_, min};
+ghost use Prim.Native.Nat.{_+_, _*_, _-_, _≤_, _<_};
 ghost use lib.ListN.{length, take, drop, set};
 ghost use Rattle.rows.specs.Rows.{insertAt};
 ghost use Rattle.rows.specs.Moves.{movedLater};
-ghost use Rattle.layout.specs.Layout.{isEmpty, inUse, Holds, wiped};
+ghost use Rattle.layout.specs.Layout.{isEmpty, inUse, Holds, overRow, movedEnd, insertedRow, wiped};
 
 // Whether a row is empty.
 pub fn is_empty(row: &[u8]) -> bool
@@ -64,6 +64,7 @@ pub fn replace_row(t: &mut [u8], size: usize, most: usize, i: usize, row: &[u8])
     requires { ⌜ Holds size most (now t) × (length (now row) ≡ size) × (isEmpty (now row) ≡ false) ⌝ }
     requires { ⌜ i < length (inUse size most (now t)) ⌝ }
     ensures { λ _. ⌜ inUse size most (now (t .exit)) ≡ set (inUse size most (now (t .entry))) i (now (row .entry)) ⌝ }
+    ensures { λ _. ⌜ now (t .exit) ≡ overRow size i (now (row .entry)) (now (t .entry)) ⌝ }
 {
     let start = i * size;
     copy(&mut t[start..], row);
@@ -93,7 +94,7 @@ fn put_before(tail: &mut [u8], row: &[u8])
 // Where what a new row moves ends: the rows in use, one more for it, and the empty one behind them; at most all rows.
 fn moved_end(t: &[u8], size: usize, most: usize) -> usize
     requires { ⌜ Holds size most (now t) ⌝ }
-    ensures { λ r. ⌜ r ≡ min (length (inUse size most (now (t .entry))) + 2) most * size ⌝ }
+    ensures { λ r. ⌜ r ≡ movedEnd size most (now (t .entry)) ⌝ }
 {
     least(row_count(t, size, most) + 2, most) * size
 }
@@ -103,6 +104,7 @@ pub fn insert_row(t: &mut [u8], size: usize, most: usize, i: usize, row: &[u8])
     requires { ⌜ Holds size most (now t) × (length (now row) ≡ size) × (isEmpty (now row) ≡ false) ⌝ }
     requires { ⌜ (i < most) × (i ≤ length (inUse size most (now t))) ⌝ }
     ensures { λ _. ⌜ inUse size most (now (t .exit)) ≡ take most (insertAt i (now (row .entry)) (inUse size most (now (t .entry)))) ⌝ }
+    ensures { λ _. ⌜ now (t .exit) ≡ insertedRow size most i (now (row .entry)) (now (t .entry)) ⌝ }
 {
     let start = i * size;
     let end = moved_end(t, size, most);

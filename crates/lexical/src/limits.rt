@@ -35,4 +35,12 @@ pub const MAX_LINE: usize = 256;
 
 pub const MAX_SESSION: u64 = 4294967295;
 
+// Numbers that the list of a push must have room for.
+pub const LIST_ROOM: usize = 32;
+
+// A session's number: the user's index times this, and the logins, which end at the last number below it.
+pub const PER_USER: u32 = 65536;
+
+pub const MAX_LOGINS: u16 = 65535;
+
 pub const MAX_COPY: usize = 51069;

@@ -17,14 +17,13 @@ use Rattle.rows.specs.Positions.{Reads, behind, placed, runEnd}
 use Rattle.model.specs.Base.{Bytes, _>>=_, _>>_, check}
 use Rattle.model.specs.Limits.{maxKey, maxFields, maxDepth}
 use Rattle.model.specs.Refusals.{refused, done, Opened}
-use Rattle.model.specs.Values.{Value}
+use Rattle.model.specs.Values.{Value, validValue}
 use Rattle.model.specs.Fields.{Keys, Fields}
 use Rattle.model.specs.RecordText.{Node, Members, leaf, noMembers, member, isBlank, skip, treeOf, twice, count, storeNode, storeMembers, readObject}
 use Rattle.model.proofs.Lists.{by-cases, none-some, refused-done, done-same, if-done, or-done}
 use Rattle.model.proofs.Reading.{bind-some, check-some, some-same}
 use Rattle.model.proofs.Spelling.{key-named, value-valid}
 use Rattle.model.proofs.TreeValid.{key-read}
-use Rattle.model.proofs.Valid.{validValue}
 use Rattle.lexical.specs.declared.class.End.{End}
 use Rattle.lexical.specs.declared.class.End.the-variants.{At, Bad}
 use Rattle.values.specs.declared.value.Scalar.{Scalar}

@@ -1,143 +1,230 @@
--- What is known of a decision once it is taken, and what an act makes of the state.
-use Prim.Native.Nat.{ℕ, suc, min, _≤_, _<_}
-use mathlib.Core.Path.{_≡_, sym}
-use mathlib.Core.Option.{some}
-use mathlib.Core.Bool.{Bool, true, false, not, _&&_}
-use lib.Dec.{leb}
+-- What is known of a decision once it is taken: by the kind of its change, whatever word asked for it. Lines and saves are told apart here and
+-- nowhere later, but for what a set of users sends itself.
+use Prim.Native.Nat.{ℕ, suc, _+_, _≤_, _<_}
+use mathlib.Core.Path.{_≡_, refl, sym, ap}
+use mathlib.Core.Option.{Option, none, some}
+use mathlib.Core.List.{List, [], _∷_}
+use mathlib.Core.Bool.{Bool, true, false}
 use native.Mathlib.Omega.{arith}
-use borrow.Author.Tests.{not-false, leb-false}
-use Rattle.model.specs.Base.{Bytes, isSome}
+use borrow.Author.Tests.{not-false, ltb-false, leb-false}
+use lib.ListN.{length}
+use Rattle.model.specs.Base.{Bytes, firstFrom, isSome, _>>=_}
+use Rattle.model.specs.Limits.{listRoom, maxLogins}
 use Rattle.model.specs.Values.{Value}
-use Rattle.model.specs.Fields.{Keys, Field, holds, fieldOf}
-use Rattle.model.specs.Refusals.{done, _>>=_, _>>_}
+use Rattle.model.specs.Fields.{Keys, Field, holds}
+use Rattle.model.specs.Refusals.{Result, refused, done}
 use Rattle.model.specs.Tables.{User, Tables, userAt, userNamed}
 use Rattle.model.specs.Rights.{mayWrite}
 use Rattle.model.specs.Opening.{LoginState, State}
-use Rattle.model.specs.Requests.{Request, login, get, push}
-use Rattle.model.specs.Serving.{indexIn, loginAt, Change, enters, shows, stores, decideLogin, decideShow, decideGet, creating, decidePush, decide}
-use Rattle.model.specs.Runs.{ifUser, inSet}
-use Rattle.model.proofs.Lists.{by-cases, never, if-done, or-done, done-same}
+use Rattle.model.specs.Requests.{Ask, Request, login, inSession, get, push, requestOf, pushOf}
+use Rattle.model.specs.Serving.{sessionNumber, indexIn, isSession, loginAt, Change, setsLogin, shows, stores, Asker, asker, decideShow, entered, decideLogin, decideGet, creating, decidePush, roomFor, decide, decideSave, shown, Act, line, save, bufferOf, listOf, decideLine, decision, Outcome, conclude, outcome}
+use Rattle.model.specs.Runs.{requestOfAct, eventIn, indexOf, ifUser, owner, ownerIn, pushIn, inSet}
+use Rattle.model.proofs.Lists.{by-cases, never, refused-done, none-some, if-done, past-if, past-or, past, done-same}
+use Rattle.model.proofs.Reading.{some-same}
 
-enters-shows : {C : Type 0} {i : ℕ} {a : LoginState} {c : Bytes} → enters i a ≡ shows c → C
-enters-shows h = let z : _≡_ {A = ℕ} 0 1 = cc in absurd (omega arith)
-
-enters-stores : {C : Type 0} {i j : ℕ} {a b : LoginState} {f : Field} → enters i a ≡ stores j b f → C
-enters-stores h = let z : _≡_ {A = ℕ} 0 1 = cc in absurd (omega arith)
-
-shows-stores : {C : Type 0} {c : Bytes} {i : ℕ} {a : LoginState} {f : Field} → shows c ≡ stores i a f → C
-shows-stores h = let z : _≡_ {A = ℕ} 0 1 = cc in absurd (omega arith)
-
--- a login: of a user, with no session before
-pub record Entered (s : State) (n : Bytes) (i : ℕ) (a : LoginState) : Type 0 where
-  pub user : User
-  pub named : userNamed n (s .tables .users) ≡ some (i, user)
-  pub after : a ≡ record { logins = min (suc (loginAt s i .logins)) 65535; isOpen = true; created = loginAt s i .created }
-  pub few : a .logins ≤ 65535
-  pub sameCreated : a .created ≡ loginAt s i .created
-
--- a push: by a user who may write the path, within the quota
-pub record Stored (s : State) (n : ℕ) (p : Keys) (v : Value) (i : ℕ) (a : LoginState) (f : Field) : Type 0 where
-  pub index : i ≡ indexIn n
-  pub field : f ≡ fieldOf p v
-  pub user : User
-  pub isUser : userAt (s .tables .users) i ≡ some user
-  pub writes : mayWrite (s .tables .policy) user p ≡ true
-  pub after : a ≡ creating (loginAt s i) (holds p (s .fields))
-  pub room : holds p (s .fields) ≡ false → loginAt s i .created < user .quota
-
--- each request leads to one kind of change
-abbrev pub Decided : State → Request → Change → Type 0
-Decided s (login n k) (enters i a) = Entered s n i a
-Decided s (login n k) (shows c) = ⊥
-Decided s (login n k) (stores i a f) = ⊥
-Decided s (get n) (enters i a) = ⊥
-Decided s (get n) (shows c) = Unit {0}
-Decided s (get n) (stores i a f) = ⊥
-Decided s (push n p v) (enters i a) = ⊥
-Decided s (push n p v) (shows c) = ⊥
-Decided s (push n p v) (stores i a f) = Stored s n p v i a f
-
--- ── LOGIN ──
-login-change : (i : ℕ) (u : User) (a : LoginState) (k : Bytes) (c : Change) → decideLogin i u a k ≡ done c →
-    enters i (record { logins = min (suc (a .logins)) 65535; isOpen = true; created = a .created }) ≡ c
-unfolding decideLogin
-login-change i u a k c h = done-same (if-done _ _ _ c (if-done _ _ _ c h .1) .1)
-
-login-decided : (s : State) (n k : Bytes) (room : ℕ) (c : Change) → decide s (login n k) room ≡ done c → Decided s (login n k) c
-unfolding decide
-login-decided s n k room c h =
-    let (t, named, d) = or-done (userNamed n (s .tables .users)) _ _ c h in
-    go c (t .0) (t .1) named (login-change (t .0) (t .1) (loginAt s (t .0)) k c d)
-  where
-    go : (c : Change) (i : ℕ) (u : User) → userNamed n (s .tables .users) ≡ some (i, u) →
-        enters i (record { logins = min (suc (loginAt s i .logins)) 65535; isOpen = true; created = loginAt s i .created }) ≡ c → Decided s (login n k) c
-    go (enters j b) i u e h =
-        let x : i ≡ j = cc in
-        let y : b ≡ record { logins = min (suc (loginAt s i .logins)) 65535; isOpen = true; created = loginAt s i .created } = cc in
-        record { user = u; named = rw x at e; after = rw (← x) y; few = rw y (omega arith); sameCreated = rw (y, x) }
-    go (shows c) i u e h = enters-shows h
-    go (stores j b f) i u e h = enters-stores h
-
--- ── GET ──
-pub show-change : (t : Bytes) (room : ℕ) (c : Change) → decideShow t room ≡ done c → shows t ≡ c
-unfolding decideShow
-show-change t room c h = done-same (if-done _ _ _ c h .1)
-
-get-decided : (s : State) (n room : ℕ) (c : Change) → decide s (get n) room ≡ done c → Decided s (get n) c
-unfolding decide decideGet
-get-decided s n room c h =
-    let (u, isUser, d) = or-done (userAt (s .tables .users) (indexIn n)) _ _ c h in
-    go c _ (show-change _ room c (if-done _ _ _ c d .1))
-  where
-    go : (c : Change) (t : Bytes) → shows t ≡ c → Decided s (get n) c
-    go (enters i a) t h = enters-shows (sym h)
-    go (shows c) t h = tt
-    go (stores i a f) t h = shows-stores h
-
--- ── PUSH ──
-push-decided : (s : State) (n : ℕ) (p : Keys) (v : Value) (room : ℕ) (c : Change) → decide s (push n p v) room ≡ done c → Decided s (push n p v) c
-unfolding decide decidePush
-push-decided s n p v room c h =
-    let (u, isUser, d) = or-done (userAt (s .tables .users) (indexIn n)) _ _ c (if-done _ _ _ c h .1) in
-    let e = if-done _ _ _ c d .1 in
-    let w = if-done _ _ _ c e in
-    let q = if-done _ _ _ c (w .1) in
-    go c u isUser (not-false _ (w .0)) (within u (q .0)) (done-same (q .1))
-  where
-    i : ℕ
-    i = indexIn n
-
-    held : Bool
-    held = holds p (s .fields)
-
-    within : (u : User) → (not held && leb (u .quota) (loginAt s i .created)) ≡ false → held ≡ false → loginAt s i .created < u .quota
-    within u h e = leb-false _ _ (rw e at h)
-
-    go : (c : Change) (u : User) → userAt (s .tables .users) i ≡ some u → mayWrite (s .tables .policy) u p ≡ true →
-        (held ≡ false → loginAt s i .created < u .quota) → stores i (creating (loginAt s i) held) (fieldOf p v) ≡ c → Decided s (push n p v) c
-    go (enters j a) u e w q h = enters-stores (sym h)
-    go (shows t) u e w q h = shows-stores (sym h)
-    go (stores j a f) u e w q h =
-        let x : i ≡ j = cc in
-        let y : a ≡ creating (loginAt s i) held = cc in
-        let z : f ≡ fieldOf p v = cc in
-        record { index = sym x; field = z; user = u; isUser = rw x at e; writes = w; after = rw (← x) y; room = rw (← x) q }
-
-pub decided : (s : State) (q : Request) (room : ℕ) (c : Change) → decide s q room ≡ done c → Decided s q c
-decided s (login n k) room c h = login-decided s n k room c h
-decided s (get n) room c h = get-decided s n room c h
-decided s (push n p v) room c h = push-decided s n p v room c h
-
--- ── Whose a number is ──
+-- ── Whose a request is ──
 pub user-owner : (t : Tables) (i : ℕ) (u : User) → userAt (t .users) i ≡ some u → ifUser t i ≡ some i
 unfolding ifUser isSome
 user-owner t i u e = rw e
+
+-- whose a session's request is, its number says
+pub owner-index : (t : Tables) (n : ℕ) (a : Ask) (i : ℕ) → owner t (inSession n a) ≡ some i → indexIn n ≡ i
+unfolding owner ifUser
+owner-index t n a i h = by-cases (isSome (userAt (t .users) (indexIn n))) (λ e. some-same (rw e at h)) (λ e. none-some (rw e at h))
 
 -- an index that is a user's and of the set is of the set
 pub owner-in : (set : ℕ → Bool) (t : Tables) (i : ℕ) → inSet set (ifUser t i) ≡ true → set i ≡ true
 unfolding ifUser inSet
 owner-in set t i h = by-cases (isSome (userAt (t .users) i)) (λ e. rw e at h) (λ e. never (sym (rw e at h)))
 
-pub owner-out : (set : ℕ → Bool) (t : Tables) (i : ℕ) (u : User) → userAt (t .users) i ≡ some u → inSet set (ifUser t i) ≡ false → set i ≡ false
-unfolding inSet
-owner-out set t i u e h = rw (user-owner t i u e) at h
+-- and a session number says the index that it was made from
+pub index-of : (i : ℕ) (a : LoginState) → a .logins ≤ maxLogins → indexIn (sessionNumber i a) ≡ i
+unfolding indexIn sessionNumber
+index-of i a h = omega arith
+
+-- the first that passes is found below the end
+first-below : {A : Type 0} (k : ℕ) (f : A → Bool) (xs : List A) (t : ℕ × A) → firstFrom k f xs ≡ some t → t .0 < k + length xs
+unfolding firstFrom
+first-below k f [] t h = none-some h
+first-below k f (x ∷ xs) t h = by-cases (f x)
+    (λ e. omega (arith, ap (λ (u : ℕ × _). u .0) (some-same (rw e at h))))
+    (λ e. omega (arith, first-below (suc k) f xs t (rw e at h)))
+
+named-below : (t : Tables) (n : Bytes) (w : ℕ × User) → userNamed n (t .users) ≡ some w → w .0 < length (t .users)
+unfolding userNamed
+named-below t n w h = omega (arith, first-below 0 _ (t .users) w h)
+
+-- ── What is known of a change, `o` being whose the request is and `p` what it is to store ──
+-- a login state changes: of a user with no session, and nothing that was created
+pub record LoginSet (s : State) (o : Option ℕ) (p : Option Field) (i : ℕ) (a : LoginState) : Type 0 where
+  pub owned : o ≡ some i
+  pub quiet : p ≡ none
+  pub below : i < length (s .tables .users)
+  pub shut : loginAt s i .isOpen ≡ false
+  pub after : a ≡ entered (loginAt s i)
+  pub few : a .logins ≤ maxLogins
+  pub sameCreated : a .created ≡ loginAt s i .created
+
+-- a field is stored: by a user who may write its path, within the quota
+pub record Stored (s : State) (o : Option ℕ) (p : Option Field) (i : ℕ) (a : LoginState) (f : Field) : Type 0 where
+  pub owned : o ≡ some i
+  pub pushed : p ≡ some f
+  pub user : User
+  pub isUser : userAt (s .tables .users) i ≡ some user
+  pub writes : mayWrite (s .tables .policy) user (f .path) ≡ true
+  pub after : a ≡ creating (loginAt s i) (holds (f .path) (s .fields))
+  pub room : holds (f .path) (s .fields) ≡ false → loginAt s i .created < user .quota
+
+abbrev pub Decided : State → Option ℕ → Option Field → Change → Type 0
+Decided s o p (setsLogin i a) = LoginSet s o p i a
+Decided s o p (shows t) = p ≡ none
+Decided s o p (stores i a f) = Stored s o p i a f
+
+-- what is written has room
+abbrev pub Fits : ℕ → Change → Type 0
+Fits room (setsLogin i a) = Unit {0}
+Fits room (shows t) = length t ≤ room
+Fits room (stores i a f) = listRoom ≤ room
+
+abbrev Known : State → Request → ℕ → Change → Type 0
+Known s q room c = Decided s (owner (s .tables) q) (pushOf q) c × Fits room c
+
+-- ── The grounds that words share ──
+-- 14: who asks is the user whom the number says, in an open session of that number
+pub record Asking (s : State) (n : ℕ) (a : Asker) : Type 0 where
+  pub index : a .index ≡ indexIn n
+  pub isUser : userAt (s .tables .users) (indexIn n) ≡ some (a .user)
+  pub login : a .login ≡ loginAt s (indexIn n)
+  pub isOpen : isSession (indexIn n) (loginAt s (indexIn n)) n ≡ true
+
+pub asking : (s : State) (n : ℕ) (a : Asker) → asker s n ≡ done a → Asking s n a
+unfolding asker
+asking s n a h =
+    past-or _ _ _ _ h λ u isUser h₁.
+    past-if _ _ _ _ h₁ λ isOpen h₂.
+    rw (← done-same h₂) (record { index = refl; isUser = isUser; login = refl; isOpen = not-false _ isOpen })
+
+asking-owner : (s : State) (n : ℕ) (a : Asker) (k : Ask) → Asking s n a → owner (s .tables) (inSession n k) ≡ some (a .index)
+unfolding owner
+asking-owner s n a k h = rw (h .index) (user-owner (s .tables) (indexIn n) (a .user) (h .isUser))
+
+-- 15
+pub show-change : (t : Bytes) (room : ℕ) (c : Change) → decideShow t room ≡ done c → shows t ≡ c
+unfolding decideShow
+show-change t room c h = done-same (if-done _ _ _ _ h .1)
+
+show-known : (s : State) (q : Request) → pushOf q ≡ none → (t : Bytes) (room : ℕ) (c : Change) → decideShow t room ≡ done c → Known s q room c
+unfolding decideShow
+show-known s q quiet t room c h = past-if _ _ _ _ h λ fits h₁. rw (← done-same h₁) (quiet, ltb-false _ _ fits)
+
+-- ── Each word ──
+-- a login's change
+pub login-change : {C : Type 0} (s : State) (n k : Bytes) (c : Change) → decideLogin s n k ≡ done c →
+    ((i : ℕ) (u : User) → userNamed n (s .tables .users) ≡ some (i, u) → loginAt s i .isOpen ≡ false → setsLogin i (entered (loginAt s i)) ≡ c → C) → C
+unfolding decideLogin
+login-change s n k c h f =
+    past-or _ _ _ _ h λ t named h₁.
+    past-if _ _ _ _ h₁ λ right h₂.
+    past-if _ _ _ _ h₂ λ shut h₃.
+    f (t .0) (t .1) named shut (done-same h₃)
+
+module _ (s : State) (room : ℕ) (c : Change) where
+  login-known : (n k : Bytes) → decide s (login n k) room ≡ done c → Known s (login n k) room c
+  unfolding decide owner indexOf pushOf
+  login-known n k h =
+      login-change s n k c h λ i u named shut e.
+      rw (← e) (
+        record {
+          owned = rw named;
+          quiet = refl;
+          below = named-below (s .tables) n _ named;
+          shut = shut;
+          after = refl;
+          few = omega arith;
+          sameCreated = refl;
+        },
+        tt,
+      )
+
+  get-known : (n : ℕ) → decide s (inSession n get) room ≡ done c → Known s (inSession n get) room c
+  unfolding decide decideGet pushOf
+  get-known n h =
+      past _ _ _ h λ a isAsker h₁.
+      show-known s _ refl _ room c h₁
+
+  push-known : (n : ℕ) (p : Keys) (v : Value) → decide s (inSession n (push p v)) room ≡ done c → Known s (inSession n (push p v)) room c
+  unfolding decide decidePush pushOf
+  push-known n p v h =
+      past-if _ _ _ _ h λ long h₁.
+      past _ _ _ h₁ λ a isAsker h₂.
+      past-if _ _ _ _ h₂ λ may h₃.
+      past-if _ _ _ _ h₃ λ free h₄.
+      let k = asking s n a isAsker in
+      rw (← done-same h₄) (
+        record {
+          owned = asking-owner s n a _ k;
+          pushed = refl;
+          user = a .user;
+          isUser = rw (k .index) (k .isUser);
+          writes = not-false _ may;
+          after = rw (k .login, k .index);
+          room = λ e. rw (k .index, ← k .login) (leb-false _ _ (rw e at free));
+        },
+        ltb-false _ _ long,
+      )
+
+known : (s : State) (q : Request) (room : ℕ) (c : Change) → decide s q room ≡ done c → Known s q room c
+known s (login n k) room c h = login-known s room c n k h
+known s (inSession n get) room c h = get-known s room c n h
+known s (inSession n (push p v)) room c h = push-known s room c n p v h
+
+pub decided : (s : State) (q : Request) (room : ℕ) (c : Change) → decide s q room ≡ done c → Decided s (owner (s .tables) q) (pushOf q) c
+decided s q room c h = known s q room c h .0
+
+-- ── Each act ──
+decided-line : (s : State) (b : Bytes) (l : List ℕ) (q : Option Request) (c : Change) → decideLine s b l q ≡ done c →
+    Decided s (q >>= owner (s .tables)) (q >>= pushOf) c
+unfolding decideLine _>>=_
+decided-line s b l none c h = refused-done h
+decided-line s b l (some q) c h = decided s q _ c h
+
+abbrev pub DecidedBy : State → Act → Change → Type 0
+DecidedBy s a c = Decided s (ownerIn (eventIn s a)) (pushIn (eventIn s a)) c
+
+decided-act : (s : State) (a : Act) (c : Change) → decision s a ≡ done c → DecidedBy s a c
+unfolding decision decideSave ownerIn pushIn requestOfAct _>>=_
+decided-act s (line t b l) c h = decided-line s b l (requestOf t) c h
+decided-act s (save b) c h = rw (← show-change _ _ c h) refl
+
+-- an act is refused, or something is decided
+pub by-decision : (P : Outcome → Type 0) (s : State) (a : Act) →
+    ((e : ℕ) → P (conclude s (bufferOf a) (listOf a) (refused e))) →
+    ((c : Change) → DecidedBy s a c → P (conclude s (bufferOf a) (listOf a) (done c))) → P (outcome s a)
+unfolding outcome
+by-decision P s a f g = go (decision s a) refl
+  where
+    go : (x : Result ℕ Change) → decision s a ≡ x → P (conclude s (bufferOf a) (listOf a) x)
+    go (refused e) h = f e
+    go (done c) h = g c (decided-act s a c h)
+
+-- ── What is lent has room ──
+-- the list to a request that stores, the buffer to any other
+abbrev Lent : Option Field → ℕ → ℕ → ℕ → Type 0
+Lent none room buffer list = room ≤ buffer
+Lent (some f) room buffer list = room ≤ list
+
+lent : (q : Request) (b : Bytes) (l : List ℕ) → Lent (pushOf q) (roomFor q b l) (length b) (length l)
+unfolding roomFor pushOf
+lent (login u k) b l = omega arith
+lent (inSession n get) b l = omega arith
+lent (inSession n (push p v)) b l = omega arith
+
+module _ (s : State) (q : Request) (b : Bytes) (l : List ℕ) where
+  pub shown-fits : (c : Change) → decide s q (roomFor q b l) ≡ done c → length (shown c) ≤ length b
+  unfolding shown
+  shown-fits (setsLogin i a) h = omega arith
+  shown-fits (shows t) h = let (quiet, fits) = known s q _ _ h in omega (arith, rw quiet at (lent q b l))
+  shown-fits (stores i a f) h = omega arith
+
+  pub told-fits : (i : ℕ) (a : LoginState) (f : Field) → decide s q (roomFor q b l) ≡ done (stores i a f) → listRoom ≤ length l
+  told-fits i a f h = let (stored, fits) = known s q _ _ h in omega (arith, rw (stored .pushed) at (lent q b l))

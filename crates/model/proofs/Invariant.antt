@@ -1,23 +1,21 @@
 -- What every state of a run has, and that each act keeps it.
 use Prim.Native.Nat.{ℕ, zero, suc, _+_, _≤_, _<_}
-use mathlib.Core.Path.{_≡_, refl, ap, _∙_}
-use mathlib.Core.Option.{Option, none, some}
+use mathlib.Core.Path.{_≡_, refl, _∙_}
+use mathlib.Core.Option.{Option, some}
 use mathlib.Core.List.{List, [], _∷_, map}
+use mathlib.Core.Bool.{false}
 use lib.ListN.{length, set, getD, getElem?, replicate, length-set}
 use native.Mathlib.Omega.{arith}
-use Rattle.model.specs.Base.{Bytes, sum}
-use Rattle.model.specs.Limits.{maxFields, maxUsers}
-use Rattle.model.specs.Values.{Value}
-use Rattle.model.specs.Fields.{Keys, Field, holds, put, store}
-use Rattle.model.specs.Refusals.{Result, refused, done, _>>=_, _>>_}
+use Rattle.model.specs.Base.{sum}
+use Rattle.model.specs.Limits.{maxFields, maxUsers, maxLogins}
+use Rattle.model.specs.Fields.{Field, holds, put, store}
 use Rattle.model.specs.Tables.{User, userAt}
 use Rattle.model.specs.Opening.{LoginState, State, emptyLogin, quotas}
-use Rattle.model.specs.Requests.{Request, login, get, push, requestOf}
-use Rattle.model.specs.Serving.{loginAt, Change, enters, shows, stores, creating, roomFor, decide, decideSave, apply, Act, line, save, unchanged, conclude, served, outcome}
+use Rattle.model.specs.Serving.{loginAt, Change, setsLogin, shows, stores, creating, apply, Act, unchanged, conclude, outcome}
 use Rattle.model.specs.Runs.{end}
-use Rattle.model.proofs.Lists.{by-cases, none-some, elem-below, All, all-set, all-getD}
+use Rattle.model.proofs.Lists.{by-cases, never, none-some, elem-below, All, all-set, all-getD}
 use Rattle.model.proofs.Order.{Sorted, sorted-put, one, absent, length-put, store-fits}
-use Rattle.model.proofs.Decisions.{Entered, Stored, Decided, decided, show-change}
+use Rattle.model.proofs.Decisions.{LoginSet, Stored, Decided, DecidedBy, by-decision}
 
 -- ── What is created stays within the quotas: the counts of the users, and none elsewhere ──
 abbrev pub Within : List User → List LoginState → Type 0
@@ -82,9 +80,14 @@ total-empty zero = refl
 total-empty (suc n) = omega (arith, total-empty n)
 
 -- ── The invariant; `loaded` is how many fields the opening loaded ──
+-- no session closes: who has none open has not logged in
+abbrev pub NotYet : LoginState → Type 0
+NotYet a = a .isOpen ≡ false → a .logins ≡ 0
+
 pub record Running (loaded : ℕ) (s : State) : Type 0 where
   pub sorted : Sorted (s .fields)
-  pub few : All (λ a. a .logins ≤ 65535) (s .loginStates)
+  pub few : All (λ a. a .logins ≤ maxLogins) (s .loginStates)
+  pub notYet : All NotYet (s .loginStates)
   pub places : length (s .loginStates) ≡ maxUsers
   pub users : length (s .tables .users) ≤ maxUsers
   pub within : Within (s .tables .users) (s .loginStates)
@@ -92,60 +95,74 @@ pub record Running (loaded : ℕ) (s : State) : Type 0 where
   pub fits : loaded + quotas (s .tables .users) ≤ maxFields
 
 -- what a decision may do to a state with it
-module _ (loaded : ℕ) (s : State) (r : Running loaded s) where
-  pub few-at : (j : ℕ) → loginAt s j .logins ≤ 65535
+module _ {loaded : ℕ} {s : State} (r : Running loaded s) where
+  pub few-at : (j : ℕ) → loginAt s j .logins ≤ maxLogins
   unfolding loginAt emptyLogin
   few-at j = all-getD _ (s .loginStates) j emptyLogin (omega arith) (r .few)
+
+  not-yet-at : (j : ℕ) → NotYet (loginAt s j)
+  unfolding loginAt emptyLogin
+  not-yet-at j = all-getD NotYet (s .loginStates) j emptyLogin (λ e. refl) (r .notYet)
+
+  pub few-fields : length (s .fields) ≤ maxFields
+  few-fields = omega (arith, r .grown, r .fits, within-sum (s .tables .users) (s .loginStates) (r .within))
 
   -- every user has a login state
   pub user-place : (i : ℕ) (u : User) → userAt (s .tables .users) i ≡ some u → i < length (s .loginStates)
   unfolding userAt
   user-place i u e = omega (arith, elem-below (s .tables .users) i u e, r .users, r .places)
 
-  -- a login
-  run-enters : (n : Bytes) (i : ℕ) (a : LoginState) → Entered s n i a → Running loaded (apply (enters i a) s)
-  unfolding apply loginAt
-  run-enters n i a d = record {
-    sorted = r .sorted;
-    few = all-set _ (s .loginStates) i a (d .few) (r .few);
-    places = length-set (s .loginStates) i a ∙ r .places;
-    users = r .users;
-    within = within-keep (s .tables .users) (s .loginStates) i a (d .sameCreated) (r .within);
-    grown = rw (total-same (s .loginStates) i a (d .sameCreated)) (r .grown);
-    fits = r .fits;
-  }
+  -- a login state
+  module _ {o : Option ℕ} {p : Option Field} {i : ℕ} {a : LoginState} (d : LoginSet s o p i a) where
+    pub login-set-place : i < length (s .loginStates)
+    login-set-place = omega (arith, d .below, r .users, r .places)
 
-  -- an accepted push: what is created, and the fields before any could fall off
-  module _ (n : ℕ) (p : Keys) (v : Value) (i : ℕ) (a : LoginState) (f : Field) (d : Stored s n p v i a f) where
-    path-is : f .path ≡ p
-    path-is = ap (λ (g : Field). g .path) (d .field)
+    -- a login is counted: the last login count is not met, this being the first
+    pub counts-login : a .logins ≡ loginAt s i .logins + 1
+    counts-login = let z = not-yet-at i (d .shut) in rw (d .after, z) refl
+
+    run-sets-login : Running loaded (apply (setsLogin i a) s)
+    unfolding apply loginAt
+    run-sets-login = record {
+      sorted = r .sorted;
+      few = all-set _ (s .loginStates) i a (d .few) (r .few);
+      notYet = all-set NotYet (s .loginStates) i a (rw (d .after) (λ e. never e)) (r .notYet);
+      places = length-set (s .loginStates) i a ∙ r .places;
+      users = r .users;
+      within = within-keep (s .tables .users) (s .loginStates) i a (d .sameCreated) (r .within);
+      grown = rw (total-same (s .loginStates) i a (d .sameCreated)) (r .grown);
+      fits = r .fits;
+    }
+
+  -- a field: what is created, and the fields before any could fall off
+  module _ {o : Option ℕ} {p : Option Field} {i : ℕ} {a : LoginState} {f : Field} (d : Stored s o p i a f) where
+    pub stored-place : i < length (s .loginStates)
+    stored-place = user-place i (d .user) (d .isUser)
 
     pub created-is : a .created ≡ loginAt s i .created + one (absent (f .path) (s .fields))
     unfolding absent one creating
-    created-is = rw (d .after, path-is) (by-cases (holds p (s .fields)) (λ e. rw e (omega arith)) (λ e. rw e (omega arith)))
+    created-is = rw (d .after) (by-cases (holds (f .path) (s .fields)) (λ e. rw e (omega arith)) (λ e. rw e (omega arith)))
 
-    logins-is : a .logins ≡ loginAt s i .logins
+    pub logins-is : a .logins ≡ loginAt s i .logins
     unfolding creating
     logins-is = rw (d .after)
+
+    not-yet-stores : NotYet a
+    unfolding creating
+    not-yet-stores = rw (d .after) (not-yet-at i)
 
     within-stores : Within (s .tables .users) (set (s .loginStates) i a)
     unfolding userAt loginAt
     within-stores = within-set (s .tables .users) (s .loginStates) i (d .user) a (d .isUser) quota-holds (r .within)
       where
         quota-holds : a .created ≤ d .user .quota
-        quota-holds = by-cases (holds p (s .fields))
-            (λ e. unfold absent one in (omega (arith, rw (path-is, e) at created-is, within-at (s .tables .users) (s .loginStates) i (d .user) (d .isUser) (r .within))))
-            (λ e. unfold absent one in (omega (arith, rw (path-is, e) at created-is, d .room e)))
+        quota-holds = by-cases (holds (f .path) (s .fields))
+            (λ e. unfold absent one in (omega (arith, rw e at created-is, within-at (s .tables .users) (s .loginStates) i (d .user) (d .isUser) (r .within))))
+            (λ e. unfold absent one in (omega (arith, rw e at created-is, d .room e)))
 
     grown-stores : length (put f (s .fields)) ≡ loaded + totalCreated (set (s .loginStates) i a)
-    unfolding userAt loginAt
-    grown-stores = omega (
-      arith,
-      length-put f (s .fields),
-      r .grown,
-      created-is,
-      total-set (s .loginStates) i a (user-place i (d .user) (d .isUser)),
-    )
+    unfolding loginAt
+    grown-stores = omega (arith, length-put f (s .fields), r .grown, created-is, total-set (s .loginStates) i a stored-place)
 
     -- nothing falls off
     pub put-fits : length (put f (s .fields)) ≤ maxFields
@@ -159,6 +176,7 @@ module _ (loaded : ℕ) (s : State) (r : Running loaded s) where
     run-stores = record {
       sorted = rw store-is-put (sorted-put f (s .fields) (r .sorted));
       few = all-set _ (s .loginStates) i a (rw logins-is (few-at i)) (r .few);
+      notYet = all-set NotYet (s .loginStates) i a not-yet-stores (r .notYet);
       places = length-set (s .loginStates) i a ∙ r .places;
       users = r .users;
       within = within-stores;
@@ -166,41 +184,18 @@ module _ (loaded : ℕ) (s : State) (r : Running loaded s) where
       fits = r .fits;
     }
 
-  run-apply : (q : Request) (c : Change) → Decided s q c → Running loaded (apply c s)
-  run-apply (login n k) (enters i a) d = run-enters n i a d
-  run-apply (login n k) (shows c) d = absurd d
-  run-apply (login n k) (stores i a f) d = absurd d
-  run-apply (get n) (enters i a) d = absurd d
-  run-apply (get n) (shows c) d = unfold apply in r
-  run-apply (get n) (stores i a f) d = absurd d
-  run-apply (push n p v) (enters i a) d = absurd d
-  run-apply (push n p v) (shows c) d = absurd d
-  run-apply (push n p v) (stores i a f) d = run-stores n p v i a f d
+  run-apply : (o : Option ℕ) (p : Option Field) (c : Change) → Decided s o p c → Running loaded (apply c s)
+  run-apply o p (setsLogin i a) d = run-sets-login d
+  run-apply o p (shows t) d = unfold apply in r
+  run-apply o p (stores i a f) d = run-stores d
 
 -- ── An act leaves the state, or what a decision makes of it ──
-module _ (P : State → Type 0) (s : State) (same : P s) (changed : (t : Bytes) (q : Request) (room : ℕ) (c : Change) → requestOf t ≡ some q → decide s q room ≡ done c → P (apply c s)) where
-  next-save : (b : Bytes) (x : Result ℕ Change) → decideSave s (length b) ≡ x → P (conclude s b [] x .state)
-  unfolding conclude unchanged decideSave apply
-  next-save b (refused e) h = same
-  next-save b (done c) h = rw (← show-change _ _ c h) same
+pub next-state : (P : State → Type 0) (s : State) (a : Act) → P s → ((c : Change) → DecidedBy s a c → P (apply c s)) → P (outcome s a .state)
+unfolding conclude unchanged
+next-state P s a same changed = by-decision (λ x. P (x .state)) s a (λ e. same) changed
 
-  next-line : (t b : Bytes) (l : List ℕ) (q : Request) → requestOf t ≡ some q → (x : Result ℕ Change) → decide s q (roomFor q b l) ≡ x → P (conclude s b l x .state)
-  unfolding conclude unchanged
-  next-line t b l q k (refused e) h = same
-  next-line t b l q k (done c) h = changed t q _ c k h
-
-  next-served : (t b : Bytes) (l : List ℕ) (q : Option Request) → requestOf t ≡ q → P (served s b l q .state)
-  unfolding served unchanged
-  next-served t b l none k = same
-  next-served t b l (some q) k = next-line t b l q k _ refl
-
-  pub next-state : (a : Act) → P (outcome s a .state)
-  unfolding outcome
-  next-state (line t b l) = next-served t b l (requestOf t) refl
-  next-state (save b) = next-save b _ refl
-
-pub run-act : (loaded : ℕ) (s : State) (a : Act) → Running loaded s → Running loaded (outcome s a .state)
-run-act loaded s a r = next-state (Running loaded) s r (λ t q room c k h. run-apply loaded s r q c (decided s q room c h)) a
+pub run-act : {loaded : ℕ} (s : State) (a : Act) → Running loaded s → Running loaded (outcome s a .state)
+run-act {loaded} s a r = next-state (Running loaded) s a r (run-apply r _ _)
 
 -- what each act keeps holds at the end
 pub at-end : (P : State → Type 0) → ((s : State) (a : Act) → P s → P (outcome s a .state)) → (s : State) (acts : List Act) → P s → P (end s acts)

@@ -8,6 +8,7 @@ pub mod Diverge
 pub mod Conflict
 pub mod TablesRead
 pub mod TreeValid
+pub mod Loads
 pub mod OpenObjects
 pub mod SavedTree
 pub mod SavedLength

@@ -69,6 +69,32 @@ unfolding _>>_
 then-done (refused e) y b h = refused-done h
 then-done (done a) y b h = (a, refl, h)
 
+-- the same, for a proof that goes on with what is known
+pub past-if : {C E A : Type 0} (e : E) (b : Bool) (x : Result E A) (a : A) → ((refuse e if b) >> x) ≡ done a → (b ≡ false → x ≡ done a → C) → C
+past-if e b x a h k = let w = if-done e b x a h in k (w .0) (w .1)
+
+pub past-or : {C E A B : Type 0} (o : Option A) (e : E) (f : A → Result E B) (b : B) → ((o or e) >>= f) ≡ done b → ((a : A) → o ≡ some a → f a ≡ done b → C) → C
+past-or o e f b h k = let w = or-done o e f b h in k (w .0) (w .1) (w .2)
+
+pub past : {C E A B : Type 0} (x : Result E A) (f : A → Result E B) (b : B) → (x >>= f) ≡ done b → ((a : A) → x ≡ done a → f a ≡ done b → C) → C
+past x f b h k = let w = bind-done x f b h in k (w .0) (w .1) (w .2)
+
+-- what follows may differ where it is not reached
+pub bind-agree : {E A B : Type 0} (x : Result E A) (f g : A → Result E B) → ((a : A) → x ≡ done a → f a ≡ g a) → (x >>= f) ≡ (x >>= g)
+unfolding _>>=_
+bind-agree (refused e) f g h = refl
+bind-agree (done a) f g h = h a refl
+
+pub if-agree : {E A : Type 0} (e : E) (b : Bool) (x y : Result E A) → (b ≡ false → x ≡ y) → ((refuse e if b) >> x) ≡ ((refuse e if b) >> y)
+unfolding _>>_ refuse_if_
+if-agree e true x y h = refl
+if-agree e false x y h = h refl
+
+pub or-agree : {E A B : Type 0} (o : Option A) (e : E) (f g : A → Result E B) → ((a : A) → o ≡ some a → f a ≡ g a) → ((o or e) >>= f) ≡ ((o or e) >>= g)
+unfolding _>>=_ _or_
+or-agree none e f g h = refl
+or-agree (some a) e f g h = h a refl
+
 -- ── Texts ──
 pub bytes-eq : (a b : Bytes) → (a == b) ≡ true → a ≡ b
 unfolding _==_

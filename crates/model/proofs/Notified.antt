@@ -1,21 +1,19 @@
 -- The numbers that a list receives ascend, and there are never more than it has room for.
 use Prim.Native.Nat.{ℕ, zero, suc, _*_, _≤_, _<_}
 use mathlib.Core.Path.{_≡_, refl, ap}
-use mathlib.Core.Option.{Option, none, some}
 use mathlib.Core.List.{List, [], _∷_, map}
 use mathlib.Core.Bool.{Bool, true}
 use lib.ListN.{length, take, length-map}
 use native.Mathlib.Nat.{le-trans}
 use native.Mathlib.Omega.{arith}
 use borrow.Author.Tests.{lt-ltb}
-use Rattle.model.specs.Base.{Bytes, keep, range}
-use Rattle.model.specs.Limits.{perUser, listRoom}
-use Rattle.model.specs.Refusals.{Result, refused, done}
+use Rattle.model.specs.Base.{keep, range}
+use Rattle.model.specs.Limits.{perUser, listRoom, maxLogins}
 use Rattle.model.specs.Opening.{State}
-use Rattle.model.specs.Requests.{Request, requestOf}
-use Rattle.model.specs.Serving.{sessionNumber, loginAt, Change, enters, shows, stores, receivers, notified, line, unchanged, conclude, served, outcome}
+use Rattle.model.specs.Serving.{sessionNumber, loginAt, Change, setsLogin, shows, stores, receivers, notified, Act, unchanged, conclude, outcome}
 use Rattle.model.specs.Claims.{ascends}
 use Rattle.model.proofs.Lists.{by-cases, All, all-imp, keep-yes, keep-no, length-keep-le}
+use Rattle.model.proofs.Decisions.{by-decision}
 use Rattle.model.proofs.Invariant.{Running, few-at}
 use Rattle.model.proofs.TwoRuns.{over-take}
 
@@ -29,7 +27,7 @@ unfolding range
 range-length i zero = refl
 range-length i (suc n) = ap suc (range-length (suc i) n)
 
-module _ (s : State) (few : (j : ℕ) → loginAt s j .logins ≤ 65535) where
+module _ (s : State) (few : (j : ℕ) → loginAt s j .logins ≤ maxLogins) where
   number : ℕ → ℕ
   number j = sessionNumber j (loginAt s j)
 
@@ -54,29 +52,18 @@ module _ (s : State) (few : (j : ℕ) → loginAt s j .logins ≤ 65535) where
       (ascend-more (number i) rest (all-imp (λ m. perUser * suc i ≤ m) (λ m. number i < m) (λ m k. number-high i m k) rest (w .1)) (w .0), (number-low i, later)))
       (λ e. rw (keep-no f i (range (suc i) n) e) (w .0, later))
 
-module _ (loaded : ℕ) (s : State) (r : Running loaded s) where
+module _ {loaded : ℕ} {s : State} (r : Running loaded s) where
   notified-ascends : (c : Change) → (ascends (notified s c) ≡ true) × (length (notified s c) ≤ listRoom)
   unfolding notified ascends receivers number
-  notified-ascends (enters i a) = (refl, omega arith)
+  notified-ascends (setsLogin i a) = (refl, omega arith)
   notified-ascends (shows t) = (refl, omega arith)
   notified-ascends (stores i a f) = (
-    numbers-ascend s (few-at loaded s r) _ 0 (length (s .tables .users)) .0,
+    numbers-ascend s (few-at r) _ 0 (length (s .tables .users)) .0,
     rw length-map (le-trans (length-keep-le _ (range 0 (length (s .tables .users)))) (rw range-length (r .users))),
   )
 
-  conclude-ascends : (b : Bytes) (l : List ℕ) (x : Result ℕ Change) →
-      (ascends (take (conclude s b l x .told) (conclude s b l x .list)) ≡ true) × (conclude s b l x .told ≤ listRoom)
+  pub told-ascends : (a : Act) → (ascends (take (outcome s a .told) (outcome s a .list)) ≡ true) × (outcome s a .told ≤ listRoom)
   unfolding conclude unchanged
-  conclude-ascends b l (refused e) = unfold ascends in (refl, omega arith)
-  conclude-ascends b l (done c) = rw over-take (notified-ascends c)
-
-  served-ascends : (b : Bytes) (l : List ℕ) (q : Option Request) →
-      (ascends (take (served s b l q .told) (served s b l q .list)) ≡ true) × (served s b l q .told ≤ listRoom)
-  unfolding served unchanged
-  served-ascends b l none = unfold ascends in (refl, omega arith)
-  served-ascends b l (some q) = conclude-ascends b l _
-
-  pub told-ascends : (x b : Bytes) (l : List ℕ) →
-      (ascends (take (outcome s (line x b l) .told) (outcome s (line x b l) .list)) ≡ true) × (outcome s (line x b l) .told ≤ listRoom)
-  unfolding outcome
-  told-ascends x b l = served-ascends b l (requestOf x)
+  told-ascends a = by-decision (λ x. (ascends (take (x .told) (x .list)) ≡ true) × (x .told ≤ listRoom)) s a
+      (λ e. unfold ascends in (refl, omega arith))
+      (λ c d. rw over-take (notified-ascends c))

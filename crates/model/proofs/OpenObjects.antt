@@ -12,13 +12,12 @@ use borrow.Author.Tests.{eqb-true, leb-true}
 use Rattle.model.specs.Base.{Bytes, text, all, _==_, _>>=_, _>>_, _<|>_, check, after, ifAfter, within, isDigit}
 use Rattle.model.specs.Limits.{maxDepth, maxKey}
 use Rattle.model.specs.Names.{nameByte, isNameOf, isKey}
-use Rattle.model.specs.Values.{Value, quoted, valueText, readValue}
-use Rattle.model.specs.Fields.{Keys}
+use Rattle.model.specs.Values.{Value, validValue, quoted, valueText, readValue}
+use Rattle.model.specs.Fields.{Keys, validKeys}
 use Rattle.model.specs.RecordText.{Node, leaf, object, Members, noMembers, member, isBlank, skip, token}
 use Rattle.model.specs.RecordText.{readKey, readLeaf, readMore, readMembers, asNode, readObject, readEmpty, treeOf, Opened}
 use Rattle.model.specs.SavedText.{descend, ascend}
 use Rattle.model.proofs.Lists.{by-cases, and-both, none-some}
-use Rattle.model.proofs.Valid.{validKeys, validValue}
 use Rattle.model.proofs.Reading.{Stops, span-all}
 use Rattle.model.proofs.Spelling.{value-reads}
 

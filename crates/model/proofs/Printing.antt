@@ -8,15 +8,18 @@ use native.Mathlib.Nat.{le-refl}
 use native.Mathlib.Omega.{arith}
 use borrow.Author.Tests.{le-ltb}
 use Rattle.model.specs.Base.{Bytes, joined}
+use Rattle.model.specs.Fields.{Field}
 use Rattle.model.specs.Limits.{maxCopy, listRoom}
-use Rattle.model.specs.Refusals.{Result, refused, done, _>>=_, _or_}
+use Rattle.model.specs.Refusals.{Result, refused, done}
 use Rattle.model.specs.Tables.{User, userAt}
 use Rattle.model.specs.Opening.{State}
-use Rattle.model.specs.Requests.{Request, login, get, push, requestOf}
-use Rattle.model.specs.Serving.{indexIn, loginAt, copyOf, readable, Change, enters, shows, stores, decideShow, decideGet, roomFor, decide, notified, shown, answerOf, Act, line, unchanged, conclude, served, outcome}
-use Rattle.model.specs.Runs.{events, requestIn}
+use Rattle.model.specs.Requests.{Request, login, inSession, get, push, requestOf}
+use Rattle.model.specs.Serving.{indexIn, copyFor, Change, setsLogin, shows, stores, decideShow, decideGet, decidePush, roomFor, decide, notified, shown, answerOf, Act, line, bufferOf, listOf, decideLine, decision, unchanged, conclude, outcome}
+use Rattle.model.specs.Runs.{requestOfAct, eventIn, events, pushIn}
 use Rattle.model.specs.Program.{printDeliveries, printAnswer, printed}
-use Rattle.model.specs.Claims.{eventIn, withZeros, LongEnough, actOf}
+use Rattle.model.specs.Claims.{withZeros, LongEnough, actOf}
+use Rattle.model.proofs.Lists.{bind-agree}
+use Rattle.model.proofs.Decisions.{asking}
 use Rattle.model.proofs.TwoRuns.{over-take}
 
 -- ── Content: from one decision the same is printed ──
@@ -25,16 +28,15 @@ module _ (s : State) (b b₁ : Bytes) (l l₁ : List ℕ) where
       printAnswer (conclude s b l x .buffer) (conclude s b l x .answer) ≡ printAnswer (conclude s b₁ l₁ x .buffer) (conclude s b₁ l₁ x .answer)
   unfolding conclude unchanged printAnswer answerOf shown
   answer-alike (refused e) = refl
-  answer-alike (done (enters i a)) = refl
+  answer-alike (done (setsLogin i a)) = refl
   answer-alike (done (shows c)) = rw (over-take c b, over-take c b₁)
   answer-alike (done (stores i a f)) = refl
 
-  deliveries-alike : (x : Result ℕ Change) (q : Request) → printDeliveries (conclude s b l x) (some q) ≡ printDeliveries (conclude s b₁ l₁ x) (some q)
+  deliveries-alike : (x : Result ℕ Change) (p : Option Field) → printDeliveries (conclude s b l x) p ≡ printDeliveries (conclude s b₁ l₁ x) p
   unfolding printDeliveries
-  deliveries-alike x (login u k) = refl
-  deliveries-alike x (get n) = refl
-  deliveries-alike (refused e) (push n p v) = unfold conclude unchanged in refl
-  deliveries-alike (done c) (push n p v) = unfold conclude in rw (over-take (notified s c) l, over-take (notified s c) l₁)
+  deliveries-alike x none = refl
+  deliveries-alike (refused e) (some f) = unfold conclude unchanged in refl
+  deliveries-alike (done c) (some f) = unfold conclude in rw (over-take (notified s c) l, over-take (notified s c) l₁)
 
   state-alike : (x : Result ℕ Change) → conclude s b l x .state ≡ conclude s b₁ l₁ x .state
   unfolding conclude unchanged
@@ -44,9 +46,7 @@ module _ (s : State) (b b₁ : Bytes) (l l₁ : List ℕ) where
 -- ── Length: where there is room, how much plays no part in a decision ──
 -- no copy is longer than a buffer must be
 abbrev pub CopiesFit : State → Type 0
-CopiesFit s =
-    (i : ℕ) (u : User) → userAt (s .tables .users) i ≡ some u →
-    length (copyOf (s .tables .policy) u (readable (s .tables .policy) u (s .fields))) ≤ maxCopy
+CopiesFit s = (i : ℕ) (u : User) → userAt (s .tables .users) i ≡ some u → length (copyFor s u) ≤ maxCopy
 
 module _ (s : State) (fit : CopiesFit s) (b b₁ : Bytes) (l l₁ : List ℕ)
     (room : maxCopy ≤ length b) (room₁ : maxCopy ≤ length b₁) (places : listRoom ≤ length l) (places₁ : listRoom ≤ length l₁) where
@@ -56,35 +56,26 @@ module _ (s : State) (fit : CopiesFit s) (b b₁ : Bytes) (l l₁ : List ℕ)
 
   decide-alike : (q : Request) → decide s q (roomFor q b l) ≡ decide s q (roomFor q b₁ l₁)
   unfolding decide roomFor
-  decide-alike (login n k) = refl
-  decide-alike (get n) = go (userAt (s .tables .users) (indexIn n)) refl
-    where
-      go : (w : Option User) → userAt (s .tables .users) (indexIn n) ≡ w →
-          ((w or 14) >>= λ u. decideGet (s .tables .policy) (indexIn n) u (loginAt s (indexIn n)) (readable (s .tables .policy) u (s .fields)) n (length b))
-          ≡ ((w or 14) >>= λ u. decideGet (s .tables .policy) (indexIn n) u (loginAt s (indexIn n)) (readable (s .tables .policy) u (s .fields)) n (length b₁))
-      go none e = unfold _>>=_ _or_ in refl
-      go (some u) e = unfold _>>=_ _or_ decideGet in rw (show-alike _ (fit (indexIn n) u e))
-  decide-alike (push n p v) = rw (le-ltb (length l) listRoom places, le-ltb (length l₁) listRoom places₁)
+  decide-alike (login u k) = refl
+  decide-alike (inSession n get) = unfold decideGet in (bind-agree _ _ _ λ a e. show-alike _ (fit (indexIn n) (a .user) (asking s n a e .isUser)))
+  decide-alike (inSession n (push p v)) = unfold decidePush in rw (le-ltb (length l) listRoom places, le-ltb (length l₁) listRoom places₁)
 
-  printed-served : (q : Option Request) →
-      printAnswer (served s b l q .buffer) (served s b l q .answer) ++ printDeliveries (served s b l q) q
-      ≡ printAnswer (served s b₁ l₁ q .buffer) (served s b₁ l₁ q .answer) ++ printDeliveries (served s b₁ l₁ q) q
-  unfolding served
-  printed-served none = unfold unchanged printAnswer printDeliveries in refl
-  printed-served (some q) = rw (decide-alike q) (ap₂ _++_ (answer-alike s b b₁ l l₁ _) (deliveries-alike s b b₁ l l₁ _ q))
+  line-decides-alike : (q : Option Request) → decideLine s b l q ≡ decideLine s b₁ l₁ q
+  unfolding decideLine
+  line-decides-alike none = refl
+  line-decides-alike (some q) = decide-alike q
 
-  state-served : (q : Option Request) → served s b l q .state ≡ served s b₁ l₁ q .state
-  unfolding served
-  state-served none = unfold unchanged in refl
-  state-served (some q) = rw (decide-alike q) (state-alike s b b₁ l l₁ _)
+  decision-alike : (x : Bytes) → decision s (line x b l) ≡ decision s (line x b₁ l₁)
+  unfolding decision
+  decision-alike x = line-decides-alike (requestOf x)
 
   printed-alike : (x : Bytes) → printed (eventIn s (line x b l)) ≡ printed (eventIn s (line x b₁ l₁))
-  unfolding printed requestIn outcome
-  printed-alike x = printed-served (requestOf x)
+  unfolding printed pushIn requestOfAct outcome bufferOf listOf
+  printed-alike x = rw (decision-alike x) (ap₂ _++_ (answer-alike s b b₁ l l₁ _) (deliveries-alike s b b₁ l l₁ _ _))
 
   next-alike : (x : Bytes) → outcome s (line x b l) .state ≡ outcome s (line x b₁ l₁) .state
-  unfolding outcome
-  next-alike x = state-served (requestOf x)
+  unfolding outcome bufferOf listOf
+  next-alike x = rw (decision-alike x) (state-alike s b b₁ l l₁ _)
 
 -- ── A line: the zeros are long enough too ──
 zeros-fit : (n : ℕ) → n ≤ length {A = ℕ} (replicate n 0)

@@ -9,14 +9,14 @@ use lib.Seq.{take-all}
 use native.Mathlib.Omega.{arith}
 use Rattle.model.specs.Base.{Bytes, text, among, _==_, _>>=_, within, isDigit}
 use Rattle.model.specs.Limits.{maxDepth, maxFields}
-use Rattle.model.specs.Values.{Value, valueText}
+use Rattle.model.specs.Values.{Value, validValue, valueText}
 use Rattle.model.specs.Fields.{Keys, Field, Fields, andThen, lex, orderKey, orderPath, put, store, fieldOf}
 use Rattle.model.specs.RecordText.{Node, leaf, object, Members, noMembers, isBlank, asNode, treeOf}
 use Rattle.model.specs.RecordText.{keysIn, twiceIn, twice, countIn, count, storeNode, storeMembers, Opened}
 use Rattle.model.specs.SavedText.{descend, ascend, turn, savedBehind, saved}
 use Rattle.model.proofs.Lists.{by-cases, never, All, all-imp, false-any, bytes-eq, bytes-ne}
 use Rattle.model.proofs.Order.{Before, Sorted, by-three, before-after, put-more, key-orders, lt-eq, lt-gt}
-use Rattle.model.proofs.Valid.{Valid, validValue}
+use Rattle.model.proofs.Valid.{Valid}
 use Rattle.model.proofs.Diverge.{diverge, Diverging}
 use Rattle.model.proofs.OpenObjects.{Fits, valid-path, Frame, Frames, keys, around, readNode, behind, resume, Ends, start}
 use Rattle.model.proofs.OpenObjects.{text-plain, leaf-reads, closes, descend-longer, object-reads, next-reads, tree-reads}
@@ -242,18 +242,26 @@ reads-behind f (g ∷ fs) a s v d =
       stores = r .stores ∙ ap (λ (xs : Fields). storeAll xs (g ∷ fs)) (a .stores [] []);
     }
 
-pub saved-reads : (fs : Fields) → Sorted fs → All Valid fs → Diverging fs → length fs ≤ maxFields →
-    (m : Members) × (treeOf (saved fs) ≡ some m) × (twice m ≡ false) × (count m ≡ length fs) × (storeMembers [] m [] ≡ fs)
+-- the tree that the saved text of fields is
+pub record SavedAs (fs : Fields) : Type 0 where
+  pub tree : Members
+  pub read : treeOf (saved fs) ≡ some tree
+  pub once : twice tree ≡ false
+  pub many : count tree ≡ length fs
+  pub stored : storeMembers [] tree [] ≡ fs
+
+pub saved-reads : (fs : Fields) → Sorted fs → All Valid fs → Diverging fs → length fs ≤ maxFields → SavedAs fs
 unfolding saved text twice count storeMembers
-saved-reads [] s v d n = (noMembers, unfold Opened in refl, refl, refl, refl)
+saved-reads [] s v d n = record { tree = noMembers; read = unfold Opened in refl; once = refl; many = refl; stored = refl }
 saved-reads (f ∷ fs) s v d n =
     let p = valid-path (f .path) (v .0 .path) in
     let a = opens (f .value) (savedBehind (f .path) fs) (v .0 .value) (behind-ends (f .path) fs (d .0)) maxDepth (f .path) (p .1) in
     let r = reads-behind f fs a s v d in
-    let t = tree-reads (f .path) _ (r .node) (p .0) (r .whole) in (
-      t .0,
-      t .1,
-      ap twiceIn (sym (t .2)) ∙ r .once,
-      ap countIn (sym (t .2)) ∙ r .counts ∙ omega arith,
-      ap (λ (x : Node). storeNode [] x []) (sym (t .2)) ∙ r .stores ∙ stored [] (f ∷ fs) s n,
-    )
+    let t = tree-reads (f .path) _ (r .node) (p .0) (r .whole) in
+    record {
+      tree = t .0;
+      read = t .1;
+      once = ap twiceIn (sym (t .2)) ∙ r .once;
+      many = ap countIn (sym (t .2)) ∙ r .counts ∙ omega arith;
+      stored = ap (λ (x : Node). storeNode [] x []) (sym (t .2)) ∙ r .stores ∙ stored [] (f ∷ fs) s n;
+    }

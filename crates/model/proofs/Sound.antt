@@ -1,25 +1,25 @@
 -- What the fields of every state of a run have: they are valid, none is the beginning of another, and none conflicts with a WRITE line.
 use Prim.Native.Nat.{ℕ, _≤_, Ordering·lt, Ordering·gt}
 use mathlib.Core.Path.{_≡_, refl, sym, ap, ap₂, subst, _∙_}
-use mathlib.Core.Option.{some}
-use mathlib.Core.List.{[], _∷_}
+use mathlib.Core.Option.{Option, some}
+use mathlib.Core.List.{List, [], _∷_}
 use mathlib.Core.Bool.{Bool, true, false, not, _&&_}
 use lib.ListN.{length, replicate, length-replicate}
 use native.Mathlib.Omega.{arith}
 use borrow.Author.Tests.{not-false}
-use Rattle.model.specs.Base.{Bytes, any, among, isSome, _==_, _>>=_, _>>_}
-use Rattle.model.specs.Limits.{maxUsers}
-use Rattle.model.specs.Values.{Value}
-use Rattle.model.specs.Fields.{Keys, Field, Fields, orderPath, valueAt, holds, put, fieldOf}
+use Rattle.model.specs.Base.{Bytes, any, among, isSome, _==_}
+use Rattle.model.specs.Limits.{maxUsers, maxLogins}
+use Rattle.model.specs.Fields.{Keys, Field, Fields, orderPath, valueAt, holds, put}
 use Rattle.model.specs.RecordText.{count}
 use Rattle.model.specs.Paths.{names, asSteps}
 use Rattle.model.specs.Refusals.{done}
 use Rattle.model.specs.Tables.{User, Rule, Tables}
 use Rattle.model.specs.Rights.{matches, isWrite, isFor, mayWrite, overlap, isAbove, conflict, conflictsWith}
 use Rattle.model.specs.Opening.{LoginState, State, emptyLogin, emptyLogins, Texts, opened}
-use Rattle.model.specs.Requests.{Request, login, get, push, readLogin, readGet, readPush, requestOf}
-use Rattle.model.specs.Serving.{Change, enters, shows, stores, apply, Act, outcome}
-use Rattle.model.proofs.Lists.{by-cases, never, and-both, or-neither, bytes-eq, bytes-refl, All, all-imp, all-replicate, any-true, any-false}
+use Rattle.model.specs.Requests.{Request, readLogin, readGet, readPush, readers, firstOf, requestOf, pushOf}
+use Rattle.model.specs.Serving.{Change, setsLogin, shows, stores, apply, Act, line, save, outcome}
+use Rattle.model.specs.Runs.{requestOfAct, eventIn, pushIn}
+use Rattle.model.proofs.Lists.{by-cases, never, none-some, and-both, or-neither, bytes-eq, bytes-refl, All, all-imp, all-replicate, any-true, any-false}
 use Rattle.model.proofs.Order.{Sorted, by-three, lt-eq, eq-gt, path-orders, put-same, put-more, all-put, value-less, value-same, value-more, behind-trans}
 use Rattle.model.proofs.Valid.{Valid}
 use Rattle.model.proofs.Diverge.{diverge, DivergesFrom, Diverging, diverging-put}
@@ -28,48 +28,52 @@ use Rattle.model.proofs.Spelling.{keys-valid, value-valid, value-of-val
 use Rattle.model.proofs.Conflict.{conflict-matched, conflict-flip}
 use Rattle.model.proofs.TablesRead.{ValidTables, Apart, writes-apart, tables-valid, opened-inv, record-inv}
 use Rattle.model.proofs.TreeValid.{stored-sorted, stored-diverging, stored-count, tree-valid}
-use Rattle.model.proofs.Decisions.{Stored, Decided, decided}
-use Rattle.model.proofs.Invariant.{Running, store-is-put, within-empty, total-empty, next-state, run-act}
+use Rattle.model.proofs.Decisions.{Stored, DecidedBy}
+use Rattle.model.proofs.Invariant.{NotYet, Running, store-is-put, within-empty, total-empty, next-state, run-act}
 
 -- ── What a pushed field is ──
-login-push : {C : Type 0} {u k : Bytes} {n : ℕ} {p : Keys} {v : Value} → login u k ≡ push n p v → C
-login-push h = let z : _≡_ {A = ℕ} 0 1 = cc in absurd (omega arith)
-
-get-push : {C : Type 0} {m n : ℕ} {p : Keys} {v : Value} → get m ≡ push n p v → C
-get-push h = let z : _≡_ {A = ℕ} 0 1 = cc in absurd (omega arith)
-
-module _ (x : Bytes) (n : ℕ) (p : Keys) (v : Value) where
-  not-login : {C : Type 0} → readLogin x ≡ some (push n p v) → C
-  unfolding readLogin
-  not-login h =
+-- what a line asks to store is valid: by each word's reader
+module _ (x : Bytes) (q : Request) (f : Field) (pushed : pushOf q ≡ some f) where
+  from-login : readLogin x ≡ some q → Valid f
+  unfolding readLogin pushOf
+  from-login h =
       bind-some _ _ _ h λ r e₁ h₁.
       bind-some _ _ _ h₁ λ t e₂ h₂.
-      check-some _ _ _ h₂ λ c h₃. login-push (some-same h₃)
+      check-some _ _ _ h₂ λ c h₃.
+      none-some (rw (← some-same h₃) at pushed)
 
-  not-get : {C : Type 0} → readGet x ≡ some (push n p v) → C
-  unfolding readGet
-  not-get h =
+  from-get : readGet x ≡ some q → Valid f
+  unfolding readGet pushOf
+  from-get h =
       bind-some _ _ _ h λ r e₁ h₁.
       bind-some _ _ _ h₁ λ m e₂ h₂.
-      get-push (some-same h₂)
+      none-some (rw (← some-same h₂) at pushed)
 
-  read-push : readPush x ≡ some (push n p v) → Valid (fieldOf p v)
-  unfolding readPush
-  read-push h =
+  from-push : readPush x ≡ some q → Valid f
+  unfolding readPush pushOf
+  from-push h =
       bind-some _ _ _ h λ r e₁ h₁.
       bind-some _ _ _ h₁ λ t e₂ h₂.
       bind-some _ _ _ h₂ λ w e₃ h₃.
-      bind-some _ _ _ h₃ λ m e₄ h₄.
-      bind-some _ _ _ h₄ λ q e₅ h₅.
-      bind-some _ _ _ h₅ λ y e₆ h₆.
-      let e : push m q y ≡ push n p v = some-same h₆ in
-      let i : q ≡ p = cc in
-      let j : y ≡ v = cc in
-      record { path = rw i at (keys-valid _ q e₅); value = rw j at (value-of-valid _ y e₆) }
+      bind-some _ _ _ h₃ λ n e₄ h₄.
+      bind-some _ _ _ h₄ λ p e₅ h₅.
+      bind-some _ _ _ h₅ λ v e₆ h₆.
+      rw (← some-same (rw (← some-same h₆) at pushed)) (record { path = keys-valid _ p e₅; value = value-of-valid _ v e₆ })
 
-  pub push-valid : requestOf x ≡ some (push n p v) → Valid (fieldOf p v)
-  unfolding requestOf
-  push-valid h = check-some _ _ _ h λ c k. either-some _ _ _ k read-push λ e. either-some _ _ _ e not-get not-login
+  -- what the first of some readers reads, one of them reads
+  by-reader : {C : Type 0} (rs : List (Bytes → Option Request)) → All (λ read. read x ≡ some q → C) rs → firstOf rs x ≡ some q → C
+  unfolding firstOf
+  by-reader [] each h = none-some h
+  by-reader (r ∷ rs) each h = either-some (r x) (firstOf rs x) q h (by-reader rs (each .1)) (each .0)
+
+  pub push-valid : requestOf x ≡ some q → Valid f
+  unfolding requestOf readers
+  push-valid h = check-some _ _ _ h λ c k. by-reader readers (from-login, (from-get, (from-push, tt))) k
+
+pub act-valid : (s : State) (a : Act) (f : Field) → pushIn (eventIn s a) ≡ some f → Valid f
+unfolding pushIn requestOfAct
+act-valid s (line t b l) f h = bind-some _ _ _ h λ q e k. push-valid t q f k e
+act-valid s (save b) f h = bind-some _ _ _ h λ q e k. none-some e
 
 -- ── A path that is not held is no field's ──
 absent-all : (p : Keys) (gs : Fields) → Sorted gs → holds p gs ≡ false → All (λ g. p ≡ g .path → ⊥) gs
@@ -138,15 +142,15 @@ and-three a b c h = let w = and-both (a && b) c h in (and-both a b (w .0) .1, w 
 -- what a user may write is clear, and diverges from every clear path but itself
 module _ (t : Tables) (valid : ValidTables t) (u : User) (p : Keys) (writes : mayWrite (t .policy) u p ≡ true) where
   -- a WRITE line that matches the path, with what holds of every line
-  record Line (P : Rule → Type 0) : Type 0 where
+  record WriteLine (P : Rule → Type 0) : Type 0 where
     rule : Rule
     isWriting : isWrite rule ≡ true
     isMatching : matches (u .environment) (rule .path) p ≡ true
     has : P rule
 
-  line : (P : Rule → Type 0) → All P (t .policy) → Line P
+  write-line : (P : Rule → Type 0) → All P (t .policy) → WriteLine P
   unfolding mayWrite
-  line P h =
+  write-line P h =
       let (r, e, k) = any-true P _ (t .policy) h writes in
       let w = and-three (isFor u r) (isWrite r) (matches (u .environment) (r .path) p) e in
       record { rule = r; isWriting = w .0; isMatching = w .1; has = k }
@@ -156,7 +160,7 @@ module _ (t : Tables) (valid : ValidTables t) (u : User) (p : Keys) (writes : ma
     where
       meets : any (conflictsWith (asSteps p)) (t .policy) ≡ true → ⊥
       meets e =
-          let l = line (λ r. All (Apart r) (t .policy)) (writes-apart t valid) in
+          let l = write-line (λ r. All (Apart r) (t .policy)) (writes-apart t valid) in
           let (r, c, apart) = any-true (Apart (l .rule)) _ (t .policy) (l .has) e in
           let w = and-both (isWrite r) (conflict (asSteps p) (r .path)) (unfold conflictsWith in c) in
           never (sym (conflict-matched (u .environment) (l .rule .path) (r .path) p (l .isMatching) (w .1)) ∙ apart (l .isWriting) (w .0))
@@ -170,61 +174,55 @@ module _ (t : Tables) (valid : ValidTables t) (u : User) (p : Keys) (writes : ma
     where
       meets : diverge p q ≡ false → ⊥
       meets e =
-          let l = line (λ r. conflictsWith (asSteps q) r ≡ false) (any-false _ (t .policy) clear) in
+          let l = write-line (λ r. conflictsWith (asSteps q) r ≡ false) (any-false _ (t .policy) clear) in
           let c = conflict-matched (u .environment) (l .rule .path) (asSteps q) p (l .isMatching) (same-or-conflict p q e n) in
           never (sym c ∙ conflict-flip (l .rule .path) (asSteps q) ∙ writing-apart q (l .rule) (l .isWriting) (l .has))
 
 -- ── Each act keeps it ──
-module _ (loaded : ℕ) (s : State) (r : Running loaded s) (o : Sound s) where
-  module _ (n : ℕ) (p : Keys) (v : Value) (i : ℕ) (a : LoginState) (f : Field) (d : Stored s n p v i a f) (w : Valid (fieldOf p v)) where
-    diverges : holds p (s .fields) ≡ false → DivergesFrom p (s .fields)
-    diverges h = both (s .fields) (o .clear) (absent-all p (s .fields) (r .sorted) h)
+module _ {loaded : ℕ} {s : State} (r : Running loaded s) (o : Sound s) where
+  module _ {w : Option ℕ} {p : Option Field} {i : ℕ} {a : LoginState} {f : Field} (d : Stored s w p i a f) (v : Valid f) where
+    diverges : holds (f .path) (s .fields) ≡ false → DivergesFrom (f .path) (s .fields)
+    diverges h = both (s .fields) (o .clear) (absent-all (f .path) (s .fields) (r .sorted) h)
       where
-        both : (gs : Fields) → All (λ g. Clear (s .tables) (g .path)) gs → All (λ g. p ≡ g .path → ⊥) gs → DivergesFrom p gs
+        both : (gs : Fields) → All (λ g. Clear (s .tables) (g .path)) gs → All (λ g. f .path ≡ g .path → ⊥) gs → DivergesFrom (f .path) gs
         both [] c n = tt
-        both (g ∷ gs) c n = (written-diverges (s .tables) (o .tables) (d .user) p (d .writes) (g .path) (c .0) (n .0), both gs (c .1) (n .1))
+        both (g ∷ gs) c n = (written-diverges (s .tables) (o .tables) (d .user) (f .path) (d .writes) (g .path) (c .0) (n .0), both gs (c .1) (n .1))
 
     apart-stores : Diverging (put f (s .fields))
-    apart-stores = rw (d .field) (by-cases (holds p (s .fields))
-        (λ h. diverging-held (fieldOf p v) (s .fields) h (o .apart))
-        (λ h. diverging-put (fieldOf p v) (s .fields) (diverges h) (o .apart)))
+    apart-stores = by-cases (holds (f .path) (s .fields))
+        (λ h. diverging-held f (s .fields) h (o .apart))
+        (λ h. diverging-put f (s .fields) (diverges h) (o .apart))
 
     sound-stores : Sound (apply (stores i a f) s)
     unfolding apply
-    sound-stores = rw (store-is-put loaded s r n p v i a f d) (record {
+    sound-stores = rw (store-is-put r d) (record {
       tables = o .tables;
-      valid = all-put _ f (s .fields) (subst Valid (sym (d .field)) w) (o .valid);
-      clear = all-put _ f (s .fields) (subst (λ (g : Field). Clear (s .tables) (g .path)) (sym (d .field)) (written-clear (s .tables) (o .tables) (d .user) p (d .writes))) (o .clear);
+      valid = all-put _ f (s .fields) v (o .valid);
+      clear = all-put _ f (s .fields) (written-clear (s .tables) (o .tables) (d .user) (f .path) (d .writes)) (o .clear);
       apart = apart-stores;
     })
 
-  sound-apply : (t : Bytes) (q : Request) (c : Change) → requestOf t ≡ some q → Decided s q c → Sound (apply c s)
+  sound-act : (a : Act) (c : Change) → DecidedBy s a c → Sound (apply c s)
   unfolding apply
-  sound-apply t (login n k) (enters i a) e d = record { tables = o .tables; valid = o .valid; clear = o .clear; apart = o .apart }
-  sound-apply t (login n k) (shows c) e d = absurd d
-  sound-apply t (login n k) (stores i a f) e d = absurd d
-  sound-apply t (get n) (enters i a) e d = absurd d
-  sound-apply t (get n) (shows c) e d = o
-  sound-apply t (get n) (stores i a f) e d = absurd d
-  sound-apply t (push n p v) (enters i a) e d = absurd d
-  sound-apply t (push n p v) (shows c) e d = absurd d
-  sound-apply t (push n p v) (stores i a f) e d = sound-stores n p v i a f d (push-valid t n p v e)
+  sound-act x (setsLogin i a) d = record { tables = o .tables; valid = o .valid; clear = o .clear; apart = o .apart }
+  sound-act x (shows c) d = o
+  sound-act x (stores i a f) d = sound-stores d (act-valid s x f (d .pushed))
 
 -- a state of a run
 pub record Ran (loaded : ℕ) (s : State) : Type 0 where
   pub running : Running loaded s
   pub sound : Sound s
 
-pub ran-act : (loaded : ℕ) (s : State) (a : Act) → Ran loaded s → Ran loaded (outcome s a .state)
-ran-act loaded s a r = record {
-  running = run-act loaded s a (r .running);
-  sound = next-state Sound s (r .sound) (λ t q room c k h. sound-apply loaded s (r .running) (r .sound) t q c k (decided s q room c h)) a;
+pub ran-act : {loaded : ℕ} (s : State) (a : Act) → Ran loaded s → Ran loaded (outcome s a .state)
+ran-act s a r = record {
+  running = run-act s a (r .running);
+  sound = next-state Sound s a (r .sound) (sound-act (r .running) (r .sound) a);
 }
 
 -- ── An accepted opening starts with it ──
-no-logins : emptyLogin .logins ≤ 65535
+no-logins : emptyLogin .logins ≡ 0
 unfolding emptyLogin
-no-logins = omega arith
+no-logins = refl
 
 pub ran-opened : (t : Texts) (s : State) → opened t ≡ done s → Ran (length (s .fields)) s
 ran-opened t s h =
@@ -236,7 +234,8 @@ ran-opened t s h =
     record {
       running = record {
         sorted = rw (f .stored) at (stored-sorted [] (f .tree) [] tt);
-        few = rw empty (all-replicate (λ a. a .logins ≤ 65535) maxUsers emptyLogin no-logins);
+        few = rw empty (all-replicate (λ a. a .logins ≤ maxLogins) maxUsers emptyLogin (omega (arith, no-logins)));
+        notYet = rw empty (all-replicate NotYet maxUsers emptyLogin (λ e. no-logins));
         places = rw empty (length-replicate maxUsers emptyLogin);
         users = v .users .few;
         within = rw empty (within-empty (s .tables .users) maxUsers);

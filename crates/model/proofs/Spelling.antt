@@ -9,20 +9,19 @@ use lib.ListN.{length, length-append}
 use lib.IntN.{pos, negsuc}
 use native.Mathlib.Omega.{arith}
 use borrow.Author.Tests.{leb-true, le-leb}
-use Rattle.model.specs.Base.{Bytes, text, all, joined, between, _==_, _>>=_, _>>_, _<|>_, check, after, ifAfter, span}
+use Rattle.model.specs.Base.{Bytes, text, all, joined, between, _>>=_, _>>_, _<|>_, check, after, ifAfter, span}
 use Rattle.model.specs.Base.{within, isDigit, isDecimal, worth, decimal}
-use Rattle.model.specs.Limits.{maxName, maxKey, maxDepth, maxString, maxListed, maxPathText}
+use Rattle.model.specs.Limits.{maxName, maxKey, maxDepth, maxString, maxPositive, maxNegative, maxListed, maxPathText}
 use Rattle.model.specs.Names.{nameByte, isNameOf, isName, isKey, isLetter, plainByte, isPlain}
-use Rattle.model.specs.Values.{Value, truth, string, whole, stringByte, quoted, valueText}
+use Rattle.model.specs.Values.{Value, truth, string, whole, stringByte, validValue, quoted, valueText}
 use Rattle.model.specs.Values.{readTruth, readString, readPos, readNeg, readValue, valueOf}
-use Rattle.model.specs.Fields.{Keys}
+use Rattle.model.specs.Fields.{Keys, validKeys}
 use Rattle.model.specs.Paths.{Operator, equals, isIn, Step, names, wildcard, environment, Steps}
 use Rattle.model.specs.Paths.{operatorText, nameText, stepText, stepsText, asSteps, keysText}
 use Rattle.model.specs.Paths.{readQuoted, readEither, inBrackets, readWildcard, readIdentifier, readDotted, readEnvironment, readNames, readList, readSelector, readStep}
 use Rattle.model.specs.Paths.{readAll, readPath, stepsOf, readKeyStep, keysOf}
-use Rattle.model.specs.Claims.{StepsReadBack, OneSpelling, KeysReadBack, ValueReadsBack, KeysAsWritten, ValueAsWritten}
+use Rattle.model.specs.Claims.{StepsReadBack, OneSpelling, KeysAsWritten, ValueAsWritten}
 use Rattle.model.proofs.Lists.{never, and-both, both-and, none-some, bytes-eq, joined-append}
-use Rattle.model.proofs.Valid.{validValue, validKeys}
 use Rattle.model.proofs.Reading.{within-yes, within-bounds, all-snoc, some-same, bind-some, check-some, either-some, after-cases}
 use Rattle.model.proofs.Reading.{Stops, span-all, span-passes, span-joins, after-other, after-some, after-span}
 use Rattle.model.proofs.Reading.{digit-bounds, decimal-digits, worth-decimal, decimal-length, decimal-is, decimal-worth}
@@ -82,10 +81,10 @@ module _ (s : Bytes) (t : Value × Bytes) where
   neg-spells h = bind-some _ _ _ h λ s₁ e i. check-some _ _ _ i λ c v.
       let a = span isDigit s₁ .0 in
       let d = and-both (isDecimal a) _ c in
-      let l = within-bounds 1 2147483648 (worth 0 a) (d .1) in
+      let l = within-bounds 1 maxNegative (worth 0 a) (d .1) in
       let n : suc (worth 0 a - 1) ≡ worth 0 a = omega arith in
       let w = after-some _ s s₁ e ∙ ap (0x2D ∷_) (sym (span-joins isDigit s₁)) in
-      rw (← some-same v) (le-leb (worth 0 a - 1) 2147483647 (omega arith), rw (n, decimal-worth a (d .0)) w)
+      rw (← some-same v) (le-leb (suc (worth 0 a - 1)) maxNegative (omega arith), rw (n, decimal-worth a (d .0)) w)
 
   pub value-spells : readValue s ≡ some t → Spells s t
   unfolding readValue
@@ -120,20 +119,20 @@ only-number (d ∷ a) r h k =
       after-other 0x22 d _ (a ++ r) (λ e. omega arith),
     )
 
-pos-reads : (n : ℕ) (r : Bytes) → n ≤ 2147483647 → Stops isDigit r → readValue (decimal n ++ r) ≡ some (whole (pos n), r)
+pos-reads : (n : ℕ) (r : Bytes) → n ≤ maxPositive → Stops isDigit r → readValue (decimal n ++ r) ≡ some (whole (pos n), r)
 unfolding readPos check _>>_ _<|>_
 pos-reads n r l st =
     let w = decimal-digits n in
-    only-number (decimal n) r (decimal-is n) w ∙ rw (span-all isDigit (decimal n) r w st, decimal-is n, worth-decimal n, le-leb n 2147483647 l)
+    only-number (decimal n) r (decimal-is n) w ∙ rw (span-all isDigit (decimal n) r w st, decimal-is n, worth-decimal n, le-leb n maxPositive l)
 
-neg-reads : (n : ℕ) (r : Bytes) → n ≤ 2147483647 → Stops isDigit r → readValue (0x2D ∷ decimal (suc n) ++ r) ≡ some (whole (negsuc n), r)
+neg-reads : (n : ℕ) (r : Bytes) → suc n ≤ maxNegative → Stops isDigit r → readValue (0x2D ∷ decimal (suc n) ++ r) ≡ some (whole (negsuc n), r)
 unfolding readValue readTruth readString readPos readNeg text after check _>>=_ _>>_ _<|>_
 neg-reads n r l st =
     let a = decimal (suc n) in
     let miss = span-all isDigit [] (0x2D ∷ a ++ r) (unfold all in refl) (unfold isDigit within in refl) in
     let e = span-all isDigit a r (decimal-digits (suc n)) st in
     let z : suc n - 1 ≡ n = omega arith in
-    rw (miss, e, decimal-is (suc n), worth-decimal (suc n), within-yes 1 2147483648 (suc n) (omega arith) (omega arith), z) (unfold isDecimal in refl)
+    rw (miss, e, decimal-is (suc n), worth-decimal (suc n), within-yes 1 maxNegative (suc n) (omega arith) (omega arith), z) (unfold isDecimal in refl)
 
 -- whatever stands behind it, but for a digit behind a number
 pub value-reads : (v : Value) (r : Bytes) → validValue v ≡ true → Stops isDigit r → readValue (valueText v ++ r) ≡ some (v, r)
@@ -157,29 +156,17 @@ value-of-valid s v h = value-of-spells s v h .0
 pub value-as-written : ValueAsWritten
 value-as-written s v h = value-of-spells s v h .1
 
-pub value-of-text : (v : Value) → validValue v ≡ true → valueOf (valueText v) ≡ some v
-unfolding valueOf _>>=_ _>>_ check _==_
-value-of-text v h = rw (rw append-nil at (value-reads v [] h tt))
-
-pub value-reads-back : ValueReadsBack
-value-reads-back s v h = value-of-text v (value-of-valid s v h)
-
 pub value-length : (v : Value) → validValue v ≡ true → length (valueText v) ≤ 34
 unfolding validValue valueText text quoted
 value-length (truth true) h = lit≤ tt
 value-length (truth false) h = lit≤ tt
 value-length (string s) h = rw (length-append s) (omega (arith, leb-true (length s) maxString (and-both _ _ h .0)))
-value-length (whole (pos n)) h = omega (arith, decimal-length n 9 (omega (arith, leb-true n 2147483647 h)))
-value-length (whole (negsuc n)) h = omega (arith, decimal-length (suc n) 9 (omega (arith, leb-true n 2147483647 h)))
+value-length (whole (pos n)) h = omega (arith, decimal-length n 9 (omega (arith, leb-true n maxPositive h)))
+value-length (whole (negsuc n)) h = omega (arith, decimal-length (suc n) 9 (omega (arith, leb-true (suc n) maxNegative h)))
 
 -- ── A path, piece by piece ──
--- a reader of one piece: the pieces that it gives are good, and a good one reads back from its spelling
-record Reader {A : Type 0} (one : Bytes → Option (A × Bytes)) (good : A → Bool) (spell : A → Bytes) : Type 0 where
-  gives : (s : Bytes) (t : A × Bytes) → one s ≡ some t → good (t .0) ≡ true
-  reads : (a : A) (r : Bytes) → good a ≡ true → one (spell a ++ r) ≡ some (a, r)
-  ends : one [] ≡ none
-
-module _ {A : Type 0} {one : Bytes → Option (A × Bytes)} {good : A → Bool} {spell : A → Bytes} (o : Reader one good spell) where
+-- where a reader gives good pieces, they are good all along the path
+module _ {A : Type 0} (one : Bytes → Option (A × Bytes)) (good : A → Bool) (gives : (s : Bytes) (t : A × Bytes) → one s ≡ some t → good (t .0) ≡ true) where
   all-gives : (k : ℕ) (p q : List A) (s : Bytes) → readAll one k p s ≡ some q → all good p ≡ true →
       (length q ≤ length p + k) × (all good q ≡ true)
   unfolding readAll
@@ -187,7 +174,7 @@ module _ {A : Type 0} {one : Bytes → Option (A × Bytes)} {good : A → Bool} 
   all-gives zero p q (x ∷ s) h g = none-some h
   all-gives (suc k) p q [] h g = rw (← some-same h) (omega arith, g)
   all-gives (suc k) p q (x ∷ s) h g = bind-some _ _ _ h λ t e i.
-      let w = all-gives k (p ++ t .0 ∷ []) q (t .1) i (all-snoc good p (t .0) g (o .gives _ t e)) in
+      let w = all-gives k (p ++ t .0 ∷ []) q (t .1) i (all-snoc good p (t .0) g (gives _ t e)) in
       (omega (arith, w .0, length-append p (t .0 ∷ [])), w .1)
 
   path-gives : (s : Bytes) (q : List A) → readPath one s ≡ some q → (within 1 maxDepth (length q) && all good q) ≡ true
@@ -196,9 +183,12 @@ module _ {A : Type 0} {one : Bytes → Option (A × Bytes)} {good : A → Bool} 
       let w = all-gives maxDepth [] p s₁ u (unfold all in refl) in
       rw (← some-same v) (both-and _ _ (within-yes 1 maxDepth (length p) (leb-true 1 _ l) (omega arith)) (w .1))
 
+-- where it reads a good piece back from its spelling, it does so all along the path
+module _ {A : Type 0} (one : Bytes → Option (A × Bytes)) (good : A → Bool) (spell : A → Bytes)
+    (reads : (a : A) (r : Bytes) → good a ≡ true → one (spell a ++ r) ≡ some (a, r)) (ends : one [] ≡ none) where
   one-more : (k : ℕ) (p : List A) (s r : Bytes) (a : A) → one s ≡ some (a, r) → readAll one (suc k) p s ≡ readAll one k (p ++ a ∷ []) r
   unfolding readAll _>>=_
-  one-more k p [] r a h = none-some (sym (o .ends) ∙ h)
+  one-more k p [] r a h = none-some (sym ends ∙ h)
   one-more k p (x ∷ s) r a h = rw h
 
   all-reads : (k : ℕ) (p q : List A) → length q ≤ k → all good q ≡ true → readAll one k p (joined (map spell q)) ≡ some (p ++ q)
@@ -208,7 +198,7 @@ module _ {A : Type 0} {one : Bytes → Option (A × Bytes)} {good : A → Bool} 
   all-reads zero p (a ∷ q) l g = absurd (omega arith)
   all-reads (suc k) p (a ∷ q) l g =
       let w = and-both (good a) _ g in
-      let e = one-more k p _ _ a (o .reads a (joined (map spell q)) (w .0)) in
+      let e = one-more k p _ _ a (reads a (joined (map spell q)) (w .0)) in
       e ∙ all-reads k (p ++ a ∷ []) q (omega arith) (w .1) ∙ ap some (append-assoc p (a ∷ []) q)
 
   path-reads : (q : List A) → (within 1 maxDepth (length q) && all good q) ≡ true → readPath one (text "$" ++ joined (map spell q)) ≡ some q
@@ -239,31 +229,13 @@ key-gives s t h = bind-some _ _ _ h λ s₁ e i. bind-some _ _ _ i λ k u j. bin
     let w = quoted-gives _ s₁ k u in
     rw (← some-same z) (w .0, simp append-assoc (cc (after-some _ s s₁ e, w .1, after-some _ (k .1) r v)))
 
-key-reads : (k r : Bytes) → isKey k ≡ true → readKeyStep (keyText k ++ r) ≡ some (k, r)
-unfolding readKeyStep inBrackets keyText stepText between text after _>>=_
-key-reads k r h = rw (append-assoc (nameText k) (0x5D ∷ []) r, quoted-reads k (0x5D ∷ r) h)
-
-key-reader : Reader readKeyStep isKey keyText
-key-reader = record {
-  gives = λ s t h. key-gives s t h .0;
-  reads = key-reads;
-  ends = unfold readKeyStep inBrackets text after _>>=_ in refl;
-}
-
 pub keys-valid : (s : Bytes) (p : Keys) → keysOf s ≡ some p → validKeys p ≡ true
 unfolding keysOf validKeys
-keys-valid s p h = path-gives key-reader s p h
+keys-valid s p h = path-gives readKeyStep isKey (λ s t h. key-gives s t h .0) s p h
 
 pub keys-text : (p : Keys) → keysText p ≡ text "$" ++ joined (map keyText p)
 unfolding keysText stepsText asSteps keyText
 keys-text p = rw (map-map stepText (λ k. names (k ∷ [])) p)
-
-pub keys-of-text : (p : Keys) → validKeys p ≡ true → keysOf (keysText p) ≡ some p
-unfolding keysOf validKeys
-keys-of-text p h = rw (keys-text p) (path-reads key-reader p h)
-
-pub keys-read-back : KeysReadBack
-keys-read-back s p h = keys-of-text p (keys-valid s p h)
 
 -- what is spelled so far, and the text still to read, are the spelling of all that will be read
 keys-joined : (k : ℕ) (p q : Keys) (s : Bytes) → readAll readKeyStep k p s ≡ some q → joined (map keyText q) ≡ joined (map keyText p) ++ s
@@ -418,12 +390,9 @@ step-reads (environment o n) r h = unfold stepText text in (
     ∙ step-brackets (environment o n) (operatorText o ++ n) r (environment-reads o n r (unfold validStep in h)))
 
 -- ── A policy path ──
-step-reader : Reader readStep validStep stepText
-step-reader = record {
-  gives = step-gives;
-  reads = step-reads;
-  ends = unfold readStep readDotted inBrackets text after _>>=_ _<|>_ in refl;
-}
+no-step : readStep [] ≡ none
+unfolding readStep readDotted inBrackets text after _>>=_ _<|>_
+no-step = refl
 
 -- a path that some text spells
 unfoldable pub validSteps : Steps → Bool
@@ -437,7 +406,7 @@ steps-parts p h = and-both (within 1 maxDepth (length p) && all validStep p) _ h
 pub steps-valid : (s : Bytes) (p : Steps) → stepsOf s ≡ some p → validSteps p ≡ true
 unfolding stepsOf validSteps
 steps-valid s p h = bind-some _ _ _ h λ q e i. check-some _ _ _ i λ c v.
-    rw (← some-same v) (both-and _ _ (path-gives step-reader s q e) c)
+    rw (← some-same v) (both-and _ _ (path-gives readStep validStep step-gives s q e) c)
 
 pub steps-length : (s : Bytes) (p : Steps) → stepsOf s ≡ some p → length (stepsText p) ≤ maxPathText
 steps-length s p h = leb-true _ _ (steps-parts p (steps-valid s p h) .1)
@@ -446,7 +415,7 @@ pub steps-of-text : (p : Steps) → validSteps p ≡ true → stepsOf (stepsText
 unfolding stepsOf _>>=_ _>>_ check
 steps-of-text p h =
     let w = steps-parts p h in
-    let e : readPath readStep (stepsText p) ≡ some p = unfold stepsText in path-reads step-reader p (w .0) in
+    let e : readPath readStep (stepsText p) ≡ some p = unfold stepsText in path-reads readStep validStep stepText step-reads no-step p (w .0) in
     rw (e, w .1)
 
 pub steps-read-back : StepsReadBack

@@ -1,5 +1,5 @@
 -- What the tables of an accepted opening have, and what an accepted opening says of each text.
-use Prim.Native.Nat.{ℕ, suc, _+_, _≤_}
+use Prim.Native.Nat.{ℕ, suc, _+_, _≤_, _<_}
 use mathlib.Core.Path.{_≡_, refl, sym, subst, _∙_}
 use mathlib.Core.Option.{Option, none, some}
 use mathlib.Core.List.{List, [], _∷_, _++_, append-assoc, append-nil}
@@ -7,7 +7,7 @@ use mathlib.Core.Bool.{Bool, true, false, _&&_}
 use lib.Dec.{leb, ltb}
 use lib.ListN.{length, length-set, length-append}
 use native.Mathlib.Omega.{arith}
-use borrow.Author.Tests.{ltb-false, leb-true, leb-false, le-ltb, not-false}
+use borrow.Author.Tests.{ltb-false, leb-true, leb-false, lt-ltb, le-ltb, not-false}
 use Rattle.model.specs.Base.{Bytes, text, any, firstFrom, number, isDecimal, worth}
 use Rattle.model.specs.Limits.{maxUsers, maxQuota, maxBindings, maxRules, maxText, maxFields}
 use Rattle.model.specs.Names.{isName, isKey, isPlain}
@@ -18,8 +18,9 @@ use Rattle.model.specs.Refusals.{Result, refused, done, _>>=_, _>>_, ref
 use Rattle.model.specs.Table.{Table, Line, ended, broken, lines, inLine, readRow, readRows, readLines, readTable}
 use Rattle.model.specs.Tables.{Binding, User, Rule, Tables, userNamed, usersTable, environmentsTable, bound, policyTable}
 use Rattle.model.specs.Rights.{isWrite, conflict, conflictsWith}
-use Rattle.model.specs.Opening.{State, emptyLogins, Texts, checkLength, from, conflictFrom, refuseAt, checkPolicy, openTables, quotas, openRecord, opened}
-use Rattle.model.proofs.Lists.{by-cases, and-both, refused-done, done-same, none-some, if-done, or-done, bind-done, then-done, All, all-append, all-set, any-false, false-any}
+use Rattle.model.specs.Opening.{State, emptyLogins, Texts, fault, checkLength, from, conflictFrom, refuseAt, checkPolicy, openTables, quotas, openRecord, opened}
+use Rattle.model.specs.Claims.{withRecord}
+use Rattle.model.proofs.Lists.{by-cases, and-both, refused-done, done-same, none-some, if-done, or-done, bind-done, then-done, past-if, past-or, All, all-append, all-set, any-false, false-any}
 use Rattle.model.proofs.Diverge.{Pairs, pairs-last, pairs-all}
 use Rattle.model.proofs.Conflict.{conflict-flip, conflict-self}
 
@@ -220,7 +221,6 @@ pub record OpenedFrom (t : Texts) (s : State) : Type 0 where
   pub users-short : ltb maxText (length (t .usersText)) ≡ false
   pub environments-short : ltb maxText (length (t .environmentsText)) ≡ false
   pub policy-short : ltb maxText (length (t .policyText)) ≡ false
-  pub record-short : ltb maxText (length (t .recordText)) ≡ false
   pub tables : openTables t ≡ done (s .tables)
   pub fields : openRecord (s .tables) (t .recordText) ≡ done (s .fields)
   pub logins : s .loginStates ≡ emptyLogins
@@ -238,16 +238,16 @@ opened-inv t s h =
       users-short = short₁;
       environments-short = short₂;
       policy-short = short₃;
-      record-short = short₄;
       tables = tables;
       fields = fields;
       logins = refl;
     })
 
-pub opened-again : (t : Texts) (s : State) → OpenedFrom t s → opened t ≡ done s
-unfolding opened checkLength _>>=_ _>>_ refuse_if_
-opened-again t s o =
-    rw (o .users-short, o .environments-short, o .policy-short, o .record-short, o .tables, o .fields, ← o .logins)
+-- tables that were opened are opened again: with another record text, that alone decides
+pub opened-with : (r : Bytes) (t : Texts) (s : State) → OpenedFrom t s → ltb maxText (length r) ≡ false →
+    opened (withRecord r t) ≡ (openRecord (s .tables) r >>= λ fs. done (record { tables = s .tables; loginStates = emptyLogins; fields = fs }))
+unfolding opened openTables checkLength withRecord _>>=_ _>>_ refuse_if_
+opened-with r t s o short = rw (o .users-short, o .environments-short, o .policy-short, short, o .tables)
 
 -- ── An accepted record ──
 pub record RecordFrom (ts : Tables) (s : Bytes) (fs : Fields) : Type 0 where
@@ -261,15 +261,15 @@ pub record RecordFrom (ts : Tables) (s : Bytes) (fs : Fields) : Type 0 where
 pub record-inv : (ts : Tables) (s : Bytes) (fs : Fields) → openRecord ts s ≡ done fs → RecordFrom ts s fs
 unfolding openRecord
 record-inv ts s fs h =
-    let (m, read, h₁) = or-done _ _ _ fs h in
-    let (once, h₂) = if-done _ _ _ fs h₁ in
-    let (fits, h₃) = if-done _ _ _ fs h₂ in
-    let (apart, h₄) = if-done _ _ _ fs h₃ in
+    past-or _ _ _ fs h λ m read h₁.
+    past-if _ _ _ fs h₁ λ once h₂.
+    past-if _ _ _ fs h₂ λ fits h₃.
+    past-if _ _ _ fs h₃ λ apart h₄.
     subst (RecordFrom ts s) (done-same h₄) (record {
       tree = m;
       read = read;
       once = once;
-      fits = ltb-false _ _ fits;
+      fits = omega (arith, ltb-false);
       stored = refl;
       apart = any-false _ _ apart;
     })
@@ -278,3 +278,9 @@ pub record-again : (ts : Tables) (s : Bytes) (fs : Fields) → RecordFrom ts s f
 unfolding openRecord _>>=_ _>>_ refuse_if_ _or_
 record-again ts s fs r =
     rw (r .read, r .once, le-ltb _ _ (r .fits), r .stored, false-any _ fs (r .apart))
+
+-- one that is read, and whose fields are too many
+pub record-grown : (ts : Tables) (s : Bytes) (m : Members) → treeOf s ≡ some m → twice m ≡ false → maxFields < count m + quotas (ts .users) →
+    openRecord ts s ≡ refused (fault 9 4 0)
+unfolding openRecord _>>=_ _>>_ refuse_if_ _or_
+record-grown ts s m read once more = rw (read, once, lt-ltb _ _ more)

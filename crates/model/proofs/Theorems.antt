@@ -1,5 +1,5 @@
--- The claims of specs/Claims, proved: each is one line here, or stands where its argument does (Changes, Spelling).
-use Prim.Native.Nat.{ℕ, zero, suc, _+_, _≤_}
+-- The claims of specs/Claims, proved, in their order; some stand where their argument does (Changes, Spelling, Loads).
+use Prim.Native.Nat.{ℕ, zero, suc, _+_, _*_, _≤_}
 use mathlib.Core.Path.{_≡_, refl, sym, ap, ap₂, _∙_}
 use mathlib.Core.Option.{some}
 use mathlib.Core.List.{List, [], _∷_, map, map-map}
@@ -10,63 +10,63 @@ use native.Mathlib.Omega.{arith}
 use native.Mathlib.Nat.{zero-add}
 use borrow.Author.Tests.{eqb-true, eq-eqb, le-ltb}
 use Rattle.model.specs.Base.{Bytes, keep, sum, range, _==_}
-use Rattle.model.specs.Limits.{maxFields, maxUsers, maxText, maxCopy, listRoom}
-use Rattle.model.specs.Fields.{Keys, Field, Fields, orderPath, byOrder, valueAt, put, store, fieldOf}
-use Rattle.model.specs.RecordText.{Members, treeOf, count, storeMembers}
+use Rattle.model.specs.Limits.{maxFields, maxUsers, maxText, maxCopy, listRoom, perUser}
+use Rattle.model.specs.Fields.{Keys, Field, Fields, orderPath, byOrder, valueAt, fieldOf}
+use Rattle.model.specs.RecordText.{Members, treeOf, storeMembers}
 use Rattle.model.specs.SavedText.{saved}
-use Rattle.model.specs.Refusals.{Result, refused, done}
+use Rattle.model.specs.Refusals.{Result, refused, done, _>>=_}
 use Rattle.model.specs.Table.{Line, lines}
 use Rattle.model.specs.Tables.{User, Access, Rule, Tables, userAt}
 use Rattle.model.specs.Rights.{mayRead}
-use Rattle.model.specs.Opening.{LoginState, State, emptyLogin, emptyLogins, Texts, Fault, opened, openTables}
-use Rattle.model.specs.Requests.{Request, login, get, push}
-use Rattle.model.specs.Serving.{loginAt, readable, readsBy, readsAt, Change, enters, shows, stores, apply, Act}
+use Rattle.model.specs.Opening.{LoginState, State, emptyLogin, emptyLogins, Texts, Fault, openRecord, opened}
+use Rattle.model.specs.Serving.{loginAt, readable, copyFor, readsBy, readsAt, Change, setsLogin, shows, stores, apply, Act, line}
 use Rattle.model.specs.Runs.{end, only, seen, seenFields}
 use Rattle.model.specs.Program.{lineBytes, printRun, serveWith, serve}
 use Rattle.model.specs.Claims
-use Rattle.model.specs.Claims.{Reached, spelled, SameTables, TwoRuns, isSorted, begins, noneBegins, withRecord, LongEnough}
-use Rattle.model.proofs.Lists.{by-cases, never, none-some, All, all-every, all-getD, all-replicate, all-keep, all-imp, all-range, any-range, false-any, elem-below, keep-agree, map-agree, length-keep-le}
+use Rattle.model.specs.Claims.{Reached, spelled, SameTables, isValid, isSorted, begins, noneBegins, withRecord, SavedFor, LongEnough, TwoRuns}
+use Rattle.model.proofs.Lists.{by-cases, never, both-and, none-some, All, true-all, all-every, all-getD, all-replicate, all-keep, all-imp, all-range, any-range, false-any, elem-below, keep-agree, map-agree, length-keep-le}
 use Rattle.model.proofs.Order.{path-orders, by-three, after-before, Before, Sorted, behind-trans, value-less, value-same, value-more, value-behind}
 use Rattle.model.proofs.Valid.{Valid}
 use Rattle.model.proofs.Reading.{some-same}
 use Rattle.model.proofs.Spelling.{one-spelling, value-length}
 use Rattle.model.proofs.Diverge.{diverge, diverge-flip, Diverging}
-use Rattle.model.proofs.TablesRead.{ValidRule, ValidTables, opened-inv, opened-again, record-inv, record-again}
-use Rattle.model.proofs.TreeValid.{stored-count}
-use Rattle.model.proofs.SavedTree.{saved-reads}
+use Rattle.model.proofs.TablesRead.{ValidRule, ValidTables, opened-inv, opened-with, record-again, record-grown}
+use Rattle.model.proofs.SavedTree.{SavedAs, saved-reads}
 use Rattle.model.proofs.SavedLength.{saved-length, saved-length-some}
 use Rattle.model.proofs.CopyLength.{savedText, copy-length}
-use Rattle.model.proofs.Decisions.{Decided, decided}
-use Rattle.model.proofs.Invariant.{Within, totalCreated, within-sum, within-at, Running, store-is-put, next-state, at-end}
-use Rattle.model.proofs.Changes.{push-changes}
-use Rattle.model.proofs.Growth.{fields-grow, counts-grow}
+use Rattle.model.proofs.Decisions.{decided}
+use Rattle.model.proofs.Invariant.{Within, totalCreated, within-at, few-fields, store-is-put, next-state, at-end}
+use Rattle.model.proofs.Changes.{login-changes, push-changes}
+use Rattle.model.proofs.Growth.{fields-grow, created-grow, logins-grow, login-number}
 use Rattle.model.proofs.TwoRuns.{view, same-view, replay, one-run}
 use Rattle.model.proofs.Notified.{told-ascends}
 use Rattle.model.proofs.Printing.{CopiesFit, line-alike, lines-alike}
 use Rattle.model.proofs.Sound.{Ran, ran-act, ran-opened}
 
--- ── Login states at the opening, and tables at the end ──
-start-empty : (s : State) (i : ℕ) → s .loginStates ≡ emptyLogins → loginAt s i .created ≡ 0
-unfolding loginAt emptyLogins emptyLogin
-start-empty s i e = rw e (all-getD (λ a. a .created ≡ 0) (replicate maxUsers emptyLogin) i emptyLogin refl (all-replicate (λ a. a .created ≡ 0) maxUsers emptyLogin refl))
+-- ── What runs have ──
+ran-end : (t : Texts) (s : State) (acts : List Act) → opened t ≡ done s → Ran (length (s .fields)) (end s acts)
+ran-end t s acts h = at-end (Ran (length (s .fields))) ran-act s acts (ran-opened t s h)
+
+-- every state that a run reaches
+pub ran : (t : Texts) (s : State) (r : Reached t s) → Ran (length (r .start .fields)) s
+ran t s r = rw (r .isEnd) at (ran-end t (r .start) (r .acts) (r .isOpened))
+
+start-empty : (t : Texts) (s : State) → opened t ≡ done s → (i : ℕ) → loginAt s i ≡ emptyLogin
+unfolding loginAt emptyLogins
+start-empty t s h i = rw (opened-inv t s h .logins) (all-getD Empty (replicate maxUsers emptyLogin) i emptyLogin refl (all-replicate Empty maxUsers emptyLogin refl))
+  where
+    Empty : LoginState → Type 0
+    Empty a = a ≡ emptyLogin
 
 same-tables-act : (s : State) (c : Change) → apply c s .tables ≡ s .tables
 unfolding apply
-same-tables-act s (enters i a) = refl
+same-tables-act s (setsLogin i a) = refl
 same-tables-act s (shows c) = refl
 same-tables-act s (stores i a f) = refl
 
 same-tables-end : (s : State) (acts : List Act) → end s acts .tables ≡ s .tables
-same-tables-end s acts = at-end (λ x. x .tables ≡ s .tables) (λ x a h. next-state (λ y. y .tables ≡ s .tables) x h (λ t q room c k d. same-tables-act x c ∙ h) a) s acts refl
+same-tables-end s acts = at-end (λ x. x .tables ≡ s .tables) (λ x a h. next-state (λ y. y .tables ≡ s .tables) x a h (λ c d. same-tables-act x c ∙ h)) s acts refl
 
--- ── Every state that a run reaches has what runs have ──
-pub ran : (t : Texts) (s : State) (r : Reached t s) → Ran (length (r .start .fields)) s
-ran t s r = rw (r .isEnd) at (at-end (Ran (length (r .start .fields))) (ran-act (length (r .start .fields))) (r .start) (r .acts) (ran-opened t (r .start) (r .isOpened)))
-
-few-fields : (loaded : ℕ) (s : State) → Running loaded s → length (s .fields) ≤ maxFields
-few-fields loaded s r = omega (arith, r .grown, r .fits, within-sum (s .tables .users) (s .loginStates) (r .within))
-
--- ── Condition 3 ──
 same-rule : (r q : Rule) → ValidRule r → ValidRule q → spelled r ≡ spelled q → r ≡ q
 unfolding spelled
 same-rule r q v w h =
@@ -90,39 +90,18 @@ same-tables t₁ t₂ v w h =
     let e = same-rules (t₁ .policy) (t₂ .policy) (v .policy .each) (w .policy .each) (h .samePolicy) in
     λ i. record { users = h .sameUsers i; policy = e i }
 
-module _ (r : TwoRuns) where
-  tables-equal : r .start₁ .tables ≡ r .start₂ .tables
-  tables-equal = same-tables _ _ (ran-opened _ _ (r .opened₁) .sound .tables) (ran-opened _ _ (r .opened₂) .sound .tables) (r .sameTables)
+-- ── Condition 1: nothing else changes ──
+pub push-changes-one : Claims.PushChangesOne
+push-changes-one t s r x b l n p v e h = push-changes (ran t s r .running) x b l n p v e h
 
-  views-equal : (set : ℕ → Bool) → seenFields set (r .start₁) ≡ seenFields set (r .start₂) → view set (r .start₁) ≡ view set (r .start₂)
-  views-equal set h = same-view set _ _ tables-equal (opened-inv _ _ (r .opened₁) .logins ∙ sym (opened-inv _ _ (r .opened₂) .logins)) h
+pub login-changes-one : Claims.LoginChangesOne
+login-changes-one t s r x b l n h = login-changes (ran t s r .running) (line x b l) n h
 
-pub set-cannot-tell : Claims.SetCannotTell
-set-cannot-tell r set h k =
-    one-run set _ (r .start₁) (r .acts₁) (ran-opened _ _ (r .opened₁) .running)
-    ∙ ap₂ (replay set) (views-equal r set h) k
-    ∙ sym (one-run set _ (r .start₂) (r .acts₂) (ran-opened _ _ (r .opened₂) .running))
+-- ── Condition 2: the fields held ──
+pub fields-valid : Claims.FieldsValid
+unfolding isValid
+fields-valid t s r = true-all _ (s .fields) (all-imp Valid _ (λ f v. both-and _ _ (v .path) (v .value)) (s .fields) (ran t s r .sound .valid))
 
--- what the set of one user sees is what that user may read
-seen-only : (t : Tables) (i : ℕ) (u : User) (p : Keys) → userAt (t .users) i ≡ some u → seen (only i) t p ≡ mayRead (t .policy) u p
-unfolding seen only readsAt readsBy userAt
-seen-only t i u p e = by-cases (mayRead (t .policy) u p)
-    (λ h. any-range _ 0 (length (t .users)) i (omega arith) (omega (arith, elem-below (t .users) i u e)) (rw (eq-eqb i i refl, e) h) ∙ sym h)
-    (λ h. false-any _ _ (all-range _ 0 (length (t .users)) (λ j k l. by-cases (eqb j i)
-    (λ x. rw (eqb-true j i x, e, h) (and-false (eqb i i)))
-    (λ x. rw x)))
-    ∙ sym h)
-
-seen-readable : (s : State) (i : ℕ) (u : User) → userAt (s .tables .users) i ≡ some u → seenFields (only i) s ≡ readable (s .tables .policy) u (s .fields)
-unfolding seenFields readable
-seen-readable s i u e = keep-agree _ _ (s .fields) (all-every _ (λ f. seen-only (s .tables) i u (f .path) e) (s .fields))
-
-pub user-cannot-tell : Claims.UserCannotTell
-user-cannot-tell r i u e h k =
-    let f : userAt (r .start₂ .tables .users) i ≡ some u = rw (tables-equal r) at e in
-    set-cannot-tell r (only i) (seen-readable (r .start₁) i u e ∙ h ∙ sym (seen-readable (r .start₂) i u f)) k
-
--- ── The fields held ──
 sorted-is : (gs : Fields) → Sorted gs → isSorted gs ≡ true
 unfolding isSorted byOrder
 sorted-is [] s = refl
@@ -143,53 +122,51 @@ unfolding noneBegins
 apart-is [] d = refl
 apart-is (f ∷ gs) d = rw (false-any _ gs (all-imp (λ g. diverge (f .path) (g .path) ≡ true) _ (λ (g : Field) e. neither (f .path) (g .path) e) gs (d .0)), apart-is gs (d .1))
 
-pub fields-kept : Claims.FieldsKept
-fields-kept t s r =
+pub fields-in-order : Claims.FieldsInOrder
+fields-in-order t s r =
     let q = ran t s r in
-    (sorted-is (s .fields) (q .running .sorted), apart-is (s .fields) (q .sound .apart), few-fields _ s (q .running))
+    (sorted-is (s .fields) (q .running .sorted), apart-is (s .fields) (q .sound .apart), few-fields (q .running))
 
 pub nothing-falls-off : Claims.NothingFallsOff
-nothing-falls-off t s r q room i a f h = by-request q (decided s q room _ h)
-  where
-    by-request : (q : Request) → Decided s q (stores i a f) → store f (s .fields) ≡ put f (s .fields)
-    by-request (login n k) d = absurd d
-    by-request (get n) d = absurd d
-    by-request (push n p v) d = store-is-put _ s (ran t s r .running) n p v i a f d
+nothing-falls-off t s r q room i a f h = store-is-put (ran t s r .running) (decided s q room _ h)
 
-pub loads-all : Claims.LoadsAll
-loads-all t s m h k =
-    let f = record-inv (s .tables) (t .recordText) (s .fields) (opened-inv t s h .fields) in
-    let e : f .tree ≡ m = some-same (sym (f .read) ∙ k) in
-    ap length (sym (f .stored)) ∙ stored-count (f .tree) (f .once) (omega (arith, f .fits)) ∙ ap count e
+-- ── Condition 2: saving and opening again ──
+saved-tree : {loaded : ℕ} (s : State) → Ran loaded s → SavedAs (s .fields)
+saved-tree s q = saved-reads (s .fields) (q .running .sorted) (q .sound .valid) (q .sound .apart) (few-fields (q .running))
 
--- ── Saving and opening again ──
 -- a saved record is within the limit of a text
-saved-short : (s : State) (loaded : ℕ) → Ran loaded s → ltb maxText (length (saved (s .fields))) ≡ false
-saved-short s loaded r = le-ltb maxText (length (saved (s .fields))) (omega (arith, saved-length value-length (s .fields) (r .sound .valid), few-fields loaded s (r .running)))
+saved-short : {loaded : ℕ} (s : State) → Ran loaded s → ltb maxText (length (saved (s .fields))) ≡ false
+saved-short s q = le-ltb maxText (length (saved (s .fields))) (omega (arith, saved-length value-length (s .fields) (q .sound .valid), few-fields (q .running)))
+
+-- a saved record opened again: its tables and its tree are what they were, so that all that may refuse it is the count of its fields
+module _ (t₂ : Texts) (s : State) (w : SavedFor t₂ s) where
+  before : Ran (length (w .reached .start .fields)) s
+  before = ran (w .texts) s (w .reached)
+
+  again : opened (withRecord (saved (s .fields)) t₂) ≡ (openRecord (s .tables) (saved (s .fields)) >>= λ fs. done (record { tables = s .tables; loginStates = emptyLogins; fields = fs }))
+  again =
+      let e : w .start₂ .tables ≡ s .tables = sym (same-tables _ _ (before .sound .tables) (ran-opened t₂ (w .start₂) (w .opened₂) .sound .tables) (w .sameTables)) in
+      rw e at (opened-with (saved (s .fields)) t₂ (w .start₂) (opened-inv t₂ (w .start₂) (w .opened₂)) (saved-short s before))
 
 pub opens-again : Claims.OpensAgain
-unfolding withRecord openTables
-opens-again t t₂ s s₂ r h same room =
-    let q = ran t s r in
-    let o = opened-inv t₂ s₂ h in
-    let (m, read, once, many, stored) = saved-reads (s .fields) (q .running .sorted) (q .sound .valid) (q .sound .apart) (few-fields _ s (q .running)) in
-    let e : s₂ .tables ≡ s .tables = sym (same-tables _ _ (q .sound .tables) (ran-opened t₂ s₂ h .sound .tables) same) in
-    opened-again (record { usersText = t₂ .usersText; environmentsText = t₂ .environmentsText; policyText = t₂ .policyText; recordText = saved (s .fields) }) _ (record {
-      users-short = o .users-short;
-      environments-short = o .environments-short;
-      policy-short = o .policy-short;
-      record-short = saved-short s _ q;
-      tables = rw e at (o .tables);
-      fields = record-again (s .tables) (saved (s .fields)) (s .fields) (record {
-        tree = m;
-        read = read;
-        once = once;
-        fits = rw many room;
-        stored = stored;
-        apart = q .sound .clear;
-      });
-      logins = refl;
-    })
+unfolding _>>=_
+opens-again t₂ s w room =
+    let q = before t₂ s w in
+    let m = saved-tree s q in
+    again t₂ s w ∙ rw (record-again (s .tables) (saved (s .fields)) (s .fields) (record {
+      tree = m .tree;
+      read = m .read;
+      once = m .once;
+      fits = rw (m .many) room;
+      stored = m .stored;
+      apart = q .sound .clear;
+    }))
+
+pub grown-is-refused : Claims.GrownIsRefused
+unfolding _>>=_
+grown-is-refused t₂ s w more =
+    let m = saved-tree s (before t₂ s w) in
+    again t₂ s w ∙ rw (record-grown (s .tables) (saved (s .fields)) (m .tree) (m .read) (m .once) (rw (m .many) more))
 
 -- sorted fields are told by the values that they hold
 same-head : (x y : Field) (xs ys : Fields) → ((p : Keys) → valueAt p (x ∷ xs) ≡ valueAt p (y ∷ ys)) → Before (x .path) (y .path) → ⊥
@@ -219,25 +196,30 @@ one-saved-text t₁ t₂ s₁ s₂ r₁ r₂ h = ap saved (same-fields _ _ (ran 
 
 pub one-record : Claims.OneRecord
 one-record t₁ t₂ s₁ s₂ r₁ r₂ h =
-    let q₁ = ran t₁ s₁ r₁ in
-    let q₂ = ran t₂ s₂ r₂ in
-    let (m₁, read₁, once₁, many₁, stored₁) = saved-reads (s₁ .fields) (q₁ .running .sorted) (q₁ .sound .valid) (q₁ .sound .apart) (few-fields _ s₁ (q₁ .running)) in
-    let (m₂, read₂, once₂, many₂, stored₂) = saved-reads (s₂ .fields) (q₂ .running .sorted) (q₂ .sound .valid) (q₂ .sound .apart) (few-fields _ s₂ (q₂ .running)) in
-    let e : m₁ ≡ m₂ = some-same (sym read₁ ∙ ap treeOf h ∙ read₂) in
-    sym stored₁ ∙ ap (λ (m : Members). storeMembers [] m []) e ∙ stored₂
+    let m₁ = saved-tree s₁ (ran t₁ s₁ r₁) in
+    let m₂ = saved-tree s₂ (ran t₂ s₂ r₂) in
+    let e : m₁ .tree ≡ m₂ .tree = some-same (sym (m₁ .read) ∙ ap treeOf h ∙ m₂ .read) in
+    sym (m₁ .stored) ∙ ap (λ (m : Members). storeMembers [] m []) e ∙ m₂ .stored
 
--- ── Growth ──
+-- ── Condition 2: logins and growth ──
+pub counts-own-logins : Claims.CountsOwnLogins
+unfolding emptyLogin
+counts-own-logins t s acts h i = logins-grow i s acts (ran-opened t s h .running) ∙ rw (start-empty t s h i) (zero-add _)
+
+pub login-answers : Claims.LoginAnswers
+login-answers t s acts h a n k =
+    let (i, mine, is) = login-number (ran-end t s acts h .running) n a k in
+    (i, mine, is ∙ ap (λ (m : ℕ). perUser * i + suc m) (counts-own-logins t s acts h i))
+
 pub grows-by-pushes : Claims.GrowsByPushes
-grows-by-pushes t s acts h = fields-grow _ s acts (ran-opened t s h .running)
-
-pub counts-own-pushes : Claims.CountsOwnPushes
-counts-own-pushes t s acts h i = counts-grow _ s acts i (ran-opened t s h .running) ∙ rw (none-created i) (zero-add _)
-  where
-    none-created : (i : ℕ) → loginAt s i .created ≡ 0
-    none-created i = start-empty s i (opened-inv t s h .logins)
+grows-by-pushes t s acts h = fields-grow s acts (ran-opened t s h .running)
 
 pub grows-by-counts : Claims.GrowsByCounts
-grows-by-counts t s acts h = at-end (Ran (length (s .fields))) (ran-act (length (s .fields))) s acts (ran-opened t s h) .running .grown
+grows-by-counts t s acts h = ran-end t s acts h .running .grown
+
+pub counts-own-pushes : Claims.CountsOwnPushes
+unfolding emptyLogin
+counts-own-pushes t s acts h i = created-grow i s acts (ran-opened t s h .running) ∙ rw (start-empty t s h i) (zero-add _)
 
 -- the counts of the users, one by one, are all that was created
 range-up : {A : Type 0} (f : ℕ → A) (i n : ℕ) → map f (range (suc i) n) ≡ map (λ j. f (suc j)) (range i n)
@@ -262,7 +244,7 @@ pub grows-by-users : Claims.GrowsByUsers
 unfolding loginAt
 grows-by-users t s acts h =
     let e = end s acts in
-    let r = at-end (Ran (length (s .fields))) (ran-act (length (s .fields))) s acts (ran-opened t s h) .running in
+    let r = ran-end t s acts h .running in
     r .grown
     ∙ ap (λ (n : ℕ). length (s .fields) + n) (
     created-in (e .tables .users) (e .loginStates) (r .within) (omega (arith, r .users, r .places))
@@ -273,7 +255,7 @@ pub within-quota : Claims.WithinQuota
 unfolding userAt loginAt
 within-quota t s r i u e = within-at (s .tables .users) (s .loginStates) i u e (ran t s r .running .within)
 
--- ── Lengths ──
+-- ── Condition 2: lengths ──
 readable-short : (rs : List Rule) (u : User) (gs : Fields) → All Valid gs → length gs ≤ maxFields → length (saved (readable rs u gs)) ≤ savedText
 unfolding readable
 readable-short rs u gs v h = short (keep (λ f. mayRead rs u (f .path)) gs) (all-keep _ _ gs v) (omega (arith, h, length-keep-le (λ (f : Field). mayRead rs u (f .path)) gs))
@@ -282,22 +264,23 @@ readable-short rs u gs v h = short (keep (λ f. mayRead rs u (f .path)) gs) (all
     short [] v h = omega (arith, saved-length value-length [] v)
     short (g ∷ gs) v h = omega (arith, saved-length-some value-length g gs v)
 
-copies-fit : (loaded : ℕ) (s : State) → Ran loaded s → CopiesFit s
-copies-fit loaded s q i u e =
-    copy-length (s .tables) i u (readable (s .tables .policy) u (s .fields)) (q .sound .tables) e (readable-short (s .tables .policy) u (s .fields) (q .sound .valid) (few-fields _ s (q .running)))
+copies-fit : {loaded : ℕ} (s : State) → Ran loaded s → CopiesFit s
+unfolding copyFor
+copies-fit s q i u e =
+    copy-length (s .tables) i u (readable (s .tables .policy) u (s .fields)) (q .sound .tables) e (readable-short (s .tables .policy) u (s .fields) (q .sound .valid) (few-fields (q .running)))
 
 pub copy-bound : Claims.CopyBound
-copy-bound t s r i u e = copies-fit _ s (ran t s r) i u e
+copy-bound t s r i u e = copies-fit s (ran t s r) i u e
 
 pub list-ascends : Claims.ListAscends
-list-ascends t s r x b l = told-ascends _ s (ran t s r .running) x b l
+list-ascends t s r a = told-ascends (ran t s r .running) a
 
--- ── What `serve` prints ──
+-- ── Condition 2: what `serve` prints ──
 pub line-prints-alike : Claims.LinePrintsAlike
-line-prints-alike t s r x b l room places = line-alike s (copies-fit _ s (ran t s r)) x b l room places
+line-prints-alike t s r x b l room places = line-alike s (copies-fit s (ran t s r)) x b l room places
 
 pub prints-alike : Claims.PrintsAlike
-prints-alike t s xs h = lines-alike (Ran (length (s .fields))) (ran-act (length (s .fields))) (copies-fit (length (s .fields))) s xs (ran-opened t s h)
+prints-alike t s xs h = lines-alike (Ran (length (s .fields))) ran-act copies-fit s xs (ran-opened t s h)
 
 pub serves-alike : Claims.ServesAlike
 unfolding serve serveWith printRun
@@ -310,6 +293,35 @@ serves-alike b l room places t input = go (opened t) refl
     go (refused f) h = refl
     go (done s) h = rw (map-map, map-map) at (prints-alike t s (map given (lines input)) h)
 
--- ── Changes ──
-pub push-changes-one : Claims.PushChangesOne
-push-changes-one t s r x b l n p v e h = push-changes _ s (ran t s r .running) x b l n p v e h
+-- ── Condition 3 ──
+module _ (r : TwoRuns) where
+  tables-equal : r .start₁ .tables ≡ r .start₂ .tables
+  tables-equal = same-tables _ _ (ran-opened _ _ (r .opened₁) .sound .tables) (ran-opened _ _ (r .opened₂) .sound .tables) (r .sameTables)
+
+  views-equal : (set : ℕ → Bool) → seenFields set (r .start₁) ≡ seenFields set (r .start₂) → view set (r .start₁) ≡ view set (r .start₂)
+  views-equal set h = same-view set _ _ tables-equal (opened-inv _ _ (r .opened₁) .logins ∙ sym (opened-inv _ _ (r .opened₂) .logins)) h
+
+pub set-cannot-tell : Claims.SetCannotTell
+set-cannot-tell r set h k =
+    one-run set (r .start₁) (r .acts₁) (ran-opened _ _ (r .opened₁) .running)
+    ∙ ap₂ (replay set) (views-equal r set h) k
+    ∙ sym (one-run set (r .start₂) (r .acts₂) (ran-opened _ _ (r .opened₂) .running))
+
+-- what the set of one user sees is what that user may read
+seen-only : (t : Tables) (i : ℕ) (u : User) (p : Keys) → userAt (t .users) i ≡ some u → seen (only i) t p ≡ mayRead (t .policy) u p
+unfolding seen only readsAt readsBy userAt
+seen-only t i u p e = by-cases (mayRead (t .policy) u p)
+    (λ h. any-range _ 0 (length (t .users)) i (omega arith) (omega (arith, elem-below (t .users) i u e)) (rw (eq-eqb i i refl, e) h) ∙ sym h)
+    (λ h. false-any _ _ (all-range _ 0 (length (t .users)) (λ j k l. by-cases (eqb j i)
+    (λ x. rw (eqb-true j i x, e, h) (and-false (eqb i i)))
+    (λ x. rw x)))
+    ∙ sym h)
+
+seen-readable : (s : State) (i : ℕ) (u : User) → userAt (s .tables .users) i ≡ some u → seenFields (only i) s ≡ readable (s .tables .policy) u (s .fields)
+unfolding seenFields readable
+seen-readable s i u e = keep-agree _ _ (s .fields) (all-every _ (λ f. seen-only (s .tables) i u (f .path) e) (s .fields))
+
+pub user-cannot-tell : Claims.UserCannotTell
+user-cannot-tell r i u e h k =
+    let f : userAt (r .start₂ .tables .users) i ≡ some u = rw (tables-equal r) at e in
+    set-cannot-tell r (only i) (seen-readable (r .start₁) i u e ∙ h ∙ sym (seen-readable (r .start₂) i u f)) k

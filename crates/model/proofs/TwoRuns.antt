@@ -5,26 +5,27 @@ use mathlib.Core.Path.{_≡_, refl, sym, ap, ap₂, _∙_}
 use mathlib.Core.Option.{Option, none, some}
 use mathlib.Core.List.{List, [], _∷_, _++_, map, append-assoc, append-nil}
 use mathlib.Core.Bool.{Bool, true, false, not, _&&_, and-false}
-use lib.Dec.{ltb, eqb}
+use lib.Dec.{eqb}
 use lib.ListN.{length, take, drop, set, getD}
 use lib.Seq.{take-at}
 use native.Mathlib.Omega.{arith}
 use native.Mathlib.Nat.{le-trans}
-use borrow.Author.Tests.{eqb-true}
+use borrow.Author.Tests.{not-false, eqb-true}
+use Rattle.model.specs.Base
 use Rattle.model.specs.Base.{Bytes, if_then_else_, keep, joined, range, isSome}
-use Rattle.model.specs.Limits.{maxFields}
+use Rattle.model.specs.Limits.{maxFields, maxLogins}
 use Rattle.model.specs.Values.{Value}
 use Rattle.model.specs.Fields.{Keys, Field, holds, put, store, fieldOf}
-use Rattle.model.specs.Refusals.{Result, refused, done, _>>=_, _>>_, refuse_if_, _or_}
-use Rattle.model.specs.Tables.{User, Rule, Tables, userAt, userNamed}
+use Rattle.model.specs.Refusals.{Result, refused, done, _>>=_}
+use Rattle.model.specs.Tables.{User, Rule, Tables, userAt}
 use Rattle.model.specs.Rights.{matches, isWrite, isFor, mayRead, mayWrite}
 use Rattle.model.specs.Opening.{LoginState, State, emptyLogin}
-use Rattle.model.specs.Requests.{Request, login, get, push, requestOf}
-use Rattle.model.specs.Serving.{sessionNumber, indexIn, loginAt, readable, Change, enters, shows, stores, decideLogin, decideGet, decidePush, roomFor, decide, decideSave, apply, readsBy, readsAt, receivers, notified, shown, answerOf, refusal, Act, line, save, over, unchanged, conclude, served, outcome}
-use Rattle.model.specs.Runs.{events, indexOf, owner, inSet, seen, seenFields, isAccepted, Item, own, others, othersPush, itemsOf, items, sequence, Got, answer, copy, delivery, deliveryLine, copies, answers, deliveries, gotBy, gotIn, got}
-use Rattle.model.proofs.Lists.{by-cases, never, all-imp, all-range, any-range, any-mono, any-false, and-both, elem-below, keep-agree, keep-within, keep-map, keep-keep, keep-none, length-keep-le, all-kept, map-agree}
+use Rattle.model.specs.Requests.{Request, login, inSession, get, push, requestOf, pushOf}
+use Rattle.model.specs.Serving.{sessionNumber, indexIn, loginAt, readable, copyFor, Change, setsLogin, shows, stores, Asker, asker, decideLogin, decideGet, decidePush, roomFor, decide, apply, readsBy, readsAt, receivers, notified, shown, answerOf, refusal, Act, line, save, Outcome, bufferOf, listOf, decideLine, decision, over, unchanged, conclude, outcome}
+use Rattle.model.specs.Runs.{requestOfAct, eventIn, events, indexOf, owner, ownerIn, pushIn, inSet, seen, seenFields, isAccepted, Item, own, others, ownRequest, othersPush, items, sequence, Got, answer, copy, delivery, deliveryLine, copies, answers, deliveries, gotIn, got}
+use Rattle.model.proofs.Lists.{by-cases, never, if-agree, or-agree, bind-agree, all-imp, all-range, any-range, any-mono, any-false, and-both, elem-below, keep-agree, keep-within, keep-map, keep-keep, keep-none, length-keep-le, all-kept, map-agree}
 use Rattle.model.proofs.Order.{put-seen, put-hidden, value-seen, store-fits, Sorted}
-use Rattle.model.proofs.Decisions.{Stored, Decided, decided, show-change, owner-in, owner-out}
+use Rattle.model.proofs.Decisions.{Stored, Decided, Asking, asking, decided, by-decision, owner-in, index-of}
 use Rattle.model.proofs.Invariant.{Running, few-at, put-fits, store-is-put, run-act}
 
 -- ── A right to write is one to read ──
@@ -38,37 +39,37 @@ unfolding mayWrite mayRead
 write-reads rs u p h = any-mono _ _ (λ r. and-drop (isFor u r) (isWrite r) (matches (u .environment) (r .path) p)) rs h
 
 -- ── Login states of which those outside the set are blanked ──
-pub masked : (ℕ → Bool) → ℕ → List LoginState → List LoginState
-masked In j [] = []
-masked In j (a ∷ l) = (if In j then a else emptyLogin) ∷ masked In (suc j) l
+masked : (ℕ → Bool) → List LoginState → List LoginState
+masked In [] = []
+masked In (a ∷ l) = (if In 0 then a else emptyLogin) ∷ masked (λ i. In (suc i)) l
 
-masked-in : (In : ℕ → Bool) (j : ℕ) (l : List LoginState) (i : ℕ) → In (j + i) ≡ true → getD (masked In j l) i emptyLogin ≡ getD l i emptyLogin
+masked-in : (In : ℕ → Bool) (l : List LoginState) (i : ℕ) → In i ≡ true → getD (masked In l) i emptyLogin ≡ getD l i emptyLogin
 unfolding masked
-masked-in In j [] i e = refl
-masked-in In j (a ∷ l) zero e = let z : j + 0 ≡ j = omega arith in rw (rw z at e)
-masked-in In j (a ∷ l) (suc i) e = let z : j + suc i ≡ suc j + i = omega arith in masked-in In (suc j) l i (rw z at e)
+masked-in In [] i e = refl
+masked-in In (a ∷ l) zero e = rw e
+masked-in In (a ∷ l) (suc i) e = masked-in (λ i. In (suc i)) l i e
 
-masked-out : (In : ℕ → Bool) (j : ℕ) (l : List LoginState) (i : ℕ) → In (j + i) ≡ false → getD (masked In j l) i emptyLogin ≡ emptyLogin
+masked-out : (In : ℕ → Bool) (l : List LoginState) (i : ℕ) → In i ≡ false → getD (masked In l) i emptyLogin ≡ emptyLogin
 unfolding masked
-masked-out In j [] i e = refl
-masked-out In j (a ∷ l) zero e = let z : j + 0 ≡ j = omega arith in rw (rw z at e)
-masked-out In j (a ∷ l) (suc i) e = let z : j + suc i ≡ suc j + i = omega arith in masked-out In (suc j) l i (rw z at e)
+masked-out In [] i e = refl
+masked-out In (a ∷ l) zero e = rw e
+masked-out In (a ∷ l) (suc i) e = masked-out (λ i. In (suc i)) l i e
 
-masked-set-in : (In : ℕ → Bool) (j : ℕ) (l : List LoginState) (i : ℕ) (a : LoginState) → In (j + i) ≡ true → masked In j (set l i a) ≡ set (masked In j l) i a
+masked-set-in : (In : ℕ → Bool) (l : List LoginState) (i : ℕ) (a : LoginState) → In i ≡ true → masked In (set l i a) ≡ set (masked In l) i a
 unfolding masked
-masked-set-in In j [] i a e = refl
-masked-set-in In j (b ∷ l) zero a e = let z : j + 0 ≡ j = omega arith in rw (rw z at e)
-masked-set-in In j (b ∷ l) (suc i) a e = let z : j + suc i ≡ suc j + i = omega arith in rw (masked-set-in In (suc j) l i a (rw z at e))
+masked-set-in In [] i a e = refl
+masked-set-in In (b ∷ l) zero a e = rw e
+masked-set-in In (b ∷ l) (suc i) a e = rw (masked-set-in (λ i. In (suc i)) l i a e)
 
-masked-set-out : (In : ℕ → Bool) (j : ℕ) (l : List LoginState) (i : ℕ) (a : LoginState) → In (j + i) ≡ false → masked In j (set l i a) ≡ masked In j l
+masked-set-out : (In : ℕ → Bool) (l : List LoginState) (i : ℕ) (a : LoginState) → In i ≡ false → masked In (set l i a) ≡ masked In l
 unfolding masked
-masked-set-out In j [] i a e = refl
-masked-set-out In j (b ∷ l) zero a e = let z : j + 0 ≡ j = omega arith in rw (rw z at e)
-masked-set-out In j (b ∷ l) (suc i) a e = let z : j + suc i ≡ suc j + i = omega arith in rw (masked-set-out In (suc j) l i a (rw z at e))
+masked-set-out In [] i a e = refl
+masked-set-out In (b ∷ l) zero a e = rw e
+masked-set-out In (b ∷ l) (suc i) a e = rw (masked-set-out (λ i. In (suc i)) l i a e)
 
 -- ── What is got, from the decision alone: the content of what was lent plays no part ──
 copiesOf : ℕ → Change → List Got
-copiesOf i (enters j a) = []
+copiesOf i (setsLogin j a) = []
 copiesOf i (shows c) = copy i c ∷ []
 copiesOf i (stores j a f) = []
 
@@ -77,10 +78,9 @@ answersOf In x none = []
 answersOf In (refused e) (some i) = if In i then answer i (refusal e) ∷ [] else []
 answersOf In (done c) (some i) = if In i then answer i (answerOf c) ∷ copiesOf i c else []
 
-deliveriesOf : List ℕ → Request → List Got
-deliveriesOf ms (login u k) = []
-deliveriesOf ms (get n) = []
-deliveriesOf ms (push n p v) = map (λ m. delivery (indexIn m) (deliveryLine p v m)) ms
+deliveriesOf : List ℕ → Option Field → List Got
+deliveriesOf ms none = []
+deliveriesOf ms (some f) = map (λ m. delivery (indexIn m) (deliveryLine (f .path) (f .value) m)) ms
 
 pub over-take : {A : Type 0} (xs ys : List A) → take (length xs) (over xs ys) ≡ xs
 unfolding over
@@ -88,9 +88,13 @@ over-take xs ys = take-at xs (drop (length xs) ys) (length xs) refl
 
 copies-are : (i : ℕ) (b : Bytes) (c : Change) → copies i (over (shown c) b) (answerOf c) ≡ copiesOf i c
 unfolding copies answerOf copiesOf shown
-copies-are i b (enters j a) = refl
+copies-are i b (setsLogin j a) = refl
 copies-are i b (shows c) = rw over-take
 copies-are i b (stores j a f) = refl
+
+-- what is got of an outcome
+gotOf : (ℕ → Bool) → Option ℕ → Option Field → Outcome → List Got
+gotOf In o p x = answers In x o ++ deliveries In x p
 
 module _ (In : ℕ → Bool) (s : State) where
   -- the numbers of the set among those that a decision notifies
@@ -98,8 +102,8 @@ module _ (In : ℕ → Bool) (s : State) where
   notifiedOf (refused e) = []
   notifiedOf (done c) = keep (λ m. In (indexIn m)) (notified s c)
 
-  gains : Result ℕ Change → Request → List Got
-  gains x q = answersOf In x (owner (s .tables) q) ++ deliveriesOf (notifiedOf x) q
+  gains : Result ℕ Change → Option ℕ → Option Field → List Got
+  gains x o p = answersOf In x o ++ deliveriesOf (notifiedOf x) p
 
   answers-are : (b : Bytes) (l : List ℕ) (x : Result ℕ Change) (o : Option ℕ) → answers In (conclude s b l x) o ≡ answersOf In x o
   unfolding answers answersOf conclude unchanged copies
@@ -112,25 +116,24 @@ module _ (In : ℕ → Bool) (s : State) where
   told-are b l (refused e) = unfold keep in refl
   told-are b l (done c) = rw over-take
 
-  deliveries-are : (b : Bytes) (l : List ℕ) (x : Result ℕ Change) (q : Request) → deliveries In (conclude s b l x) q ≡ deliveriesOf (notifiedOf x) q
+  deliveries-are : (b : Bytes) (l : List ℕ) (x : Result ℕ Change) (p : Option Field) → deliveries In (conclude s b l x) p ≡ deliveriesOf (notifiedOf x) p
   unfolding deliveries deliveriesOf
-  deliveries-are b l x (login u k) = refl
-  deliveries-are b l x (get n) = refl
-  deliveries-are b l x (push n p v) = rw (told-are b l x)
+  deliveries-are b l x none = refl
+  deliveries-are b l x (some f) = rw (told-are b l x)
 
-  got-is : (b : Bytes) (l : List ℕ) (x : Result ℕ Change) (q : Request) → gotBy In s (conclude s b l x) (some q) ≡ gains x q
-  unfolding gotBy gains
-  got-is b l x q = ap₂ _++_ (answers-are b l x (owner (s .tables) q)) (deliveries-are b l x q)
+  got-is : (b : Bytes) (l : List ℕ) (x : Result ℕ Change) (o : Option ℕ) (p : Option Field) → gotOf In o p (conclude s b l x) ≡ gains x o p
+  unfolding gotOf gains
+  got-is b l x o p = ap₂ _++_ (answers-are b l x o) (deliveries-are b l x p)
 
 -- ── The view, and the server run on it ──
 module _ (In : ℕ → Bool) where
   -- what the set sees of a state: a state again, with the seen fields only and the others' login states empty
   pub view : State → State
-  view s = record { tables = s .tables; loginStates = masked In 0 (s .loginStates); fields = seenFields In s }
+  view s = record { tables = s .tables; loginStates = masked In (s .loginStates); fields = seenFields In s }
 
   pub same-view : (s₁ s₂ : State) → s₁ .tables ≡ s₂ .tables → s₁ .loginStates ≡ s₂ .loginStates → seenFields In s₁ ≡ seenFields In s₂ → view s₁ ≡ view s₂
   unfolding view
-  same-view s₁ s₂ t l f = λ i. record { tables = t i; loginStates = masked In 0 (l i); fields = f i }
+  same-view s₁ s₂ t l f = λ i. record { tables = t i; loginStates = masked In (l i); fields = f i }
 
   afterResult : State → Result ℕ Change → State
   afterResult v (refused e) = v
@@ -152,11 +155,11 @@ module _ (In : ℕ → Bool) where
 
   givesOwn : State → ℕ → Option Request → List Got
   givesOwn v room none = []
-  givesOwn v room (some q) = gains In v (decide v q room) q
+  givesOwn v room (some q) = gains In v (decide v q room) (owner (v .tables) q) (pushOf q)
 
   gives : State → Item → List Got
   gives v (own t room) = givesOwn v room (requestOf t)
-  gives v (others p x) = map (λ m. delivery (indexIn m) (deliveryLine p x m)) (listening v (λ j. true) p)
+  gives v (others p x) = deliveriesOf (listening v (λ j. true) p) (some (record { path = p; value = x }))
 
   afters : State → List Item → State
   afters v [] = v
@@ -174,19 +177,15 @@ module _ (In : ℕ → Bool) where
   -- ── Login states seen ──
   login-seen : (s : State) (i : ℕ) → In i ≡ true → loginAt (view s) i ≡ loginAt s i
   unfolding view loginAt
-  login-seen s i e = masked-in In 0 (s .loginStates) i (let z : 0 + i ≡ i = omega arith in rw z e)
+  login-seen s i e = masked-in In (s .loginStates) i e
 
-  few-seen : (s : State) → ((j : ℕ) → loginAt s j .logins ≤ 65535) → (j : ℕ) → loginAt (view s) j .logins ≤ 65535
+  few-seen : (s : State) → ((j : ℕ) → loginAt s j .logins ≤ maxLogins) → (j : ℕ) → loginAt (view s) j .logins ≤ maxLogins
   few-seen s h j = by-cases (In j)
       (λ e. rw (login-seen s j e) (h j))
-      (λ e. unfold view loginAt in (rw (masked-out In 0 (s .loginStates) j (let z : 0 + j ≡ j = omega arith in rw z e)) (unfold emptyLogin in omega arith)))
+      (λ e. unfold view loginAt in (rw (masked-out In (s .loginStates) j e) (unfold emptyLogin in omega arith)))
 
   -- ── Receivers of the set ──
-  index-of : (j : ℕ) (a : LoginState) → a .logins ≤ 65535 → indexIn (sessionNumber j a) ≡ j
-  unfolding indexIn sessionNumber
-  index-of j a h = omega arith
-
-  kept-receivers : (s : State) (i : ℕ) (p : Keys) → ((j : ℕ) → loginAt s j .logins ≤ 65535) →
+  kept-receivers : (s : State) (i : ℕ) (p : Keys) → ((j : ℕ) → loginAt s j .logins ≤ maxLogins) →
       keep (λ m. In (indexIn m)) (receivers s i p) ≡ listening s (λ j. not (eqb j i)) p
   unfolding receivers listening
   kept-receivers s i p few =
@@ -236,92 +235,76 @@ module _ (In : ℕ → Bool) where
   holds-seen s p o e = ap isSome (value-seen (seen In (s .tables)) p (s .fields) e o)
 
   -- ── What a member of the set is decided to get is decided so on the view ──
-  push-same : (rs : List Rule) (i : ℕ) (u : User) (a : LoginState) (h₁ h₂ : Bool) (n : ℕ) (p : Keys) (v : Value) → (mayWrite rs u p ≡ true → h₁ ≡ h₂) →
-      decidePush rs i u a h₁ n p v ≡ decidePush rs i u a h₂ n p v
-  unfolding decidePush
-  push-same rs i u a h₁ h₂ n p v f = by-cases (mayWrite rs u p) (λ e. rw (f e)) (λ e. unfold _>>_ refuse_if_ in rw e)
-
   module _ (s : State) (o : Sorted (s .fields)) where
-    decide-login : (n k : Bytes) (room : ℕ) → inSet In (owner (s .tables) (login n k)) ≡ true → decide (view s) (login n k) room ≡ decide s (login n k) room
-    unfolding decide owner view
-    decide-login n k room h = go (userNamed n (s .tables .users)) h
-      where
-        go : (w : Option (ℕ × User)) → inSet In (indexOf w) ≡ true →
-            ((w or 12) >>= λ t. decideLogin (t .0) (t .1) (loginAt (view s) (t .0)) k) ≡ ((w or 12) >>= λ t. decideLogin (t .0) (t .1) (loginAt s (t .0)) k)
-        go none h = unfold _>>=_ _or_ in refl
-        go (some t) h = unfold _>>=_ _or_ in rw (login-seen s (t .0) (unfold inSet indexOf in h))
+    login-same : (n k : Bytes) → inSet In (owner (s .tables) (login n k)) ≡ true → decideLogin (view s) n k ≡ decideLogin s n k
+    unfolding decideLogin owner view
+    login-same n k h = or-agree _ _ _ _ λ t e. rw (login-seen s (t .0) (unfold inSet indexOf in (rw e at h)))
 
-    decide-get : (n room : ℕ) → In (indexIn n) ≡ true → decide (view s) (get n) room ≡ decide s (get n) room
-    unfolding decide view
-    decide-get n room h = go (userAt (s .tables .users) (indexIn n)) refl
-      where
-        go : (w : Option User) → userAt (s .tables .users) (indexIn n) ≡ w →
-            ((w or 14) >>= λ u. decideGet (s .tables .policy) (indexIn n) u (loginAt (view s) (indexIn n)) (readable (s .tables .policy) u (view s .fields)) n room)
-            ≡ ((w or 14) >>= λ u. decideGet (s .tables .policy) (indexIn n) u (loginAt s (indexIn n)) (readable (s .tables .policy) u (s .fields)) n room)
-        go none e = unfold _>>=_ _or_ in refl
-        go (some u) e = unfold _>>=_ _or_ in rw (login-seen s (indexIn n) h, readable-seen s (indexIn n) u h e)
+    module _ (n : ℕ) (isIn : In (indexIn n) ≡ true) where
+      asker-same : asker (view s) n ≡ asker s n
+      unfolding asker view
+      asker-same = rw (login-seen s (indexIn n) isIn)
 
-    decide-push : (n : ℕ) (p : Keys) (v : Value) (room : ℕ) → In (indexIn n) ≡ true → decide (view s) (push n p v) room ≡ decide s (push n p v) room
-    unfolding decide view
-    decide-push n p v room h = ap (λ (x : Result ℕ Change). (refuse 15 if ltb room 32) >> x) (go (userAt (s .tables .users) (indexIn n)) refl)
-      where
-        go : (w : Option User) → userAt (s .tables .users) (indexIn n) ≡ w →
-            ((w or 14) >>= λ u. decidePush (s .tables .policy) (indexIn n) u (loginAt (view s) (indexIn n)) (holds p (view s .fields)) n p v)
-            ≡ ((w or 14) >>= λ u. decidePush (s .tables .policy) (indexIn n) u (loginAt s (indexIn n)) (holds p (s .fields)) n p v)
-        go none e = unfold _>>=_ _or_ in refl
-        go (some u) e = unfold _>>=_ _or_ in (rw (login-seen s (indexIn n) h)
-            (push-same (s .tables .policy) (indexIn n) u (loginAt s (indexIn n)) _ _ n p v
-            (λ w. holds-seen s p o (member-sees (s .tables) (indexIn n) u p h e (write-reads (s .tables .policy) u p w)))))
+      -- what is decided from who asks, and agrees there
+      from-asker : (f g : Asker → Result ℕ Change) → ((a : Asker) → Asking s n a → f a ≡ g a) → (asker (view s) n >>= f) ≡ (asker s n >>= g)
+      from-asker f g agree = rw asker-same (bind-agree (asker s n) f g λ a e. agree a (asking s n a e))
+
+      get-same : (room : ℕ) → decideGet (view s) n room ≡ decideGet s n room
+      unfolding decideGet copyFor view
+      get-same room = from-asker _ _ λ a k. rw (readable-seen s (indexIn n) (a .user) isIn (k .isUser))
+
+      push-same : (p : Keys) (v : Value) (room : ℕ) → decidePush (view s) n p v room ≡ decidePush s n p v room
+      unfolding decidePush view
+      push-same p v room = if-agree _ _ _ _ λ long. from-asker _ _ λ a k. if-agree _ _ _ _ λ may.
+          let w = write-reads (s .tables .policy) (a .user) p (not-false _ may) in
+          rw (holds-seen s p o (member-sees (s .tables) (indexIn n) (a .user) p isIn (k .isUser) w))
 
     decide-seen : (q : Request) (room : ℕ) → inSet In (owner (s .tables) q) ≡ true → decide (view s) q room ≡ decide s q room
-    unfolding owner inSet
-    decide-seen (login n k) room h = decide-login n k room h
-    decide-seen (get n) room h = decide-get n room (owner-in In (s .tables) (indexIn n) h)
-    decide-seen (push n p v) room h = decide-push n p v room (owner-in In (s .tables) (indexIn n) h)
+    unfolding decide owner
+    decide-seen (login n k) room h = login-same n k h
+    decide-seen (inSession n get) room h = get-same n (owner-in In (s .tables) (indexIn n) h) room
+    decide-seen (inSession n (push p v)) room h = push-same n (owner-in In (s .tables) (indexIn n) h) p v room
 
   -- ── How a change shows ──
-  view-enters : (s : State) (i : ℕ) (a : LoginState) → In i ≡ true → view (apply (enters i a) s) ≡ apply (enters i a) (view s)
+  view-sets-login : (s : State) (i : ℕ) (a : LoginState) → In i ≡ true → view (apply (setsLogin i a) s) ≡ apply (setsLogin i a) (view s)
   unfolding view apply seenFields
-  view-enters s i a e = rw (masked-set-in In 0 (s .loginStates) i a (let z : 0 + i ≡ i = omega arith in rw z e))
+  view-sets-login s i a e = rw (masked-set-in In (s .loginStates) i a e)
 
-  hidden-enters : (s : State) (i : ℕ) (a : LoginState) → In i ≡ false → view (apply (enters i a) s) ≡ view s
+  hidden-sets-login : (s : State) (i : ℕ) (a : LoginState) → In i ≡ false → view (apply (setsLogin i a) s) ≡ view s
   unfolding view apply seenFields
-  hidden-enters s i a e = rw (masked-set-out In 0 (s .loginStates) i a (let z : 0 + i ≡ i = omega arith in rw z e))
+  hidden-sets-login s i a e = rw (masked-set-out In (s .loginStates) i a e)
 
-  module _ (loaded : ℕ) (s : State) (r : Running loaded s) (n : ℕ) (p : Keys) (v : Value) (i : ℕ) (a : LoginState) (f : Field) (d : Stored s n p v i a f) where
-    path-is : f .path ≡ p
-    path-is = ap (λ (g : Field). g .path) (d .field)
-
+  module _ {loaded : ℕ} {s : State} (r : Running loaded s) {o : Option ℕ} {p : Option Field} {i : ℕ} {a : LoginState} {f : Field} (d : Stored s o p i a f) where
     -- a seen field is stored among the seen ones
-    store-seen : seen In (s .tables) p ≡ true → keep (λ g. seen In (s .tables) (g .path)) (store f (s .fields)) ≡ store f (seenFields In s)
+    store-seen : seen In (s .tables) (f .path) ≡ true → keep (λ g. seen In (s .tables) (g .path)) (store f (s .fields)) ≡ store f (seenFields In s)
     unfolding seenFields
     store-seen e =
         let q : Keys → Bool = seen In (s .tables) in
-        let k : keep (λ g. q (g .path)) (put f (s .fields)) ≡ put f (keep (λ g. q (g .path)) (s .fields)) = put-seen q f (s .fields) (rw path-is e) (r .sorted) in
+        let k : keep (λ g. q (g .path)) (put f (s .fields)) ≡ put f (keep (λ g. q (g .path)) (s .fields)) = put-seen q f (s .fields) e (r .sorted) in
         let l : length (put f (keep (λ g. q (g .path)) (s .fields))) ≤ maxFields =
-        rw (← k) (le-trans (length-keep-le (λ g. q (g .path)) (put f (s .fields))) (put-fits loaded s r n p v i a f d)) in
-        rw (store-is-put loaded s r n p v i a f d) (k ∙ sym (store-fits f _ l))
+        rw (← k) (le-trans (length-keep-le (λ g. q (g .path)) (put f (s .fields))) (put-fits r d)) in
+        rw (store-is-put r d) (k ∙ sym (store-fits f _ l))
 
-    store-hidden : seen In (s .tables) p ≡ false → keep (λ g. seen In (s .tables) (g .path)) (store f (s .fields)) ≡ seenFields In s
+    store-hidden : seen In (s .tables) (f .path) ≡ false → keep (λ g. seen In (s .tables) (g .path)) (store f (s .fields)) ≡ seenFields In s
     unfolding seenFields
-    store-hidden e = rw (store-is-put loaded s r n p v i a f d) (put-hidden (seen In (s .tables)) f (s .fields) (rw path-is e))
+    store-hidden e = rw (store-is-put r d) (put-hidden (seen In (s .tables)) f (s .fields) e)
 
     view-stores : In i ≡ true → view (apply (stores i a f) s) ≡ apply (stores i a f) (view s)
     unfolding view apply seenFields
-    view-stores e = rw (masked-set-in In 0 (s .loginStates) i a (let z : 0 + i ≡ i = omega arith in rw z e), store-seen sees)
+    view-stores e = rw (masked-set-in In (s .loginStates) i a e, store-seen sees)
       where
-        sees : seen In (s .tables) p ≡ true
-        sees = member-sees (s .tables) i (d .user) p e (d .isUser) (write-reads (s .tables .policy) (d .user) p (d .writes))
+        sees : seen In (s .tables) (f .path) ≡ true
+        sees = member-sees (s .tables) i (d .user) (f .path) e (d .isUser) (write-reads (s .tables .policy) (d .user) (f .path) (d .writes))
 
     -- another's push to a seen path
-    view-others : In i ≡ false → seen In (s .tables) p ≡ true → view (apply (stores i a f) s) ≡ after (view s) (others p v)
+    view-others : In i ≡ false → seen In (s .tables) (f .path) ≡ true → view (apply (stores i a f) s) ≡ after (view s) (others (f .path) (f .value))
     unfolding view apply seenFields after
-    view-others e k = rw (masked-set-out In 0 (s .loginStates) i a (let z : 0 + i ≡ i = omega arith in rw z e), store-seen k, d .field)
+    view-others e k = rw (masked-set-out In (s .loginStates) i a e, store-seen k)
 
     -- and to a hidden one
-    view-hidden : In i ≡ false → seen In (s .tables) p ≡ false → view (apply (stores i a f) s) ≡ view s
+    view-hidden : In i ≡ false → seen In (s .tables) (f .path) ≡ false → view (apply (stores i a f) s) ≡ view s
     unfolding view apply seenFields
-    view-hidden e k = rw (masked-set-out In 0 (s .loginStates) i a (let z : 0 + i ≡ i = omega arith in rw z e), store-hidden k)
+    view-hidden e k = rw (masked-set-out In (s .loginStates) i a e, store-hidden k)
 
   -- ── One act ──
   record Step (s : State) (xs : List Item) (gs : List Got) (s₁ : State) : Type 0 where
@@ -336,52 +319,52 @@ module _ (In : ℕ → Bool) where
   unfolding replay afters
   one-item s s₁ x gs g e = record { gets-is = append-nil _ ∙ g; next-is = e }
 
-  module _ (loaded : ℕ) (s : State) (r : Running loaded s) where
-    few : (j : ℕ) → loginAt s j .logins ≤ 65535
-    few j = few-at loaded s r j
-
+  module _ {loaded : ℕ} {s : State} (r : Running loaded s) where
     -- the set's own request
     notified-seen : (c : Change) → keep (λ m. In (indexIn m)) (notified (view s) c) ≡ keep (λ m. In (indexIn m)) (notified s c)
     unfolding notified
-    notified-seen (enters i a) = refl
+    notified-seen (setsLogin i a) = refl
     notified-seen (shows t) = refl
     notified-seen (stores i a f) =
-        kept-receivers (view s) i (f .path) (few-seen s few)
+        kept-receivers (view s) i (f .path) (few-seen s (few-at r))
         ∙ listening-seen s (λ j. not (eqb j i)) (λ j. not (eqb j i)) (f .path) (λ j e. refl)
-        ∙ sym (kept-receivers s i (f .path) few)
+        ∙ sym (kept-receivers s i (f .path) (few-at r))
 
-    gains-seen : (x : Result ℕ Change) (q : Request) → gains In (view s) x q ≡ gains In s x q
-    unfolding gains view notifiedOf
-    gains-seen (refused e) q = refl
-    gains-seen (done c) q = ap (λ (ms : List ℕ). answersOf In (done c) (owner (s .tables) q) ++ deliveriesOf ms q) (notified-seen c)
+    gains-seen : (x : Result ℕ Change) (o : Option ℕ) (p : Option Field) → gains In (view s) x o p ≡ gains In s x o p
+    unfolding gains notifiedOf
+    gains-seen (refused e) o p = refl
+    gains-seen (done c) o p = ap (λ (ms : List ℕ). answersOf In (done c) o ++ deliveriesOf ms p) (notified-seen c)
 
-    view-own : (q : Request) (c : Change) → Decided s q c → inSet In (owner (s .tables) q) ≡ true → apply c (view s) ≡ view (apply c s)
-    unfolding owner inSet
-    view-own (login n k) (enters i a) d h = sym (view-enters s i a (unfold indexOf in (rw (d .named) at h)))
-    view-own (login n k) (shows t) d h = absurd d
-    view-own (login n k) (stores i a f) d h = absurd d
-    view-own (get n) (enters i a) d h = absurd d
-    view-own (get n) (shows t) d h = unfold apply in refl
-    view-own (get n) (stores i a f) d h = absurd d
-    view-own (push n p v) (enters i a) d h = absurd d
-    view-own (push n p v) (shows t) d h = absurd d
-    view-own (push n p v) (stores i a f) d h = sym (view-stores loaded s r n p v i a f d (rw (d .index) (owner-in In (s .tables) (indexIn n) h)))
+    view-own : (o : Option ℕ) (p : Option Field) (c : Change) → Decided s o p c → inSet In o ≡ true → apply c (view s) ≡ view (apply c s)
+    unfolding inSet
+    view-own o p (setsLogin i a) d h = sym (view-sets-login s i a (rw (d .owned) at h))
+    view-own o p (shows t) d h = unfold apply in refl
+    view-own o p (stores i a f) d h = sym (view-stores r d (rw (d .owned) at h))
 
     own-result : (q : Request) (room : ℕ) (b : Bytes) (l : List ℕ) (x : Result ℕ Change) → decide s q room ≡ x → inSet In (owner (s .tables) q) ≡ true →
         afterResult (view s) x ≡ view (conclude s b l x .state)
     unfolding afterResult conclude unchanged
     own-result q room b l (refused e) h k = refl
-    own-result q room b l (done c) h k = view-own q c (decided s q room c h) k
+    own-result q room b l (done c) h k = view-own _ _ c (decided s q room c h) k
 
-    own-step : (t b : Bytes) (l : List ℕ) (q : Request) → requestOf t ≡ some q → inSet In (owner (s .tables) q) ≡ true →
-        Step s (own t (roomFor q b l) ∷ []) (gotBy In s (served s b l (some q)) (some q)) (served s b l (some q) .state)
-    unfolding served
-    own-step t b l q e h =
+    own-step : (t b : Bytes) (l : List ℕ) (q : Option Request) → requestOf t ≡ q → inSet In (Base._>>=_ q (owner (s .tables))) ≡ true →
+        Step s (ownRequest (line t b l) q) (gotOf In (Base._>>=_ q (owner (s .tables))) (Base._>>=_ q pushOf) (conclude s b l (decideLine s b l q))) (conclude s b l (decideLine s b l q) .state)
+    unfolding decideLine ownRequest Base._>>=_ gives givesOwn after afterOwn view
+    own-step t b l none e h = never (unfold inSet in sym h)
+    own-step t b l (some q) e h =
         let room : ℕ = roomFor q b l in
+        let x : Result ℕ Change = decide s q room in
+        let o : Option ℕ = owner (s .tables) q in
+        let p : Option Field = pushOf q in
         let d = decide-seen s (r .sorted) q room h in
         one-item s _ (own t room) _
-        (unfold gives givesOwn in (rw e (ap (λ (x : Result ℕ Change). gains In (view s) x q) d ∙ gains-seen (decide s q room) q ∙ sym (got-is In s b l (decide s q room) q))))
-        (unfold after afterOwn in (rw e (ap (afterResult (view s)) d ∙ own-result q room b l (decide s q room) refl h)))
+        (rw e (ap (λ (x : Result ℕ Change). gains In (view s) x o p) d ∙ gains-seen x o p ∙ sym (got-is In s b l x o p)))
+        (rw e (ap (afterResult (view s)) d ∙ own-result q room b l x refl h))
+
+    own-act : (a : Act) → inSet In (ownerIn (eventIn s a)) ≡ true → Step s (ownRequest a (requestOfAct a)) (gotIn In (eventIn s a)) (outcome s a .state)
+    unfolding gotIn ownerIn pushIn requestOfAct outcome bufferOf listOf decision gotOf
+    own-act (line t b l) h = own-step t b l (requestOf t) refl h
+    own-act (save b) h = never (unfold inSet Base._>>=_ in sym h)
 
     -- a request that is not the set's
     answers-out : (x : Result ℕ Change) (o : Option ℕ) → inSet In o ≡ false → answersOf In x o ≡ []
@@ -390,21 +373,20 @@ module _ (In : ℕ → Bool) where
     answers-out (refused e) (some i) h = rw h
     answers-out (done c) (some i) h = rw h
 
-    deliveries-none : (q : Request) → deliveriesOf [] q ≡ []
+    deliveries-none : (p : Option Field) → deliveriesOf [] p ≡ []
     unfolding deliveriesOf
-    deliveries-none (login n k) = refl
-    deliveries-none (get n) = refl
-    deliveries-none (push n p v) = refl
+    deliveries-none none = refl
+    deliveries-none (some f) = refl
 
-    gains-out : (x : Result ℕ Change) (q : Request) → inSet In (owner (s .tables) q) ≡ false → gains In s x q ≡ deliveriesOf (notifiedOf In s x) q
+    got-out : (b : Bytes) (l : List ℕ) (x : Result ℕ Change) (o : Option ℕ) (p : Option Field) → inSet In o ≡ false →
+        gotOf In o p (conclude s b l x) ≡ deliveriesOf (notifiedOf In s x) p
     unfolding gains
-    gains-out x q h = rw (answers-out x (owner (s .tables) q) h)
+    got-out b l x o p h = got-is In s b l x o p ∙ rw (answers-out x o h)
 
-    refused-no-item : (e : ℕ) (q : Request) → othersPush In s (refusal e) q ≡ []
+    refused-no-item : (e : ℕ) (p : Option Field) → othersPush In s (refusal e) p ≡ []
     unfolding othersPush isAccepted
-    refused-no-item e (login n k) = refl
-    refused-no-item e (get n) = refl
-    refused-no-item e (push n p v) = refl
+    refused-no-item e none = refl
+    refused-no-item e (some f) = refl
 
     -- nobody of the set listens to a hidden path
     listening-hidden : (ok : ℕ → Bool) (p : Keys) → seen In (s .tables) p ≡ false → listening s ok p ≡ []
@@ -422,60 +404,42 @@ module _ (In : ℕ → Bool) where
         (λ k. never (sym e ∙ (ap In (eqb-true j i k) ∙ h)))
         (λ k. rw k))
 
-    others-push : (n : ℕ) (p : Keys) (v : Value) (i : ℕ) (a : LoginState) (f : Field) → Stored s n p v i a f → In i ≡ false →
-        Step s (if seen In (s .tables) p then others p v ∷ [] else []) (deliveriesOf (notifiedOf In s (done (stores i a f))) (push n p v)) (apply (stores i a f) s)
+    others-push : {o : Option ℕ} {p : Option Field} {i : ℕ} {a : LoginState} {f : Field} → Stored s o p i a f → In i ≡ false →
+        Step s (if seen In (s .tables) (f .path) then others (f .path) (f .value) ∷ [] else []) (deliveriesOf (notifiedOf In s (done (stores i a f))) (some f)) (apply (stores i a f) s)
     unfolding deliveriesOf notifiedOf notified
-    others-push n p v i a f d h =
-        let k : keep (λ m. In (indexIn m)) (receivers s i (f .path)) ≡ listening s (λ j. not (eqb j i)) p =
-        kept-receivers s i (f .path) few ∙ ap (listening s (λ j. not (eqb j i))) (path-is loaded s r n p v i a f d) in
-        by-cases (seen In (s .tables) p)
-        (λ e. rw (e, k) (one-item s _ (others p v) _ (unfold gives in (rw (listening-others i p h))) (sym (view-others loaded s r n p v i a f d h e))))
-        (λ e. rw (e, k) (no-items s _ _ (rw (listening-hidden (λ j. not (eqb j i)) p e)) (sym (view-hidden loaded s r n p v i a f d h e))))
+    others-push {i = i} {f = f} d h =
+        let k = kept-receivers s i (f .path) (few-at r) in
+        by-cases (seen In (s .tables) (f .path))
+        (λ e. rw (e, k) (one-item s _ (others (f .path) (f .value)) _ (unfold gives in (rw (listening-others i (f .path) h))) (sym (view-others r d h e))))
+        (λ e. rw (e, k) (no-items s _ _ (rw (listening-hidden (λ j. not (eqb j i)) (f .path) e)) (sym (view-hidden r d h e))))
 
-    others-done : (q : Request) (c : Change) → Decided s q c → inSet In (owner (s .tables) q) ≡ false →
-        Step s (othersPush In s (answerOf c) q) (deliveriesOf (notifiedOf In s (done c)) q) (apply c s)
-    unfolding owner inSet othersPush
-    others-done (login n k) (enters i a) d h = unfold deliveriesOf in (no-items s _ [] refl (sym (hidden-enters s i a (unfold indexOf in (rw (d .named) at h)))))
-    others-done (login n k) (shows t) d h = absurd d
-    others-done (login n k) (stores i a f) d h = absurd d
-    others-done (get n) (enters i a) d h = absurd d
-    others-done (get n) (shows t) d h = unfold deliveriesOf in (no-items s _ [] refl (unfold apply in refl))
-    others-done (get n) (stores i a f) d h = absurd d
-    others-done (push n p v) (enters i a) d h = absurd d
-    others-done (push n p v) (shows t) d h = absurd d
-    others-done (push n p v) (stores i a f) d h = unfold answerOf isAccepted in (others-push n p v i a f d (owner-out In (s .tables) i (d .user) (d .isUser) (rw (d .index) h)))
+    others-done : (o : Option ℕ) (p : Option Field) (c : Change) → Decided s o p c → inSet In o ≡ false →
+        Step s (othersPush In s (answerOf c) p) (deliveriesOf (notifiedOf In s (done c)) p) (apply c s)
+    unfolding inSet othersPush
+    others-done o p (setsLogin i a) d h = rw (d .quiet) (unfold deliveriesOf in (no-items s _ [] refl (sym (hidden-sets-login s i a (rw (d .owned) at h)))))
+    others-done o p (shows t) d h = rw d (unfold deliveriesOf in (no-items s _ [] refl (unfold apply in refl)))
+    others-done o p (stores i a f) d h = rw (d .pushed) (unfold answerOf isAccepted in (others-push d (rw (d .owned) at h)))
 
-    others-result : (q : Request) (room : ℕ) (b : Bytes) (l : List ℕ) (x : Result ℕ Change) → decide s q room ≡ x → inSet In (owner (s .tables) q) ≡ false →
-        Step s (othersPush In s (conclude s b l x .answer) q) (gotBy In s (conclude s b l x) (some q)) (conclude s b l x .state)
-    others-result q room b l x h k = rw (got-is In s b l x q, gains-out x q k) (go x h)
-      where
-        go : (x : Result ℕ Change) → decide s q room ≡ x → Step s (othersPush In s (conclude s b l x .answer) q) (deliveriesOf (notifiedOf In s x) q) (conclude s b l x .state)
-        go (refused e) h = unfold conclude unchanged notifiedOf in (rw (refused-no-item e q, deliveries-none q) (no-items s s [] refl refl))
-        go (done c) h = unfold conclude in (others-done q c (decided s q room c h) k)
+    others-act : (a : Act) → inSet In (ownerIn (eventIn s a)) ≡ false →
+        Step s (othersPush In s (outcome s a .answer) (pushIn (eventIn s a))) (gotIn In (eventIn s a)) (outcome s a .state)
+    unfolding gotIn gotOf
+    others-act a h =
+        let o = ownerIn (eventIn s a) in
+        let p = pushIn (eventIn s a) in
+        by-decision (λ x. Step s (othersPush In s (x .answer) p) (gotOf In o p x) (x .state)) s a
+        (λ e. rw (got-out _ _ (refused e) o p h) (unfold conclude unchanged notifiedOf in (rw (refused-no-item e p, deliveries-none p) (no-items s s [] refl refl))))
+        (λ c d. rw (got-out _ _ (done c) o p h) (unfold conclude in (others-done o p c d h)))
 
-    line-step : (t b : Bytes) (l : List ℕ) (q : Option Request) → requestOf t ≡ q →
-        Step s (itemsOf In s (served s b l q) t b l q) (gotBy In s (served s b l q) q) (served s b l q .state)
-    line-step t b l none e = unfold itemsOf gotBy served unchanged in (no-items s s [] refl refl)
-    line-step t b l (some q) e = by-cases (inSet In (owner (s .tables) q))
-        (λ h. unfold itemsOf in (rw h (own-step t b l q e h)))
-        (λ h. unfold itemsOf served in (rw h (others-result q _ b l _ refl h)))
-
-    save-result : (b : Bytes) (x : Result ℕ Change) → decideSave s (length b) ≡ x → conclude s b [] x .state ≡ s
-    unfolding decideSave conclude unchanged apply
-    save-result b (refused e) h = refl
-    save-result b (done c) h = rw (← show-change _ _ c h)
-
-    act-step : (a : Act) → Step s (items In s (outcome s a) a) (gotIn In s (outcome s a) a) (outcome s a .state)
-    unfolding items gotIn outcome
-    act-step (line t b l) = line-step t b l (requestOf t) refl
-    act-step (save b) = no-items s _ [] refl (ap view (sym (save-result b _ refl)))
+    act-step : (a : Act) → Step s (items In (eventIn s a)) (gotIn In (eventIn s a)) (outcome s a .state)
+    unfolding items
+    act-step a = by-cases (inSet In (ownerIn (eventIn s a))) (λ h. rw h (own-act a h)) (λ h. rw h (others-act a h))
 
   -- ── One run ──
-  pub one-run : (loaded : ℕ) (s : State) (acts : List Act) → Running loaded s → got In (events s acts) ≡ replay (view s) (sequence In (events s acts))
+  pub one-run : {loaded : ℕ} (s : State) (acts : List Act) → Running loaded s → got In (events s acts) ≡ replay (view s) (sequence In (events s acts))
   unfolding got sequence events joined
-  one-run loaded s [] r = unfold replay in refl
-  one-run loaded s (a ∷ acts) r =
-      let k = act-step loaded s r a in
+  one-run s [] r = unfold replay in refl
+  one-run s (a ∷ acts) r =
+      let k = act-step r a in
       let s₁ : State = outcome s a .state in
-      sym (replay-append (view s) (items In s (outcome s a) a) _
-      ∙ ap₂ _++_ (k .gets-is) (ap (λ (v : State). replay v (sequence In (events s₁ acts))) (k .next-is) ∙ sym (one-run loaded s₁ acts (run-act loaded s a r))))
+      sym (replay-append (view s) (items In (eventIn s a)) _
+      ∙ ap₂ _++_ (k .gets-is) (ap (λ (v : State). replay v (sequence In (events s₁ acts))) (k .next-is) ∙ sym (one-run s₁ acts (run-act s a r))))

@@ -167,7 +167,7 @@ furtherCases =
     -- "GET with 167 bytes succeeds, with 166 gives 15"
     replies clubInput "GET;65537" 167 (length-is 167) ∷
     replies clubInput "GET;65537" 166 (refusal 15) ∷
-    -- no "Separate replies for an unknown user and a wrong key"
+    -- no "Separate answers for an unknown user and a wrong key"
     replies [] "LOGIN;dee;k1" 0 (refusal 12) ∷
     []
 

@@ -1,24 +1,24 @@
--- The claims about runs, each with its sentence: of document 01, or of the conditions where it says so.
-use Prim.Native.Nat.{ℕ, _+_, _≤_, _<_}
+-- The claims about runs, by the club's three conditions, each with its sentence: of document 01, or of the conditions where it says so.
+use Prim.Native.Nat.{ℕ, suc, _+_, _*_, _≤_, _<_}
 use mathlib.Core.Path.{_≡_}
 use mathlib.Core.Option.{some}
 use mathlib.Core.List.{List, [], _∷_, map}
 use mathlib.Core.Bool.{Bool, true, false, not, _&&_, _||_}
 use lib.Dec.{ltb}
 use lib.ListN.{length, take, replicate}
-use Rattle.model.specs.Base.{Bytes, any, keep, joined, sum, range, _==_}
-use Rattle.model.specs.Limits.{maxFields, maxCopy, listRoom}
-use Rattle.model.specs.Values.{Value, valueOf, valueText}
-use Rattle.model.specs.Fields.{Keys, Field, Fields, orderPath, byOrder, valueAt, holds, put, store}
-use Rattle.model.specs.RecordText.{Members, treeOf, count}
+use Rattle.model.specs.Base.{Bytes, if_then_else_, any, all, keep, joined, sum, range, _==_}
+use Rattle.model.specs.Limits.{maxFields, maxCopy, listRoom, perUser}
+use Rattle.model.specs.Values.{Value, valueOf, valueText, validValue}
+use Rattle.model.specs.Fields.{Keys, validKeys, Field, Fields, orderPath, byOrder, valueAt, holds, put, store}
+use Rattle.model.specs.RecordText.{Members, object, treeOf, leafAt}
 use Rattle.model.specs.SavedText.{saved}
 use Rattle.model.specs.Paths.{Steps, stepsText, keysText, stepsOf, keysOf}
 use Rattle.model.specs.Refusals.{refused, done}
 use Rattle.model.specs.Tables.{User, Access, Rule, Tables, userAt}
-use Rattle.model.specs.Opening.{LoginState, State, emptyLogins, Texts, Fault, quotas, opened, afterOpening}
-use Rattle.model.specs.Requests.{Request, push, requestOf}
-use Rattle.model.specs.Serving.{indexIn, loginAt, copyOf, readable, entered, creating, stores, decide, refusal, session, length-is, accepted, Act, line, save, outcome}
-use Rattle.model.specs.Runs.{Event, events, end, only, seenFields, sequence, got, creates, createdBy}
+use Rattle.model.specs.Opening.{LoginState, State, emptyLogins, Texts, Fault, fault, quotas, opened, afterOpening}
+use Rattle.model.specs.Requests.{Request, inSession, push, requestOf}
+use Rattle.model.specs.Serving.{indexIn, loginAt, readable, copyFor, stores, decide, refusal, session, length-is, accepted, Act, line, bufferOf, listOf, outcome}
+use Rattle.model.specs.Runs.{eventIn, events, end, ownerIn, only, seenFields, sequence, got, creates, createdBy, loginBy}
 use Rattle.model.specs.Program.{printed, serveWith, serve}
 
 -- a state that a run from these texts reaches
@@ -28,7 +28,6 @@ pub record Reached (t : Texts) (s : State) : Type 0 where
   pub isOpened : opened t ≡ done start
   pub isEnd : end start acts ≡ s
 
--- ── Condition 3 ──
 -- "the same values, policy paths compared in the standard spelling"
 unfoldable pub spelled : Rule → Bytes × Access × Bytes
 spelled r = (r .role, r .access, stepsText (r .path))
@@ -38,36 +37,61 @@ pub record SameTables (t₁ t₂ : Tables) : Type 0 where
   pub sameUsers : t₁ .users ≡ t₂ .users
   pub samePolicy : map spelled (t₁ .policy) ≡ map spelled (t₂ .policy)
 
--- two runs whose tables are equal, whatever else was opened and sent
-pub record TwoRuns : Type 0 where
-  pub texts₁ : Texts
-  pub texts₂ : Texts
-  pub start₁ : State
-  pub start₂ : State
-  pub opened₁ : opened texts₁ ≡ done start₁
-  pub opened₂ : opened texts₂ ≡ done start₂
-  pub sameTables : SameTables (start₁ .tables) (start₂ .tables)
-  pub acts₁ : List Act
-  pub acts₂ : List Act
+-- ── Condition 1: nothing else changes ──
+-- "A refused opening keeps the former state"
+abbrev pub RefusedOpening : Type 0
+RefusedOpening = (s : State) (t : Texts) (f : Fault) → opened t ≡ refused f → afterOpening s t ≡ s
 
--- for any set of users: with equal seen fields at the opening and the same sequence, "All this is one sequence, equal in both runs"
-abbrev pub SetCannotTell : Type 0
-SetCannotTell =
-    (r : TwoRuns) (set : ℕ → Bool) →
-    seenFields set (r .start₁) ≡ seenFields set (r .start₂) →
-    sequence set (events (r .start₁) (r .acts₁)) ≡ sequence set (events (r .start₂) (r .acts₂)) →
-    got set (events (r .start₁) (r .acts₁)) ≡ got set (events (r .start₂) (r .acts₂))
+-- condition 1: "No refused request changes the record, a login or a lent buffer": lines and saves, in any state
+abbrev pub RefusedAct : Type 0
+RefusedAct =
+    (s : State) (a : Act) (e : ℕ) → outcome s a .answer ≡ refusal e →
+    outcome s a ≡ record { answer = refusal e; state = s; buffer = bufferOf a; list = listOf a; told = 0 }
 
--- condition 3: "the fields that user may read are equal at the opening, and that user's requests and the others' accepted pushes to fields
--- the user may read are the same in the same order"
-abbrev pub UserCannotTell : Type 0
-UserCannotTell =
-    (r : TwoRuns) (i : ℕ) (u : User) → userAt (r .start₁ .tables .users) i ≡ some u →
-    readable (r .start₁ .tables .policy) u (r .start₁ .fields) ≡ readable (r .start₂ .tables .policy) u (r .start₂ .fields) →
-    sequence (only i) (events (r .start₁) (r .acts₁)) ≡ sequence (only i) (events (r .start₂) (r .acts₂)) →
-    got (only i) (events (r .start₁) (r .acts₁)) ≡ got (only i) (events (r .start₂) (r .acts₂))
+-- what an accepted push at index i of the value v to the path p makes of a state
+pub record OneFieldChanged (s s₁ : State) (i : ℕ) (p : Keys) (v : Value) : Type 0 where
+  pub holdsValue : valueAt p (s₁ .fields) ≡ some v
+  pub otherFields : (q : Keys) → (q ≡ p → ⊥) → valueAt q (s₁ .fields) ≡ valueAt q (s .fields)
+  pub ownLogin : loginAt s₁ i ≡ record {
+    logins = loginAt s i .logins;
+    isOpen = loginAt s i .isOpen;
+    created = if holds p (s .fields) then loginAt s i .created else suc (loginAt s i .created);
+  }
+  pub otherLogins : (j : ℕ) → (j ≡ i → ⊥) → loginAt s₁ j ≡ loginAt s j
+  pub tablesStay : s₁ .tables ≡ s .tables
 
--- ── The fields held ──
+-- condition 1: "no accepted push changes any field but the one it names"
+abbrev pub PushChangesOne : Type 0
+PushChangesOne =
+    (t : Texts) (s : State) → Reached t s → (x b : Bytes) (l : List ℕ) (n : ℕ) (p : Keys) (v : Value) →
+    requestOf x ≡ some (inSession n (push p v)) → outcome s (line x b l) .answer ≡ accepted →
+    OneFieldChanged s (outcome s (line x b l) .state) (indexIn n) p v
+
+-- what a login at index i makes of a state
+pub record OneLoginChanged (s s₁ : State) (i : ℕ) : Type 0 where
+  pub ownLogin : loginAt s₁ i ≡ record { logins = suc (loginAt s i .logins); isOpen = true; created = loginAt s i .created }
+  pub otherLogins : (j : ℕ) → (j ≡ i → ⊥) → loginAt s₁ j ≡ loginAt s j
+  pub fieldsStay : s₁ .fields ≡ s .fields
+  pub tablesStay : s₁ .tables ≡ s .tables
+
+-- "A login changes one seat only"
+abbrev pub LoginChangesOne : Type 0
+LoginChangesOne =
+    (t : Texts) (s : State) → Reached t s → (x b : Bytes) (l : List ℕ) (n : ℕ) → outcome s (line x b l) .answer ≡ session n →
+    OneLoginChanged s (outcome s (line x b l) .state) (indexIn n)
+
+-- a copy and a save change no state
+abbrev pub ShowingChangesNothing : Type 0
+ShowingChangesNothing = (s : State) (a : Act) (n : ℕ) → outcome s a .answer ≡ length-is n → outcome s a .state ≡ s
+
+-- ── Condition 2: the fields held ──
+-- "a path of 1 to 6 keys (names) and a value": each field that is held
+unfoldable pub isValid : Field → Bool
+isValid f = validKeys (f .path) && validValue (f .value)
+
+abbrev pub FieldsValid : Type 0
+FieldsValid = (t : Texts) (s : State) → Reached t s → all isValid (s .fields) ≡ true
+
 -- "Fields are sorted by path"
 unfoldable pub isSorted : Fields → Bool
 isSorted [] = true
@@ -85,8 +109,8 @@ noneBegins [] = true
 noneBegins (f ∷ fs) = let r = noneBegins fs in not (any (λ g. begins (f .path) (g .path) || begins (g .path) (f .path)) fs) && r
 
 -- both, and "At most 256 fields are held"
-abbrev pub FieldsKept : Type 0
-FieldsKept =
+abbrev pub FieldsInOrder : Type 0
+FieldsInOrder =
     (t : Texts) (s : State) → Reached t s →
     (isSorted (s .fields) ≡ true) × (noneBegins (s .fields) ≡ true) × (length (s .fields) ≤ maxFields)
 
@@ -96,24 +120,39 @@ NothingFallsOff =
     (t : Texts) (s : State) → Reached t s → (q : Request) (room i : ℕ) (a : LoginState) (f : Field) →
     decide s q room ≡ done (stores i a f) → store f (s .fields) ≡ put f (s .fields)
 
--- an opening loads every field of the text
+-- an opening loads each leaf of the text with its value, and nothing else
 abbrev pub LoadsAll : Type 0
-LoadsAll = (t : Texts) (s : State) (m : Members) → opened t ≡ done s → treeOf (t .recordText) ≡ some m → length (s .fields) ≡ count m
+LoadsAll =
+    (t : Texts) (s : State) (m : Members) → opened t ≡ done s → treeOf (t .recordText) ≡ some m →
+    (p : Keys) → valueAt p (s .fields) ≡ leafAt (object m) p
 
 -- ── Condition 2: saving and opening again ──
 -- these texts with another record text
 unfoldable pub withRecord : Bytes → Texts → Texts
 withRecord r t = record { usersText = t .usersText; environmentsText = t .environmentsText; policyText = t .policyText; recordText = r }
 
--- "Where the fields held and all allowances together are at most 256, a saved record, opened again with the same tables, is accepted and
--- holds the same fields": with any texts that were opened to equal tables
+-- a state that a run reached, and texts that were opened to equal tables, to which its saved text is given
+pub record SavedFor (t₂ : Texts) (s : State) : Type 0 where
+  pub texts : Texts
+  pub reached : Reached texts s
+  pub start₂ : State
+  pub opened₂ : opened t₂ ≡ done start₂
+  pub sameTables : SameTables (s .tables) (start₂ .tables)
+
+-- condition 2: "Where the fields held and all allowances together are at most 256, a saved record, opened again with the same tables, is accepted and
+-- holds the same fields"
 abbrev pub OpensAgain : Type 0
 OpensAgain =
-    (t t₂ : Texts) (s s₂ : State) → Reached t s → opened t₂ ≡ done s₂ → SameTables (s .tables) (s₂ .tables) →
-    length (s .fields) + quotas (s .tables .users) ≤ maxFields →
+    (t₂ : Texts) (s : State) → SavedFor t₂ s → length (s .fields) + quotas (s .tables .users) ≤ maxFields →
     opened (withRecord (saved (s .fields)) t₂) ≡ done (record { tables = s .tables; loginStates = emptyLogins; fields = s .fields })
 
--- "each record has one saved text": the same fields, in whatever order they came, have the same text
+-- "a record grown by pushes may meet 9 when opened again": exactly where they are more
+abbrev pub GrownIsRefused : Type 0
+GrownIsRefused =
+    (t₂ : Texts) (s : State) → SavedFor t₂ s → maxFields < length (s .fields) + quotas (s .tables .users) →
+    opened (withRecord (saved (s .fields)) t₂) ≡ refused (fault 9 4 0)
+
+-- condition 2: "each record has one saved text": the same fields, in whatever order they came, have the same text
 abbrev pub OneSavedText : Type 0
 OneSavedText =
     (t₁ t₂ : Texts) (s₁ s₂ : State) → Reached t₁ s₁ → Reached t₂ s₂ →
@@ -126,7 +165,19 @@ OneRecord =
     (t₁ t₂ : Texts) (s₁ s₂ : State) → Reached t₁ s₁ → Reached t₂ s₂ →
     saved (s₁ .fields) ≡ saved (s₂ .fields) → s₁ .fields ≡ s₂ .fields
 
--- ── Growth ──
+-- ── Condition 2: logins and growth ──
+-- "that user's logins": a login count is that user's own number of accepted logins
+abbrev pub CountsOwnLogins : Type 0
+CountsOwnLogins =
+    (t : Texts) (s : State) (acts : List Act) → opened t ≡ done s → (i : ℕ) →
+    loginAt (end s acts) i .logins ≡ length (keep (loginBy i) (events s acts))
+
+-- "The answer is the session number, 65,536 times the user's place, plus that user's logins, this one included"
+abbrev pub LoginAnswers : Type 0
+LoginAnswers =
+    (t : Texts) (s : State) (acts : List Act) → opened t ≡ done s → (a : Act) (n : ℕ) → outcome (end s acts) a .answer ≡ session n →
+    (i : ℕ) × (ownerIn (eventIn (end s acts) a) ≡ some i) × (n ≡ perUser * i + suc (length (keep (loginBy i) (events s acts))))
+
 -- fields held less fields loaded are the accepted pushes that named an absent field
 abbrev pub GrowsByPushes : Type 0
 GrowsByPushes =
@@ -157,12 +208,12 @@ WithinQuota =
     (t : Texts) (s : State) → Reached t s → (i : ℕ) (u : User) → userAt (s .tables .users) i ≡ some u →
     loginAt s i .created ≤ u .quota
 
--- ── Lengths ──
+-- ── Condition 2: lengths ──
 -- "A copy never exceeds 51,069 bytes"
 abbrev pub CopyBound : Type 0
 CopyBound =
     (t : Texts) (s : State) → Reached t s → (i : ℕ) (u : User) → userAt (s .tables .users) i ≡ some u →
-    length (copyOf (s .tables .policy) u (readable (s .tables .policy) u (s .fields))) ≤ maxCopy
+    length (copyFor s u) ≤ maxCopy
 
 unfoldable pub ascends : List ℕ → Bool
 ascends [] = true
@@ -172,14 +223,26 @@ ascends (m ∷ (n ∷ l)) = let r = ascends (n ∷ l) in ltb m n && r
 -- "The list receives, ascending, the numbers": never more than the 32 that it must have room for
 abbrev pub ListAscends : Type 0
 ListAscends =
-    (t : Texts) (s : State) → Reached t s → (x b : Bytes) (l : List ℕ) →
-    (ascends (take (outcome s (line x b l) .told) (outcome s (line x b l) .list)) ≡ true) × (outcome s (line x b l) .told ≤ listRoom)
+    (t : Texts) (s : State) → Reached t s → (a : Act) →
+    (ascends (take (outcome s a .told) (outcome s a .list)) ≡ true) × (outcome s a .told ≤ listRoom)
 
--- ── What `serve` prints ──
--- an act as it happens in a state
-abbrev pub eventIn : State → Act → Event
-eventIn s a = record { before = s; act = a; result = outcome s a }
+-- ── Condition 2: spelling ──
+-- reading the standard spelling of a policy path gives the path back
+abbrev pub StepsReadBack : Type 0
+StepsReadBack = (s : Bytes) (p : Steps) → stepsOf s ≡ some p → stepsOf (stepsText p) ≡ some p
 
+-- so paths with one standard spelling are one path
+abbrev pub OneSpelling : Type 0
+OneSpelling = (s₁ s₂ : Bytes) (p₁ p₂ : Steps) → stepsOf s₁ ≡ some p₁ → stepsOf s₂ ≡ some p₂ → stepsText p₁ ≡ stepsText p₂ → p₁ ≡ p₂
+
+-- "with path and value as pushed": each has one spelling
+abbrev pub KeysAsWritten : Type 0
+KeysAsWritten = (s : Bytes) (p : Keys) → keysOf s ≡ some p → keysText p ≡ s
+
+abbrev pub ValueAsWritten : Type 0
+ValueAsWritten = (s : Bytes) (v : Value) → valueOf s ≡ some v → valueText v ≡ s
+
+-- ── Condition 2: what `serve` prints ──
 -- a line with the zeros that `serve` gives
 abbrev pub withZeros : Bytes → Act
 withZeros x = line x (replicate maxCopy 0) (replicate listRoom 0)
@@ -213,74 +276,32 @@ ServesAlike =
     (b : Bytes) (l : List ℕ) → maxCopy ≤ length b → listRoom ≤ length l → (t : Texts) (input : Bytes) →
     serveWith b l t input ≡ serve t input
 
--- ── Condition 1: nothing else changes ──
--- "A refused opening keeps the former state"
-abbrev pub RefusedOpening : Type 0
-RefusedOpening = (s : State) (t : Texts) (f : Fault) → opened t ≡ refused f → afterOpening s t ≡ s
+-- ── Condition 3 ──
+-- two runs whose tables are equal, whatever else was opened and sent
+pub record TwoRuns : Type 0 where
+  pub texts₁ : Texts
+  pub texts₂ : Texts
+  pub start₁ : State
+  pub start₂ : State
+  pub opened₁ : opened texts₁ ≡ done start₁
+  pub opened₂ : opened texts₂ ≡ done start₂
+  pub sameTables : SameTables (start₁ .tables) (start₂ .tables)
+  pub acts₁ : List Act
+  pub acts₂ : List Act
 
--- condition 1: "No refused request changes the record, a login or a lent buffer", in any state
-abbrev pub RefusedLine : Type 0
-RefusedLine =
-    (s : State) (x b : Bytes) (l : List ℕ) (e : ℕ) → outcome s (line x b l) .answer ≡ refusal e →
-    outcome s (line x b l) ≡ record { answer = refusal e; state = s; buffer = b; list = l; told = 0 }
+-- for any set of users: with equal seen fields at the opening and the same sequence, "All this is one sequence, equal in both runs"
+abbrev pub SetCannotTell : Type 0
+SetCannotTell =
+    (r : TwoRuns) (set : ℕ → Bool) →
+    seenFields set (r .start₁) ≡ seenFields set (r .start₂) →
+    sequence set (events (r .start₁) (r .acts₁)) ≡ sequence set (events (r .start₂) (r .acts₂)) →
+    got set (events (r .start₁) (r .acts₁)) ≡ got set (events (r .start₂) (r .acts₂))
 
-abbrev pub RefusedSave : Type 0
-RefusedSave =
-    (s : State) (b : Bytes) (e : ℕ) → outcome s (save b) .answer ≡ refusal e →
-    (outcome s (save b) .state ≡ s) × (outcome s (save b) .buffer ≡ b)
-
--- what an accepted push at index i of the value v to the path p makes of a state
-pub record Pushed (s s₁ : State) (i : ℕ) (p : Keys) (v : Value) : Type 0 where
-  pub holdsValue : valueAt p (s₁ .fields) ≡ some v
-  pub otherFields : (q : Keys) → (q ≡ p → ⊥) → valueAt q (s₁ .fields) ≡ valueAt q (s .fields)
-  pub ownLogin : loginAt s₁ i ≡ creating (loginAt s i) (holds p (s .fields))
-  pub otherLogins : (j : ℕ) → (j ≡ i → ⊥) → loginAt s₁ j ≡ loginAt s j
-  pub tablesStay : s₁ .tables ≡ s .tables
-
--- condition 1: "no accepted push changes any field but the one it names"
-abbrev pub PushChangesOne : Type 0
-PushChangesOne =
-    (t : Texts) (s : State) → Reached t s → (x b : Bytes) (l : List ℕ) (n : ℕ) (p : Keys) (v : Value) →
-    requestOf x ≡ some (push n p v) → outcome s (line x b l) .answer ≡ accepted →
-    Pushed s (outcome s (line x b l) .state) (indexIn n) p v
-
--- what a login at index i makes of a state
-pub record LoggedIn (s s₁ : State) (i : ℕ) : Type 0 where
-  pub ownLogin : i < length (s .loginStates) →
-      loginAt s₁ i ≡ entered (loginAt s i)
-  pub otherLogins : (j : ℕ) → (j ≡ i → ⊥) → loginAt s₁ j ≡ loginAt s j
-  pub fieldsStay : s₁ .fields ≡ s .fields
-  pub tablesStay : s₁ .tables ≡ s .tables
-
--- "A login changes one seat only", in any state
-abbrev pub LoginChangesOne : Type 0
-LoginChangesOne =
-    (s : State) (x b : Bytes) (l : List ℕ) (n : ℕ) → outcome s (line x b l) .answer ≡ session n →
-    LoggedIn s (outcome s (line x b l) .state) (indexIn n)
-
--- a copy and a save change no state
-abbrev pub ShowingChangesNothing : Type 0
-ShowingChangesNothing = (s : State) (a : Act) (n : ℕ) → outcome s a .answer ≡ length-is n → outcome s a .state ≡ s
-
--- ── Spelling ──
--- reading the standard spelling of a policy path gives the path back
-abbrev pub StepsReadBack : Type 0
-StepsReadBack = (s : Bytes) (p : Steps) → stepsOf s ≡ some p → stepsOf (stepsText p) ≡ some p
-
--- so paths with one standard spelling are one path
-abbrev pub OneSpelling : Type 0
-OneSpelling = (s₁ s₂ : Bytes) (p₁ p₂ : Steps) → stepsOf s₁ ≡ some p₁ → stepsOf s₂ ≡ some p₂ → stepsText p₁ ≡ stepsText p₂ → p₁ ≡ p₂
-
--- the same of a field's path and of a value
-abbrev pub KeysReadBack : Type 0
-KeysReadBack = (s : Bytes) (p : Keys) → keysOf s ≡ some p → keysOf (keysText p) ≡ some p
-
-abbrev pub ValueReadsBack : Type 0
-ValueReadsBack = (s : Bytes) (v : Value) → valueOf s ≡ some v → valueOf (valueText v) ≡ some v
-
--- "with path and value as pushed": each has one spelling
-abbrev pub KeysAsWritten : Type 0
-KeysAsWritten = (s : Bytes) (p : Keys) → keysOf s ≡ some p → keysText p ≡ s
-
-abbrev pub ValueAsWritten : Type 0
-ValueAsWritten = (s : Bytes) (v : Value) → valueOf s ≡ some v → valueText v ≡ s
+-- condition 3: "the fields that user may read are equal at the opening, and that user's requests and the others' accepted pushes to fields
+-- the user may read are the same in the same order"
+abbrev pub UserCannotTell : Type 0
+UserCannotTell =
+    (r : TwoRuns) (i : ℕ) (u : User) → userAt (r .start₁ .tables .users) i ≡ some u →
+    readable (r .start₁ .tables .policy) u (r .start₁ .fields) ≡ readable (r .start₂ .tables .policy) u (r .start₂ .fields) →
+    sequence (only i) (events (r .start₁) (r .acts₁)) ≡ sequence (only i) (events (r .start₂) (r .acts₂)) →
+    got (only i) (events (r .start₁) (r .acts₁)) ≡ got (only i) (events (r .start₂) (r .acts₂))

@@ -2,16 +2,20 @@
 use Prim.Native.Nat.{compare, Ordering, Ordering·lt, Ordering·eq, Ordering·gt}
 use mathlib.Core.Option.{Option, none, some}
 use mathlib.Core.List.{List, [], _∷_}
-use mathlib.Core.Bool.{Bool}
-use lib.ListN.{take}
-use Rattle.model.specs.Base.{Bytes, isSome}
-use Rattle.model.specs.Limits.{maxFields}
+use mathlib.Core.Bool.{Bool, _&&_}
+use lib.ListN.{length, take}
+use Rattle.model.specs.Base.{Bytes, all, isSome, within}
+use Rattle.model.specs.Limits.{maxDepth, maxFields}
+use Rattle.model.specs.Names.{isKey}
 use Rattle.model.specs.Values.{Value}
 use Rattle.model.specs.Values
 
 -- "a path of 1 to 6 keys (names)"
 abbrev pub Keys : Type 0
 Keys = List Bytes
+
+unfoldable pub validKeys : Keys → Bool
+validKeys p = within 1 maxDepth (length p) && all isKey p
 
 -- "A field is a path .. and a value"
 pub record Field : Type 0 where
@@ -70,5 +74,5 @@ unfoldable pub store : Field → Fields → Fields
 store f fs = take maxFields (put f fs)
 
 unfoldable pub Opened : Unit {0}
-unfolding Values.Opened andThen lex orderKey orderPath byOrder valueAt holds put store
+unfolding Values.Opened validKeys andThen lex orderKey orderPath byOrder valueAt holds put store
 Opened = tt

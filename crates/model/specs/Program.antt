@@ -5,20 +5,18 @@ use mathlib.Core.List.{List, [], _∷_, _++_, map}
 use lib.ListN.{take, replicate}
 use Rattle.model.specs.Base.{Bytes, text, joined, decimal}
 use Rattle.model.specs.Limits.{listRoom, maxCopy}
+use Rattle.model.specs.Fields.{Field}
 use Rattle.model.specs.Refusals.{Result, refused, done}
 use Rattle.model.specs.Table.{Line, ended, broken, lines}
 use Rattle.model.specs.Opening.{State, Texts, Fault, opened}
-use Rattle.model.specs.Requests.{Request, login, get, push}
 use Rattle.model.specs.Serving.{tableLine, Answer, refusal, session, length-is, accepted, line, Outcome}
-use Rattle.model.specs.Runs.{Event, events, requestIn, deliveryLine}
+use Rattle.model.specs.Runs.{Event, events, pushIn, deliveryLine}
 use Rattle.model.specs.Runs
 
 -- "the deliveries for PUSH"
-unfoldable pub printDeliveries : Outcome → Option Request → Bytes
+unfoldable pub printDeliveries : Outcome → Option Field → Bytes
 printDeliveries o none = []
-printDeliveries o (some (login u k)) = []
-printDeliveries o (some (get n)) = []
-printDeliveries o (some (push n p v)) = joined (map (λ m. deliveryLine p v m ++ text "\n") (take (o .told) (o .list)))
+printDeliveries o (some f) = joined (map (λ m. deliveryLine (f .path) (f .value) m ++ text "\n") (take (o .told) (o .list)))
 
 -- "`OK;session` for a login, `OK;length` and the copy for GET, `OK` .. for PUSH, `NO;number` for a refusal"
 unfoldable pub printAnswer : Bytes → Answer → Bytes
@@ -28,7 +26,7 @@ printAnswer b (length-is n) = tableLine (text "OK" ∷ decimal n ∷ []) ++ take
 printAnswer b accepted = tableLine (text "OK" ∷ [])
 
 unfoldable pub printed : Event → Bytes
-printed e = printAnswer (e .result .buffer) (e .result .answer) ++ printDeliveries (e .result) (requestIn (e .act))
+printed e = printAnswer (e .result .buffer) (e .result .answer) ++ printDeliveries (e .result) (pushIn e)
 
 -- "a refused opening prints `NO;number;text;line` and ends"
 unfoldable pub printFault : Fault → Bytes

@@ -5,7 +5,7 @@ use mathlib.Core.List.{List, [], _∷_, _++_}
 use mathlib.Core.Bool.{Bool, false, _||_}
 use lib.Dec.{eqb}
 use lib.ListN.{length}
-use Rattle.model.specs.Base.{Bytes, text, among, _==_, _>>=_, _>>_, _<|>_, check, after, ifAfter, span}
+use Rattle.model.specs.Base.{Bytes, text, if_then_else_, among, _==_, _>>=_, _>>_, _<|>_, check, after, ifAfter, span}
 use Rattle.model.specs.Limits.{maxDepth}
 use Rattle.model.specs.Names.{nameByte, isKey}
 use Rattle.model.specs.Values.{Value, readValue}
@@ -107,6 +107,18 @@ unfoldable mutual
   count noMembers = 0
   count (member m k v) = count m + countIn v
 
+-- the value of the leaf at a path, if there is one: of the member under the key k, at what is left of the path
+unfoldable mutual
+  pub leafAt : Node → Keys → Option Value
+  leafAt (leaf v) [] = some v
+  leafAt (leaf v) (k ∷ p) = none
+  leafAt (object m) [] = none
+  leafAt (object m) (k ∷ p) = leafUnder m k p
+
+  pub leafUnder : Members → Bytes → Keys → Option Value
+  leafUnder noMembers k p = none
+  leafUnder (member m l v) k p = let r = leafUnder m k p in if k == l then leafAt v p else r
+
 -- the fields of a tree that stands at the path p, put into fields in the order of the text
 unfoldable mutual
   pub storeNode : Keys → Node → Fields → Fields
@@ -118,5 +130,5 @@ unfoldable mutual
   storeMembers p (member m k v) fs = storeNode (p ++ k ∷ []) v (storeMembers p m fs)
 
 unfoldable pub Opened : Unit {0}
-unfolding Fields.Opened isBlank skip token readKey readLeaf readMore readMembers asNode readObject readEmpty treeOf keysIn twice count storeMembers
+unfolding Fields.Opened isBlank skip token readKey readLeaf readMore readMembers asNode readObject readEmpty treeOf keysIn twice count leafUnder storeMembers
 Opened = tt

@@ -1,6 +1,7 @@
 -- Document 01, "Request lines": "A line is first taken apart; one that cannot be is refused 11."
 use Prim.Native.Nat.{ℕ}
-use mathlib.Core.Option.{Option, some}
+use mathlib.Core.Option.{Option, none, some}
+use mathlib.Core.List.{List, [], _∷_}
 use mathlib.Core.Bool.{_&&_}
 use lib.Dec.{leb}
 use lib.ListN.{length}
@@ -8,14 +9,19 @@ use Rattle.model.specs.Base.{Bytes, text, _>>=_, _>>_, _<|>_, check, aft
 use Rattle.model.specs.Limits.{maxLine, maxSession}
 use Rattle.model.specs.Names.{isName}
 use Rattle.model.specs.Values.{Value, valueOf}
-use Rattle.model.specs.Fields.{Keys}
+use Rattle.model.specs.Fields.{Keys, Field, fieldOf}
 use Rattle.model.specs.Paths.{keysOf}
 use Rattle.model.specs.Paths
 
+-- what a session asks for
+pub data Ask : Type 0 where
+  get : Ask
+  push : Keys → Value → Ask
+
+-- a login by user and key, or what the session of a number asks for
 pub data Request : Type 0 where
   login : Bytes → Bytes → Request
-  get : ℕ → Request
-  push : ℕ → Keys → Value → Request
+  inSession : ℕ → Ask → Request
 
 -- "A session number is decimal, no leading zero but in `0` itself, at most 4,294,967,295"
 unfoldable pub sessionOf : Bytes → Option ℕ
@@ -34,7 +40,7 @@ unfoldable pub readGet : Bytes → Option Request
 readGet s = do
   r ← after (text "GET;") s
   n ← sessionOf r
-  some (get n)
+  some (inSession n get)
 
 -- "`PUSH;session;path;value`, the value running to the line's end without blanks"
 unfoldable pub readPush : Bytes → Option Request
@@ -42,12 +48,27 @@ readPush s = do
   r ← after (text "PUSH;") s
   (n, r₁) ← cut 0x3B r
   (p, v) ← cut 0x3B r₁
-  some (push (← sessionOf n) (← keysOf p) (← valueOf v))
+  some (inSession (← sessionOf n) (push (← keysOf p) (← valueOf v)))
+
+-- "begins with one of the words `LOGIN;`, `GET;` or `PUSH;`": the reader of each
+unfoldable pub readers : List (Bytes → Option Request)
+readers = readLogin ∷ readGet ∷ readPush ∷ []
+
+-- what the first reader that can read a line reads
+unfoldable pub firstOf : {A : Type 0} → List (Bytes → Option A) → Bytes → Option A
+firstOf [] s = none
+firstOf (r ∷ rs) s = r s <|> firstOf rs s
 
 -- "one line of at most 256 bytes": what it asks for
 unfoldable pub requestOf : Bytes → Option Request
-requestOf s = check (leb (length s) maxLine) >> (readLogin s <|> readGet s <|> readPush s)
+requestOf s = check (leb (length s) maxLine) >> firstOf readers s
+
+-- the field that a request is to store, and that others are told of
+unfoldable pub pushOf : Request → Option Field
+pushOf (login u k) = none
+pushOf (inSession n get) = none
+pushOf (inSession n (push p v)) = some (fieldOf p v)
 
 unfoldable pub Opened : Unit {0}
-unfolding Paths.Opened sessionOf readLogin readGet readPush requestOf
+unfolding Paths.Opened sessionOf readLogin readGet readPush readers firstOf requestOf pushOf
 Opened = tt

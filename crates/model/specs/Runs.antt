@@ -5,27 +5,37 @@ use mathlib.Core.List.{List, [], _∷_, _++_, map}
 use mathlib.Core.Bool.{Bool, true, false, not, _&&_}
 use lib.Dec.{eqb}
 use lib.ListN.{length, take}
-use Rattle.model.specs.Base.{Bytes, text, if_then_else_, any, keep, joined, range, isSome, between, decimal}
+use Rattle.model.specs.Base.{Bytes, text, if_then_else_, any, keep, joined, range, isSome, between, _>>=_, decimal}
 use Rattle.model.specs.Values.{Value, valueText}
-use Rattle.model.specs.Fields.{Keys, Fields, holds}
+use Rattle.model.specs.Fields.{Keys, Field, Fields, holds}
 use Rattle.model.specs.Paths.{keysText}
 use Rattle.model.specs.Tables.{Tables, userAt, userNamed}
 use Rattle.model.specs.Opening.{State}
-use Rattle.model.specs.Requests.{Request, login, get, push, requestOf}
+use Rattle.model.specs.Requests.{Request, login, inSession, requestOf, pushOf}
 use Rattle.model.specs.Serving.{indexIn, readsAt, roomFor, Answer, refusal, session, length-is, accepted, Act, line, save, Outcome, outcome}
 use Rattle.model.specs.Serving
 
 -- ── "A run is one accepted opening, .. and then a list of request lines and saves" ──
+-- what an act asks for: nothing, if it is a save or a line that cannot be taken apart
+unfoldable pub requestOfAct : Act → Option Request
+requestOfAct (line t b l) = requestOf t
+requestOfAct (save b) = none
+
 -- an act as it happened
 pub record Event : Type 0 where
   pub before : State
   pub act : Act
+  pub request : Option Request
   pub result : Outcome
+
+-- an act as it happens in a state
+abbrev pub eventIn : State → Act → Event
+eventIn s a = record { before = s; act = a; request = requestOfAct a; result = outcome s a }
 
 -- "each act gets what the one before returned, refused or not"
 unfoldable pub events : State → List Act → List Event
 events s [] = []
-events s (a ∷ acts) = let o = outcome s a in record { before = s; act = a; result = o } ∷ events (o .state) acts
+events s (a ∷ acts) = let e = eventIn s a in e ∷ events (e .result .state) acts
 
 -- the state after the acts
 unfoldable pub end : State → List Act → State
@@ -44,8 +54,14 @@ ifUser t i = if isSome (userAt (t .users) i) then some i else none
 -- "LOGIN lines naming that user and GET or PUSH lines whose number divided by 65,536, rounded down, is that user's place"
 unfoldable pub owner : Tables → Request → Option ℕ
 owner t (login u k) = indexOf (userNamed u (t .users))
-owner t (get n) = ifUser t (indexIn n)
-owner t (push n p v) = ifUser t (indexIn n)
+owner t (inSession n a) = ifUser t (indexIn n)
+
+unfoldable pub ownerIn : Event → Option ℕ
+ownerIn e = e .request >>= owner (e .before .tables)
+
+-- the field that a request is to store
+unfoldable pub pushIn : Event → Option Field
+pushIn e = e .request >>= pushOf
 
 unfoldable pub inSet : (ℕ → Bool) → Option ℕ → Bool
 inSet set none = false
@@ -75,24 +91,23 @@ pub data Item : Type 0 where
   own : Bytes → ℕ → Item
   others : Keys → Value → Item
 
--- "The others' pushes are the accepted PUSH lines that are not the user's requests and name a path the user may read"
-unfoldable pub othersPush : (ℕ → Bool) → State → Answer → Request → List Item
-othersPush set s a (login u k) = []
-othersPush set s a (get n) = []
-othersPush set s a (push n p v) = if isAccepted a && seen set (s .tables) p then others p v ∷ [] else []
-
 -- "A user's requests are, among lines not refused 11, .. with the lengths lent"
-unfoldable pub itemsOf : (ℕ → Bool) → State → Outcome → Bytes → Bytes → List ℕ → Option Request → List Item
-itemsOf set s o t b l none = []
-itemsOf set s o t b l (some q) = if inSet set (owner (s .tables) q) then own t (roomFor q b l) ∷ [] else othersPush set s (o .answer) q
+unfoldable pub ownRequest : Act → Option Request → List Item
+ownRequest (save b) q = []
+ownRequest (line t b l) none = []
+ownRequest (line t b l) (some q) = own t (roomFor q b l) ∷ []
 
-unfoldable pub items : (ℕ → Bool) → State → Outcome → Act → List Item
-items set s o (save b) = []
-items set s o (line t b l) = itemsOf set s o t b l (requestOf t)
+-- "The others' pushes are the accepted PUSH lines that are not the user's requests and name a path the user may read"
+unfoldable pub othersPush : (ℕ → Bool) → State → Answer → Option Field → List Item
+othersPush set s a none = []
+othersPush set s a (some f) = if isAccepted a && seen set (s .tables) (f .path) then others (f .path) (f .value) ∷ [] else []
+
+unfoldable pub items : (ℕ → Bool) → Event → List Item
+items set e = if inSet set (ownerIn e) then ownRequest (e .act) (e .request) else othersPush set (e .before) (e .result .answer) (pushIn e)
 
 -- "Both kinds together, in the order of a run's list, are one sequence"
 unfoldable pub sequence : (ℕ → Bool) → List Event → List Item
-sequence set es = joined (map (λ e. items set (e .before) (e .result) (e .act)) es)
+sequence set es = joined (map (items set) es)
 
 -- ── What the set gets: each thing with the index of its user ──
 pub data Got : Type 0 where
@@ -117,50 +132,42 @@ answers set o none = []
 answers set o (some i) = if set i then answer i (o .answer) ∷ copies i (o .buffer) (o .answer) else []
 
 -- "for each accepted push the deliveries, .. for each number its list received that, divided as above, gives the user's place"
-unfoldable pub deliveries : (ℕ → Bool) → Outcome → Request → List Got
-deliveries set o (login u k) = []
-deliveries set o (get n) = []
-deliveries set o (push n p v) =
-    map (λ m. delivery (indexIn m) (deliveryLine p v m)) (keep (λ m. set (indexIn m)) (take (o .told) (o .list)))
+unfoldable pub deliveries : (ℕ → Bool) → Outcome → Option Field → List Got
+deliveries set o none = []
+deliveries set o (some f) =
+    map (λ m. delivery (indexIn m) (deliveryLine (f .path) (f .value) m)) (keep (λ m. set (indexIn m)) (take (o .told) (o .list)))
 
-unfoldable pub gotBy : (ℕ → Bool) → State → Outcome → Option Request → List Got
-gotBy set s o none = []
-gotBy set s o (some q) = answers set o (owner (s .tables) q) ++ deliveries set o q
-
-unfoldable pub gotIn : (ℕ → Bool) → State → Outcome → Act → List Got
-gotIn set s o (save b) = []
-gotIn set s o (line t b l) = gotBy set s o (requestOf t)
+unfoldable pub gotIn : (ℕ → Bool) → Event → List Got
+gotIn set e = answers set (e .result) (ownerIn e) ++ deliveries set (e .result) (pushIn e)
 
 -- "All this is one sequence"
 unfoldable pub got : (ℕ → Bool) → List Event → List Got
-got set es = joined (map (λ e. gotIn set (e .before) (e .result) (e .act)) es)
+got set es = joined (map (gotIn set) es)
 
 -- ── The sum ──
-unfoldable pub createsBy : State → Answer → Request → Bool
-createsBy s a (login u k) = false
-createsBy s a (get n) = false
-createsBy s a (push n p v) = isAccepted a && not (holds p (s .fields))
-
-unfoldable pub createsIn : State → Answer → Option Request → Bool
-createsIn s a none = false
-createsIn s a (some q) = createsBy s a q
-
-unfoldable pub requestIn : Act → Option Request
-requestIn (save b) = none
-requestIn (line t b l) = requestOf t
+unfoldable pub createsBy : State → Answer → Option Field → Bool
+createsBy s a none = false
+createsBy s a (some f) = isAccepted a && not (holds (f .path) (s .fields))
 
 -- "accepted pushes since the opening that named an absent field"
 unfoldable pub creates : Event → Bool
-creates e = createsIn (e .before) (e .result .answer) (requestIn (e .act))
-
-unfoldable pub ownerIn : State → Option Request → Option ℕ
-ownerIn s none = none
-ownerIn s (some q) = owner (s .tables) q
+creates e = createsBy (e .before) (e .result .answer) (pushIn e)
 
 -- of those, the ones that belong to the user at index i
 unfoldable pub createdBy : ℕ → Event → Bool
-createdBy i e = inSet (only i) (ownerIn (e .before) (requestIn (e .act))) && creates e
+createdBy i e = inSet (only i) (ownerIn e) && creates e
+
+-- ── Logins counted ──
+unfoldable pub givesSession : Answer → Bool
+givesSession (refusal e) = false
+givesSession (session n) = true
+givesSession (length-is n) = false
+givesSession accepted = false
+
+-- an accepted login of the user at index i
+unfoldable pub loginBy : ℕ → Event → Bool
+loginBy i e = inSet (only i) (ownerIn e) && givesSession (e .result .answer)
 
 unfoldable pub Opened : Unit {0}
-unfolding Serving.Opened events end indexOf ifUser owner inSet only seen seenFields isAccepted othersPush itemsOf items sequence deliveryLine copies answers deliveries gotBy gotIn got createsBy createsIn requestIn creates ownerIn createdBy
+unfolding Serving.Opened requestOfAct events end indexOf ifUser owner ownerIn pushIn inSet only seen seenFields isAccepted ownRequest othersPush items sequence deliveryLine copies answers deliveries gotIn got createsBy creates createdBy givesSession loginBy
 Opened = tt

@@ -15,7 +15,7 @@ use Rattle.model.specs.Refusals.{Result, refused, done, _>>=_, _>>_, ref
 use Rattle.model.specs.Tables.{Binding, User, Access, READ, WRITE, Rule, Tables, userAt, userNamed}
 use Rattle.model.specs.Rights.{isFor, mayRead, mayWrite}
 use Rattle.model.specs.Opening.{LoginState, State, emptyLogin}
-use Rattle.model.specs.Requests.{Request, login, get, push, requestOf}
+use Rattle.model.specs.Requests.{Request, login, inSession, get, push, requestOf}
 use Rattle.model.specs.SavedText
 use Rattle.model.specs.Opening
 use Rattle.model.specs.Requests
@@ -66,22 +66,29 @@ copyOf rs u fs = joined (
 unfoldable pub readable : List Rule → User → Fields → Fields
 readable rs u fs = keep (λ f. mayRead rs u (f .path)) fs
 
--- ── Decisions: from the asker's index, user and login state, the fields that the asker may read, and whether the named field is held ──
+-- what GET shows a user
+unfoldable pub copyFor : State → User → Bytes
+copyFor s u = copyOf (s .tables .policy) u (readable (s .tables .policy) u (s .fields))
+
+-- ── Decisions: each word's grounds in the order of its sentence ──
 pub data Change : Type 0 where
-  enters : ℕ → LoginState → Change  -- the login state at an index becomes this one, with a session
+  setsLogin : ℕ → LoginState → Change  -- the login state at an index becomes this one, with a session
   shows : Bytes → Change  -- a text goes into the buffer
   stores : ℕ → LoginState → Field → Change  -- a field holds its value, and the login state at an index becomes this one
 
--- a login: one more, up to the last, and a session is open
-abbrev pub entered : LoginState → LoginState
-entered a = record { logins = min (suc (a .logins)) maxLogins; isOpen = true; created = a .created }
+-- the user whose open session has a number
+pub record Asker : Type 0 where
+  pub index : ℕ
+  pub user : User
+  pub login : LoginState
 
--- "12 user unknown or key wrong; 13 the user has a session"
-unfoldable pub decideLogin : ℕ → User → LoginState → Bytes → Result ℕ Change
-decideLogin i u a k = do
-  refuse 12 if not (u .key == k)
-  refuse 13 if a .isOpen
-  done (enters i (entered a))
+-- "14 no open session has this number"
+unfoldable pub asker : State → ℕ → Result ℕ Asker
+asker s n = do
+  let i = indexIn n
+  u ← userAt (s .tables .users) i or 14
+  refuse 14 if not (isSession i (loginAt s i) n)
+  done (record { index = i; user = u; login = loginAt s i })
 
 -- "15 the lent buffer is shorter" than the text
 unfoldable pub decideShow : Bytes → ℕ → Result ℕ Change
@@ -89,44 +96,49 @@ decideShow c room = do
   refuse 15 if ltb room (length c)
   done (shows c)
 
--- "14 no open session has this number; 15 the lent buffer is shorter than the copy"; `fs` are the readable fields
-unfoldable pub decideGet : List Rule → ℕ → User → LoginState → Fields → ℕ → ℕ → Result ℕ Change
-decideGet rs i u a fs n room = do
-  refuse 14 if not (isSession i a n)
-  decideShow (copyOf rs u fs) room
+-- a login: one more, up to the last, and a session is open
+abbrev pub entered : LoginState → LoginState
+entered a = record { logins = min (suc (a .logins)) maxLogins; isOpen = true; created = a .created }
+
+-- "12 user unknown or key wrong; 13 the user has a session"
+unfoldable pub decideLogin : State → Bytes → Bytes → Result ℕ Change
+decideLogin s n k = do
+  (i, u) ← userNamed n (s .tables .users) or 12
+  refuse 12 if not (u .key == k)
+  refuse 13 if loginAt s i .isOpen
+  done (setsLogin i (entered (loginAt s i)))
+
+-- "14 no open session has this number; 15 the lent buffer is shorter than the copy"
+unfoldable pub decideGet : State → ℕ → ℕ → Result ℕ Change
+decideGet s n room = do
+  a ← asker s n
+  decideShow (copyFor s (a .user)) room
 
 -- a field more is created unless it was held
 unfoldable pub creating : LoginState → Bool → LoginState
 creating a held = record { logins = a .logins; isOpen = a .isOpen; created = if held then a .created else suc (a .created) }
 
--- "14; 16 the user may not write the path; 17 the field is absent and the user has created as many as the allowance"
-unfoldable pub decidePush : List Rule → ℕ → User → LoginState → Bool → ℕ → Keys → Value → Result ℕ Change
-decidePush rs i u a held n p v = do
-  refuse 14 if not (isSession i a n)
-  refuse 16 if not (mayWrite rs u p)
-  refuse 17 if not held && leb (u .quota) (a .created)
-  done (stores i (creating a held) (fieldOf p v))
+-- "15 the lent delivery list has fewer than 32 numbers; 14; 16 the user may not write the path; 17 the field is absent and the user has
+-- created as many as the allowance"
+unfoldable pub decidePush : State → ℕ → Keys → Value → ℕ → Result ℕ Change
+decidePush s n p v room = do
+  refuse 15 if ltb room listRoom
+  a ← asker s n
+  refuse 16 if not (mayWrite (s .tables .policy) (a .user) p)
+  refuse 17 if not (holds p (s .fields)) && leb (a .user .quota) (a .login .created)
+  done (stores (a .index) (creating (a .login) (holds p (s .fields))) (fieldOf p v))
 
 -- the length of what a request writes into, 0 where it writes into nothing
 unfoldable pub roomFor : Request → Bytes → List ℕ → ℕ
 roomFor (login u k) b l = 0
-roomFor (get n) b l = length b
-roomFor (push n p v) b l = length l
+roomFor (inSession n get) b l = length b
+roomFor (inSession n (push p v)) b l = length l
 
--- what a request, with that length, is decided to be; PUSH: "15 the lent delivery list has fewer than 32 numbers; 14; .."
+-- what a request, with that length, is decided to be
 unfoldable pub decide : State → Request → ℕ → Result ℕ Change
-decide s (login n k) room = do
-  (i, u) ← userNamed n (s .tables .users) or 12
-  decideLogin i u (loginAt s i) k
-decide s (get n) room = do
-  let i = indexIn n
-  u ← userAt (s .tables .users) i or 14
-  decideGet (s .tables .policy) i u (loginAt s i) (readable (s .tables .policy) u (s .fields)) n room
-decide s (push n p v) room = do
-  refuse 15 if ltb room listRoom
-  let i = indexIn n
-  u ← userAt (s .tables .users) i or 14
-  decidePush (s .tables .policy) i u (loginAt s i) (holds p (s .fields)) n p v
+decide s (login u k) room = decideLogin s u k
+decide s (inSession n get) room = decideGet s n room
+decide s (inSession n (push p v)) room = decidePush s n p v room
 
 -- "Save: 15 the buffer is too short; else it writes the saved text without 0A"
 unfoldable pub decideSave : State → ℕ → Result ℕ Change
@@ -134,7 +146,7 @@ decideSave s room = decideShow (saved (s .fields)) room
 
 -- ── What a decision changes, whom it reaches, and what is answered ──
 unfoldable pub apply : Change → State → State
-apply (enters i a) s = record { tables = s .tables; loginStates = set (s .loginStates) i a; fields = s .fields }
+apply (setsLogin i a) s = record { tables = s .tables; loginStates = set (s .loginStates) i a; fields = s .fields }
 apply (shows c) s = s
 apply (stores i a f) s = record { tables = s .tables; loginStates = set (s .loginStates) i a; fields = store f (s .fields) }
 
@@ -154,13 +166,13 @@ receivers s i p =
 
 -- the numbers that the list receives
 unfoldable pub notified : State → Change → List ℕ
-notified s (enters i a) = []
+notified s (setsLogin i a) = []
 notified s (shows c) = []
 notified s (stores i a f) = receivers s i (f .path)
 
 -- the text that the buffer receives
 unfoldable pub shown : Change → Bytes
-shown (enters i a) = []
+shown (setsLogin i a) = []
 shown (shows c) = c
 shown (stores i a f) = []
 
@@ -172,7 +184,7 @@ pub data Answer : Type 0 where
 
 -- "The answer is the session number", "the copy's length", "the sender's answer shows neither list nor its length"
 unfoldable pub answerOf : Change → Answer
-answerOf (enters i a) = session (sessionNumber i a)
+answerOf (setsLogin i a) = session (sessionNumber i a)
 answerOf (shows c) = length-is (length c)
 answerOf (stores i a f) = accepted
 
@@ -181,6 +193,25 @@ answerOf (stores i a f) = accepted
 pub data Act : Type 0 where
   line : Bytes → Bytes → List ℕ → Act
   save : Bytes → Act
+
+-- what is lent: the buffer, and the list, which a save has none of
+unfoldable pub bufferOf : Act → Bytes
+bufferOf (line t b l) = b
+bufferOf (save b) = b
+
+unfoldable pub listOf : Act → List ℕ
+listOf (line t b l) = l
+listOf (save b) = []
+
+-- "A line is first taken apart; one that cannot be is refused 11"
+unfoldable pub decideLine : State → Bytes → List ℕ → Option Request → Result ℕ Change
+decideLine s b l none = refused 11
+decideLine s b l (some q) = decide s q (roomFor q b l)
+
+-- what an act is decided to be
+unfoldable pub decision : State → Act → Result ℕ Change
+decision s (line t b l) = decideLine s b l (requestOf t)
+decision s (save b) = decideSave s (length b)
 
 -- what an act leaves: the answer, the state, the buffer, the list, and how many numbers the list received
 pub record Outcome : Type 0 where
@@ -207,15 +238,9 @@ conclude s b l (done c) = record {
   told = length (notified s c);
 }
 
--- "one that cannot be is refused 11"
-unfoldable pub served : State → Bytes → List ℕ → Option Request → Outcome
-served s b l none = unchanged s b l 11
-served s b l (some q) = conclude s b l (decide s q (roomFor q b l))
-
 unfoldable pub outcome : State → Act → Outcome
-outcome s (line t b l) = served s b l (requestOf t)
-outcome s (save b) = conclude s b [] (decideSave s (length b))
+outcome s a = conclude s (bufferOf a) (listOf a) (decision s a)
 
 unfoldable pub Opened : Unit {0}
-unfolding SavedText.Opened Opening.Opened Requests.Opened sessionNumber indexIn isSession loginAt accessText tableLine ruleLine bindingLine copyOf readable decideLogin decideShow decideGet creating decidePush roomFor decide decideSave apply readsBy readsAt receivers notified shown answerOf over unchanged conclude served outcome
+unfolding SavedText.Opened Opening.Opened Requests.Opened sessionNumber indexIn isSession loginAt accessText tableLine ruleLine bindingLine copyOf readable copyFor asker decideShow decideLogin decideGet creating decidePush roomFor decide decideSave apply readsBy readsAt receivers notified shown answerOf bufferOf listOf decideLine decision over unchanged conclude outcome
 Opened = tt

@@ -6,7 +6,7 @@ use mathlib.Core.Bool.{Bool, true, false, not, _&&_, _||_}
 use lib.Dec.{leb, eqb}
 use lib.ListN.{length}
 use lib.IntN.{ℤ, pos, negsuc}
-use Rattle.model.specs.Base.{Bytes, text, if_then_else_, _==_, _>>=_, _>>_, _<|>_, check, after, span, within, isDigit, isDecimal, worth, decimal}
+use Rattle.model.specs.Base.{Bytes, text, if_then_else_, all, _==_, _>>=_, _>>_, _<|>_, check, after, span, within, isDigit, isDecimal, worth, decimal}
 use Rattle.model.specs.Limits.{maxString, maxPositive, maxNegative}
 use Rattle.model.specs.Names
 
@@ -19,6 +19,13 @@ pub data Value : Type 0 where
 -- "bytes from 20 to 7E without 22 and 5C"
 unfoldable pub stringByte : ℕ → Bool
 stringByte x = within 0x20 0x7E x && not (eqb x 0x22 || eqb x 0x5C)
+
+-- "a string of 0 to 32 bytes from 20 to 7E without 22 and 5C, or a whole number from −2,147,483,648 to 2,147,483,647"
+unfoldable pub validValue : Value → Bool
+validValue (truth b) = true
+validValue (string s) = leb (length s) maxString && all stringByte s
+validValue (whole (pos n)) = leb n maxPositive
+validValue (whole (negsuc n)) = leb (suc n) maxNegative
 
 -- ── A value at a text's start ──
 unfoldable pub readTruth : Bytes → Option (Value × Bytes)
@@ -69,5 +76,5 @@ valueText (whole (pos n)) = decimal n
 valueText (whole (negsuc n)) = text "-" ++ decimal (suc n)
 
 unfoldable pub Opened : Unit {0}
-unfolding Names.Opened stringByte readTruth readString readPos readNeg readValue valueOf quoted valueText
+unfolding Names.Opened stringByte validValue readTruth readString readPos readNeg readValue valueOf quoted valueText
 Opened = tt

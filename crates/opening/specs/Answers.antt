@@ -36,7 +36,7 @@ abbrev pub KeptIfRefused : {A : Type 0} → Opening → A → A → Type 0
 KeptIfRefused Done before now = Unit {0}
 KeptIfRefused (Refused n t l) before now = now ≡ before
 
--- an acceptance leaves nothing in them but what it stored
+-- an acceptance leaves nothing behind the rows that it stored
 abbrev pub WipedIfDone : Opening → Arrays → Type 0
 WipedIfDone Done now = Wiped now
 WipedIfDone (Refused n t l) now = Unit {0}

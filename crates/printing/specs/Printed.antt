@@ -1,19 +1,22 @@
 -- What is printed, how long it is, and what a reply may say of a buffer.
 use Prim.Native.Nat.{ℕ, _+_, _*_, _≤_}
 use mathlib.Core.Path.{_≡_}
-use mathlib.Core.List.{List, [], _++_}
+use mathlib.Core.List.{[], _++_}
 use Rattle.model.specs.Base.{Bytes, text, decimal}
 use Rattle.model.specs.Limits.{maxCopy}
 use Rattle.model.specs.Opening.{State, fault}
-use Rattle.model.specs.Serving.{Act, Outcome, outcome}
+use Rattle.model.specs.Serving.{Act, line, decision, Outcome, outcome}
+use Rattle.model.specs.Runs.{eventIn}
 use Rattle.model.specs.Program.{printFault, printed}
-use Rattle.model.specs.Claims.{eventIn}
 use Rattle.rows.specs.Rows.{Wrote}
+use Rattle.sessions.specs.Logins.{numbersAfter}
 use Rattle.deliveries.specs.Receivers.{deliveriesText}
+use Rattle.opening.specs.Memory.{Arrays, stateOf}
 use Rattle.opening.specs.declared.answer.Opening.{Opening}
 use Rattle.opening.specs.declared.answer.Opening.the-variants as opening
 use Rattle.server.specs.declared.answer.Reply.{Reply}
 use Rattle.server.specs.declared.answer.Reply.the-variants as reply
+use Rattle.server.specs.Replies.{Lent, FieldsAfter}
 
 -- ── Lengths, in bytes ──
 -- `OK;` and `NO;`
@@ -51,14 +54,20 @@ abbrev pub Inside : Reply → ℕ → Type 0
 Inside (reply.Refused e) room = Unit {0}
 Inside (reply.Session n) room = Unit {0}
 Inside (reply.Length n) room = n ≤ room
-Inside (reply.Pushed k) room = Unit {0}
+Inside (reply.Accepted k at) room = Unit {0}
 
 -- the state, the buffer and the list that an act leaves
-abbrev pub Left : Outcome → State → Bytes → List ℕ → Type 0
-Left o s b l = (s ≡ o .state) × (b ≡ o .buffer) × (l ≡ o .list)
+abbrev pub Left : Outcome → State → Lent → Type 0
+Left o s left = (s ≡ o .state) × (left .buffer ≡ o .buffer) × (left .list ≡ o .list)
 
--- an act in a state: what it leaves, and what is printed for it, n bytes, written over the start of `before` as far as there is room
-pub record Responds (s : State) (a : Act) (after : State) (buffer : Bytes) (list : List ℕ) (before : Bytes) (n : ℕ) (out : Bytes) : Type 0 where
-  pub left : Left (outcome s a) after buffer list
-  pub wrote : Wrote 0 (printed (eventIn s a)) before n out
+-- a line with what is lent to it
+abbrev pub act : Bytes → Lent → Act
+act text given = line text (given .buffer) (given .list)
+
+-- a line: what it leaves, in meaning and in memory, and what is printed for it, n bytes, written over the start of `over` as far as there is room
+pub record Responds (before : Arrays) (text : Bytes) (given : Lent) (after : Arrays) (left : Lent) (over : Bytes) (n : ℕ) (out : Bytes) : Type 0 where
+  pub leaves : Left (outcome (stateOf before) (act text given)) (stateOf after) left
+  pub logins : after .logins ≡ numbersAfter (decision (stateOf before) (act text given)) (before .logins)
+  pub fields : FieldsAfter (decision (stateOf before) (act text given)) (before .fields) (after .fields)
+  pub wrote : Wrote 0 (printed (eventIn (stateOf before) (act text given))) over n out
   pub short : n ≤ mostPrinted

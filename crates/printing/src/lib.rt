@@ -4,27 +4,25 @@ use buffers::put_byte;
 use buffers::put_decimal;
 pub use copies::COPY;
 use deliveries::put_deliveries;
-use lexical::slice::until;
+use lexical::limits::LIST_ROOM;
 use opening::answer::Opening;
 use server::answer::Reply;
 use server::open::LOGINS;
 use server::open::RECORD;
 use server::open::TABLES;
 use server::request::request;
-use tables::memory::USERS;
 ghost use mathlib.Core.Path.{_≡_};
 ghost use Prim.Native.Nat.{_+_, _≤_};
 ghost use lib.ListN.{length};
 ghost use Rattle.rows.specs.Rows.{Wrote};
 ghost use Rattle.model.specs.Limits.{maxCopy};
-ghost use Rattle.model.specs.Serving as serving;
 ghost use Rattle.model.specs.Program.{printAnswer};
-ghost use Rattle.opening.specs.Memory.{stateIn};
-ghost use Rattle.server.specs.Replies.{answerIn};
+ghost use Rattle.opening.specs.Memory.{arrays};
+ghost use Rattle.server.specs.Replies.{answerIn, lent};
 ghost use Rattle.printing.specs.Printed.{markLength, mostNumbered, mostFault, numbered, openingText, Inside, Responds};
 
-// A push never reaches more sessions than there are users.
-pub const LIST: usize = USERS;
+// The list that a push is lent.
+pub const LIST: usize = LIST_ROOM;
 
 // `OK;` or `NO;`, a number and 0A.
 fn put_numbered(out: &mut [u8], mark: &[u8], n: usize) -> usize
@@ -50,11 +48,11 @@ fn put_answer(out: &mut [u8], reply: Reply, buffer: &[u8]) -> usize
             let to = put_numbered(out, b"OK;", n);
             put(out, to, &buffer[..n])
         }
-        Reply::Pushed(_) => put(out, 0, b"OK\n"),
+        Reply::Accepted(_, _) => put(out, 0, b"OK\n"),
     }
 }
 
-// One line answered, and what is printed for it: the answer, and for a push the deliveries, with path and value as they stand in the line.
+// One line answered, and what is printed for it: the answer, and for those who are told the deliveries, with path and value as they stand in the line.
 pub fn respond(
     tables: &[u8; TABLES],
     logins: &mut [u16; LOGINS],
@@ -65,19 +63,18 @@ pub fn respond(
     out: &mut [u8],
 ) -> usize
     ensures { λ r. ⌜ Responds
-        (stateIn (now (tables .entry)) (now (logins .entry)) (now (fields .entry)))
-        (serving.line (now (line .entry)) (now (buffer .entry)) (now (list .entry)))
-        (stateIn (now (tables .entry)) (now (logins .exit)) (now (fields .exit)))
-        (now (buffer .exit)) (now (list .exit))
+        (arrays (now (tables .entry)) (now (logins .entry)) (now (fields .entry)))
+        (now (line .entry)) (lent (now (buffer .entry)) (now (list .entry)))
+        (arrays (now (tables .entry)) (now (logins .exit)) (now (fields .exit)))
+        (lent (now (buffer .exit)) (now (list .exit)))
         (now (out .entry)) r (now (out .exit)) ⌝ }
 {
     let reply = request(tables, logins, fields, line, buffer, list);
     let to = put_answer(out, reply, buffer);
-    let Reply::Pushed(told) = reply else {
+    let Reply::Accepted(told, at) = reply else {
         return to;
     };
-    let from = until(line, 5, b';') + 1;
-    put_deliveries(out, to, list, told, &line[from..])
+    put_deliveries(out, to, list, told, &line[at..])
 }
 
 // `NO;number;text;line` for a refused opening; nothing for an accepted one.

@@ -9,10 +9,9 @@ use lib.ListN.{getD, take, drop}
 use Rattle.model.specs.Base.{Bytes}
 use Rattle.model.specs.Values.{Value}
 use Rattle.model.specs.Fields.{Keys, Fields, holds, fieldOf}
-use Rattle.model.specs.Refusals.{Result, refused, done, _>>_, refuse_if_}
-use Rattle.model.specs.Tables.{User, Rule}
+use Rattle.model.specs.Refusals.{refused, done, _>>=_, _>>_, refuse_if_}
 use Rattle.model.specs.Opening.{LoginState, emptyLogin}
-use Rattle.model.specs.Serving.{Change, stores, creating, indexIn, decidePush}
+use Rattle.model.specs.Serving.{stores, creating, decidePush}
 use Rattle.tables.specs.Memory.{userRow, usersBytes, userIn, usersIn, policyIn, tablesIn}
 use Rattle.model.specs.Rights.{mayWrite}
 use Rattle.record.specs.declared.table.Place.{Place}
@@ -22,25 +21,14 @@ use Rattle.record.proofs.Places.{at-holds, before-holds}
 use Rattle.sessions.specs.declared.SessionAt.{SessionAt}
 use Rattle.sessions.specs.declared.SessionAt.the-variants.{Of, Unknown}
 use Rattle.sessions.specs.Logins.{hasSession, sessionAnswer}
-use Rattle.sessions.proofs.Known.{inSession, no-session, in-session, session-unknown, session-known, session-user}
+use Rattle.sessions.proofs.Known.{no-session, in-session, session-unknown, session-known, session-user}
 use Rattle.pushes.specs.Rulings.{pushDecided}
 
--- what is decided for the user of an open session
-ruling : List Rule → LoginState → ℕ → Bool → Keys → Value → User → Result ℕ Change
-ruling rs a i held p v u =
-    (refuse 16 if not (mayWrite rs u p)) >> ((refuse 17 if not held && leb (u .quota) (a .created)) >>
-    done (stores i (creating a held) (fieldOf p v)))
-
 module _ (s : Bytes) (ls : List LoginState) (n : ℕ) {o : SessionAt} (found : o ≡ sessionAnswer (hasSession (usersIn s) ls n) n) where
-  module _ (fs : Fields) (p : Keys) (v : Value) where
-    push-decides : pushDecided (tablesIn s) ls fs n p v
-        ≡ inSession (usersIn s) ls n (ruling (policyIn (drop usersBytes s)) (getD ls (indexIn n) emptyLogin) (indexIn n) (holds p fs) p v)
-    unfolding tablesIn pushDecided decidePush ruling
-    push-decides = refl
-
-    -- no open session has the number
-    pub unknown-session : o ≡ Unknown → pushDecided (tablesIn s) ls fs n p v ≡ refused 14
-    unknown-session at = push-decides ∙ no-session (usersIn s) ls n _ (session-unknown s ls n found at)
+  -- no open session has the number
+  pub unknown-session : (fs : Fields) (p : Keys) (v : Value) → o ≡ Unknown → pushDecided (tablesIn s) ls fs n p v ≡ refused 14
+  unfolding tablesIn pushDecided decidePush _>>=_ _>>_ refuse_if_
+  unknown-session fs p v at = rw (no-session (record { tables = tablesIn s; loginStates = ls; fields = fs }) n (session-unknown s ls n found at))
 
   -- it is that of the user at i
   module _ {i : ℕ} (at : o ≡ Of i) where
@@ -58,11 +46,11 @@ module _ (s : Bytes) (ls : List LoginState) (n : ℕ) {o : SessionAt} (found : o
         ruled : pushDecided (tablesIn s) ls fs n p v
             ≡ ((refuse 16 if not r) >> ((refuse 17 if not (holds p fs) && leb (userIn row .quota) (getD ls i emptyLogin .created))
             >> done (stores i (creating (getD ls i emptyLogin) (holds p fs)) (fieldOf p v))))
-        unfolding ruling
+        unfolding tablesIn pushDecided decidePush _>>=_ _>>_ refuse_if_
         ruled =
             let (known, index) = session-known s ls n found at in
             let writes = rw part at may in
-            push-decides fs p v ∙ in-session (usersIn s) ls n _ (session-user s ls n found at is) known ∙ rw (← index, writes)
+            rw (in-session (record { tables = tablesIn s; loginStates = ls; fields = fs }) n (session-user s ls n found at is) known, ← index, writes)
 
         pub no-right : r ≡ false → pushDecided (tablesIn s) ls fs n p v ≡ refused 16
         unfolding _>>_ refuse_if_

@@ -2,14 +2,14 @@
 use Prim.Native.Nat.{ℕ}
 use mathlib.Core.Path.{_≡_}
 use mathlib.Core.List.{List}
-use lib.ListN.{getD}
 use Rattle.model.specs.Base.{Bytes}
+use Rattle.model.specs.Limits.{listRoom}
 use Rattle.model.specs.Values.{Value}
-use Rattle.model.specs.Fields.{Keys, Fields, holds, fieldOf}
-use Rattle.model.specs.Refusals.{Result, refused, done, _>>=_, _or_}
-use Rattle.model.specs.Tables.{Tables, userAt}
-use Rattle.model.specs.Opening.{LoginState, emptyLogin}
-use Rattle.model.specs.Serving.{Change, stores, indexIn, decidePush}
+use Rattle.model.specs.Fields.{Keys, Fields, fieldOf}
+use Rattle.model.specs.Refusals.{Result, refused, done}
+use Rattle.model.specs.Tables.{Tables}
+use Rattle.model.specs.Opening.{LoginState}
+use Rattle.model.specs.Serving.{Change, stores, decidePush}
 use Rattle.paths.specs.Layout.{pathIn}
 use Rattle.tables.specs.Memory.{tablesIn}
 use Rattle.record.specs.Slots.{fieldsIn}
@@ -28,12 +28,9 @@ abbrev pub PlaceFound : Ruling → Keys → Fields → Type 0
 PlaceFound (Refused e) p fs = Unit {0}
 PlaceFound (Stores i a l) p fs = l ≡ placeIn 0 p fs
 
--- "14; 16 the user may not write the path; 17 the field is absent and the user has created as many as the allowance"
+-- what is decided of a push, to which a list that is long enough was lent: "14; 16 ..; 17 .."
 unfoldable pub pushDecided : Tables → List LoginState → Fields → ℕ → Keys → Value → Result ℕ Change
-pushDecided t ls fs n p v = do
-  let i = indexIn n
-  u ← userAt (t .users) i or 14
-  decidePush (t .policy) i u (getD ls i emptyLogin) (holds p fs) n p v
+pushDecided t ls fs n p v = decidePush (record { tables = t; loginStates = ls; fields = fs }) n p v listRoom
 
 -- the ruling on a push at a path says what is decided, whatever the value, and where the search for the path ends
 pub record RuledAs (tables : Bytes) (logins : List ℕ) (fields : Bytes) (n : ℕ) (path : Bytes) (r : Ruling) : Type 0 where

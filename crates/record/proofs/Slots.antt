@@ -16,8 +16,7 @@ use Rattle.rows.specs.Positions.{placed}
 use Rattle.model.specs.Base.{Bytes}
 use Rattle.model.specs.Limits.{maxDepth, maxFields}
 use Rattle.model.specs.Fields.{fieldOf}
-use Rattle.model.specs.Values.{Value, truth, readValue, valueText}
-use Rattle.model.proofs.Valid.{validValue}
+use Rattle.model.specs.Values.{Value, truth, readValue, valueText, validValue}
 use Rattle.model.proofs.Spelling as spelling
 use Rattle.values.specs.declared.value.ValueAt.{ValueAt}
 use Rattle.values.specs.declared.value.ValueAt.the-variants.{Bad}

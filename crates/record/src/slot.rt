@@ -21,7 +21,7 @@ ghost use Rattle.values.specs.Scalars as scalars;
 ghost use Rattle.paths.specs.Layout.{pathSlot, pathIn};
 ghost use Rattle.record.specs.Slots.{valueRoom, slotBytes, textIn, heldValue, fieldIn, fieldsIn};
 ghost use Rattle.layout.specs.Layout.{isEmpty};
-ghost use Rattle.record.specs.Search.{placeIn, storedAt};
+ghost use Rattle.record.specs.Search.{placeIn, StoredField, storedAt};
 
 // The text of a slot's value.
 pub fn value_text(slot: &[u8]) -> &[u8]
@@ -69,6 +69,8 @@ pub fn store_value_at(table: &mut [u8; RECORD], place: Place, path: &[u8], v: Sc
     requires { ⌜ (pathSlot ≤ length (now path)) × (length (now text) ≤ maxText) × scalars.InText v (now text) ⌝ }
     requires { ⌜ (isEmpty (now path) ≡ false) × (place ≡ placeIn 0 (pathIn (now path)) (fieldsIn (now table))) ⌝ }
     ensures { λ _. ⌜ fieldsIn (now (table .exit)) ≡ storedAt (now (path .entry)) (scalars.valueIn (now (text .entry)) v) (fieldsIn (now (table .entry))) ⌝ }
+    ensures { λ _. ⌜ StoredField (now (table .entry))
+        (fieldOf (pathIn (now (path .entry))) (heldValue (scalars.valueIn (now (text .entry)) v))) (now (table .exit)) ⌝ }
 {
     let mut slot = [0u8; SLOT];
     fill(&mut slot, path, v, text);

@@ -17,7 +17,7 @@ ghost use Rattle.model.specs.Limits.{maxFields};
 ghost use Rattle.layout.specs.Layout.{isEmpty};
 ghost use Rattle.paths.specs.Layout.{pathSlot, pathIn};
 ghost use Rattle.record.specs.Slots.{slotBytes, fieldsIn};
-ghost use Rattle.record.specs.Search.{placeIn, storedIn};
+ghost use Rattle.record.specs.Search.{placeIn, storedBytes, storedIn};
 
 // In a slot, behind the path: how long the value's text is, and room for the longest.
 pub const TEXT: usize = PATH + 1;
@@ -76,6 +76,7 @@ pub fn find(table: &[u8; RECORD], path: &[u8]) -> Place
 pub fn store_at(table: &mut [u8; RECORD], place: Place, slot: &[u8; SLOT])
     requires { ⌜ (isEmpty (now slot) ≡ false) × (place ≡ placeIn 0 (pathIn (now slot)) (fieldsIn (now table))) ⌝ }
     ensures { λ _. ⌜ fieldsIn (now (table .exit)) ≡ storedIn (now (slot .entry)) (fieldsIn (now (table .entry))) ⌝ }
+    ensures { λ _. ⌜ now (table .exit) ≡ storedBytes place (now (slot .entry)) (now (table .entry)) ⌝ }
 {
     match place {
         Place::At(at) => replace_row(table, SLOT, SLOTS, at, slot),

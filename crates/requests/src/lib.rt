@@ -1,5 +1,6 @@
 // A request line taken apart.
 use buffers::copy;
+use lexical::class::End;
 use lexical::class::is_name;
 use lexical::limits::MAX_LINE;
 use lexical::limits::MAX_SESSION;
@@ -12,17 +13,21 @@ use paths::field::read_path;
 use values::value::Scalar;
 use values::value::ValueAt;
 use values::value::value_at;
-ghost use mathlib.Core.Path.{_≡_};
 ghost use Rattle.model.specs.Fields.{Keys};
 ghost use Rattle.model.specs.Requests.{readLogin, readGet, readPush, requestOf};
 ghost use Rattle.paths.specs.Layout.{pathIn};
-ghost use Rattle.requests.specs.Lines.{parsedAnswer, ParsedInText};
+ghost use Rattle.requests.specs.Lines.{Behind, ReadsAs, SlotKept};
 
-// A login, with the position of the `;` between user and key; a copy of a session; a value for a session, whose path is read into a slot.
+// What a session asks for: a copy; or a value for the path in the slot, both of which stand in the line from a position on.
+pub enum Ask {
+    Get,
+    Push(usize, Scalar),
+}
+
+// A login, with the positions where the user begins and ends: behind the `;` there stands the key. Or what the session of a number asks for.
 pub enum Request {
-    Login(usize),
-    Get(u32),
-    Push(u32, Scalar),
+    Login(usize, usize),
+    InSession(u32, Ask),
 }
 
 // What a line asks for, if it can be taken apart.
@@ -31,63 +36,71 @@ pub enum Parsed {
     Bad,
 }
 
+// Where a line goes on behind the word that it begins with.
+fn behind(line: &[u8], word: &[u8]) -> End
+    ensures { λ r. ⌜ Behind (now (word .entry)) (now (line .entry)) r ⌝ }
+{
+    if !starts(line, 0, word) {
+        return End::Bad;
+    }
+    End::At(word.len())
+}
+
 // `LOGIN;user;key`
 fn login_line(line: &[u8]) -> Parsed
-    ensures { λ r. ⌜ ((p : Keys) → parsedAnswer (now (line .entry)) p r ≡ readLogin (now (line .entry))) ⌝ }
-    ensures { λ r. ⌜ ParsedInText r (now (line .entry)) ⌝ }
+    ensures { λ r. ⌜ ((p : Keys) → ReadsAs readLogin (now (line .entry)) p r) ⌝ }
 {
-    if !starts(line, 0, b"LOGIN;") {
+    let End::At(from) = behind(line, b"LOGIN;") else {
         return Parsed::Bad;
-    }
-    let cut = until(line, 6, b';');
+    };
+    let cut = until(line, from, b';');
     if cut == line.len() {
         return Parsed::Bad;
     }
-    if !is_name(&line[6..cut]) {
+    if !is_name(&line[from..cut]) {
         return Parsed::Bad;
     }
-    let from = cut + 1;
-    if !is_name(&line[from..]) {
+    let key = cut + 1;
+    if !is_name(&line[key..]) {
         return Parsed::Bad;
     }
-    Parsed::Is(Request::Login(cut))
+    Parsed::Is(Request::Login(from, cut))
 }
 
 // `GET;session`
 fn get_line(line: &[u8]) -> Parsed
-    ensures { λ r. ⌜ ((p : Keys) → parsedAnswer (now (line .entry)) p r ≡ readGet (now (line .entry))) ⌝ }
-    ensures { λ r. ⌜ ParsedInText r (now (line .entry)) ⌝ }
+    ensures { λ r. ⌜ ((p : Keys) → ReadsAs readGet (now (line .entry)) p r) ⌝ }
 {
-    if !starts(line, 0, b"GET;") {
-        return Parsed::Bad;
-    }
-    let Natural::Is(session) = number(&line[4..], MAX_SESSION) else {
+    let End::At(from) = behind(line, b"GET;") else {
         return Parsed::Bad;
     };
-    Parsed::Is(Request::Get(session as u32))
+    let Natural::Is(session) = number(&line[from..], MAX_SESSION) else {
+        return Parsed::Bad;
+    };
+    Parsed::Is(Request::InSession(session as u32, Ask::Get))
 }
 
 // `PUSH;session;path;value`, the path read into the slot
 fn push_line(line: &[u8], path: &mut [u8; PATH]) -> Parsed
-    ensures { λ r. ⌜ parsedAnswer (now (line .entry)) (pathIn (now (path .exit))) r ≡ readPush (now (line .entry)) ⌝ }
-    ensures { λ r. ⌜ ParsedInText r (now (line .entry)) ⌝ }
+    ensures { λ r. ⌜ ReadsAs readPush (now (line .entry)) (pathIn (now (path .exit))) r ⌝ }
+    ensures { λ r. ⌜ SlotKept r (now (path .entry)) (now (path .exit)) ⌝ }
 {
-    if !starts(line, 0, b"PUSH;") {
+    let End::At(from) = behind(line, b"PUSH;") else {
         return Parsed::Bad;
-    }
-    let a = until(line, 5, b';');
+    };
+    let a = until(line, from, b';');
     if a == line.len() {
         return Parsed::Bad;
     }
-    let from = a + 1;
-    let b = until(line, from, b';');
+    let at = a + 1;
+    let b = until(line, at, b';');
     if b == line.len() {
         return Parsed::Bad;
     }
-    let Natural::Is(session) = number(&line[5..a], MAX_SESSION) else {
+    let Natural::Is(session) = number(&line[from..a], MAX_SESSION) else {
         return Parsed::Bad;
     };
-    let read = read_path(&line[from..b]);
+    let read = read_path(&line[at..b]);
     if !read.ok {
         return Parsed::Bad;
     }
@@ -99,13 +112,13 @@ fn push_line(line: &[u8], path: &mut [u8; PATH]) -> Parsed
     }
     let slot = read.slot;
     copy(path, &slot);
-    Parsed::Is(Request::Push(session as u32, value))
+    Parsed::Is(Request::InSession(session as u32, Ask::Push(at, value)))
 }
 
 // What a line asks for.
 pub fn parse(line: &[u8], path: &mut [u8; PATH]) -> Parsed
-    ensures { λ r. ⌜ parsedAnswer (now (line .entry)) (pathIn (now (path .exit))) r ≡ requestOf (now (line .entry)) ⌝ }
-    ensures { λ r. ⌜ ParsedInText r (now (line .entry)) ⌝ }
+    ensures { λ r. ⌜ ReadsAs requestOf (now (line .entry)) (pathIn (now (path .exit))) r ⌝ }
+    ensures { λ r. ⌜ SlotKept r (now (path .entry)) (now (path .exit)) ⌝ }
 {
     if MAX_LINE < line.len() {
         return Parsed::Bad;

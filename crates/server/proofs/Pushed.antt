@@ -1,4 +1,4 @@
--- A line that asks for a push, and what an accepted and a refused push leave.
+-- A line that asks for something, and what an accepted and a refused push leave.
 use Prim.Native.Nat.{ℕ, _≤_, _<_}
 use mathlib.Core.Path.{_≡_, refl, sym, _∙_}
 use mathlib.Core.Bool.{false}
@@ -7,19 +7,18 @@ use mathlib.Core.List.{List}
 use native.Mathlib.Omega.{arith}
 use borrow.Author.Tests.{lt-ltb, le-ltb, ne-eqb, leb-true}
 use lib.Dec.{ltb}
-use lib.ListN.{length, getD, set}
+use lib.ListN.{length, getD}
 use Rattle.model.specs.Base.{Bytes}
 use Rattle.model.specs.Limits.{maxUsers, maxDepth, maxLine, listRoom}
 use Rattle.model.specs.Values.{Value, truth}
-use Rattle.model.specs.Fields.{Keys}
-use Rattle.model.specs.Refusals.{_>>_, refuse_if_}
+use Rattle.model.specs.Fields.{Keys, validKeys, fieldOf}
+use Rattle.model.specs.Refusals.{Result, refused, done, _>>_, refuse_if_}
 use Rattle.model.specs.Tables.{userAt}
 use Rattle.model.specs.Opening.{State}
 use Rattle.model.specs.Requests as model
-use Rattle.model.specs.Serving.{loginAt, roomFor, decide, apply, notified, shown, answerOf, over, conclude, served, line, outcome}
+use Rattle.model.specs.Serving.{Change, stores, decidePush, roomFor, decide, apply, notified, shown, answerOf, over, conclude, line, decideLine, decision}
 use Rattle.model.proofs.Lists.{and-both, elem-below}
 use Rattle.model.proofs.Reading.{check-some, within-bounds}
-use Rattle.model.proofs.Valid.{validKeys}
 use Rattle.model.proofs.Sound.{push-valid}
 use Rattle.model.proofs.Decisions.{decided}
 use Rattle.paths.specs.Layout.{pathIn}
@@ -29,53 +28,53 @@ use Rattle.tables.specs.Memory.{userRow, userIn, usersIn, tablesIn}
 use Rattle.layout.proofs.Used.{length-table, used-fit}
 use Rattle.record.specs.Slots.{heldValue, fieldsIn}
 use Rattle.record.specs.declared.table.Place.{Place}
-use Rattle.record.specs.Search.{placeIn, storedAt}
+use Rattle.record.specs.Search.{placeIn, StoredField, storedAt}
 use Rattle.record.proofs.Slots.{held-valid}
 use Rattle.sessions.specs.declared.LoginState as code
-use Rattle.sessions.specs.Logins.{loginsIn, stateOf}
+use Rattle.sessions.specs.Logins.{loginsIn, stateOf, StateStored}
 use Rattle.pushes.specs.declared.Ruling.{Ruling}
 use Rattle.pushes.specs.declared.Ruling.the-variants as ruling
 use Rattle.pushes.specs.Rulings.{rulingAnswer, pushDecided, RuledAs}
-use Rattle.deliveries.specs.Receivers.{Reached}
+use Rattle.deliveries.specs.Receivers.{Listed}
 use Rattle.deliveries.proofs.Received.{receivers-of}
 use Rattle.requests.specs.declared.Request.{Request}
 use Rattle.requests.specs.declared.Parsed.{Parsed}
 use Rattle.requests.specs.declared.Parsed.the-variants.{Is, Bad}
-use Rattle.requests.specs.Lines.{requestIn, parsedAnswer, RequestInText, ParsedInText}
-use Rattle.server.specs.declared.answer.Reply.the-variants.{Refused, Pushed}
-use Rattle.opening.specs.Memory.{stateIn}
-use Rattle.server.specs.Replies.{outcomeIn}
-use Rattle.server.proofs.Replied.{no-request, request-refused}
+use Rattle.requests.specs.Lines.{requestIn, ReadsAs, RequestStands, PushStands}
+use Rattle.opening.specs.Memory.{arrays, stateIn}
+use Rattle.server.specs.declared.answer.Reply.the-variants.{Accepted}
+use Rattle.server.specs.Replies.{outcomeIn, lent, Leaves}
 
--- a line that cannot be taken apart
-pub line-refused : (s path : Bytes) {r : Parsed} → parsedAnswer s (pathIn path) r ≡ model.requestOf s → r ≡ Bad
-    → (st : State) (b : Bytes) (l : List ℕ) → outcomeIn (Refused 11) st b l ≡ outcome st (line s b l)
-unfolding outcome
-line-refused s path answer is st b l = no-request st b l ∙ rw (← answer, is)
+-- ── A line s that was taken apart, its path in a slot ──
+module _ (s path : Bytes) {r : Parsed} (answer : ReadsAs model.requestOf s (pathIn path) r) where
+  -- it cannot be taken apart
+  pub line-refused : r ≡ Bad → (st : State) (b : Bytes) (l : List ℕ) → decision st (line s b l) ≡ refused 11
+  unfolding decision decideLine
+  line-refused is st b l = rw (← answer .asks, is)
 
--- ── A line s that was taken apart, its path in a slot: r says that it asks for something, which was matched with q ──
-module _ (s path : Bytes) {r : Parsed} {asked q : Request} (answer : parsedAnswer s (pathIn path) r ≡ model.requestOf s) (is : r ≡ Is asked)
-    (kind : asked ≡ q) where
-  pub asks : model.requestOf s ≡ some (requestIn s (pathIn path) q)
-  asks = sym answer ∙ rw (is, kind)
+  -- r says that it asks for something, which was matched with q
+  module _ {asked q : Request} (is : r ≡ Is asked) (kind : asked ≡ q) where
+    pub asks : model.requestOf s ≡ some (requestIn s (pathIn path) q)
+    asks = sym (answer .asks) ∙ rw (is, kind)
 
-  pub asked-inside : ParsedInText r s → RequestInText q s
-  asked-inside h = rw (is, kind) at h
+    pub asked-stands : RequestStands s (pathIn path) q
+    asked-stands = rw (is, kind) at (answer .stands)
 
-  pub asked-short : length s ≤ maxLine
-  unfolding model.requestOf
-  asked-short = check-some _ _ _ asks λ t k. leb-true _ _ t
+    pub asked-short : length s ≤ maxLine
+    unfolding model.requestOf
+    asked-short = check-some _ _ _ asks λ t k. leb-true _ _ t
 
-  pub line-served : (st : State) (b : Bytes) (l : List ℕ) → served st b l (some (requestIn s (pathIn path) q)) ≡ outcome st (line s b l)
-  unfolding outcome
-  line-served st b l = rw asks
+    pub line-decided : (st : State) (b : Bytes) (l : List ℕ)
+        → decision st (line s b l) ≡ decide st (requestIn s (pathIn path) q) (roomFor (requestIn s (pathIn path) q) b l)
+    unfolding decision decideLine
+    line-decided st b l = rw asks
 
 -- a push has keys, and a value within its limits
-pub push-asked : (s path : Bytes) {n : ℕ} {v : Value} → model.requestOf s ≡ some (model.push n (pathIn path) v)
+pub push-asked : (s path : Bytes) {n : ℕ} {v : Value} → model.requestOf s ≡ some (model.inSession n (model.push (pathIn path) v))
     → (isEmpty path ≡ false) × (heldValue v ≡ v)
-unfolding isEmpty validKeys pathIn
+unfolding isEmpty validKeys pathIn model.pushOf
 push-asked s path {n} {v} h =
-    let valid = push-valid s n (pathIn path) v h in
+    let valid = push-valid s _ (fieldOf (pathIn path) v) refl h in
     let bounds = within-bounds 1 maxDepth (length (pathIn path)) (and-both _ _ (valid .path) .0) in
     let count = length-counted nameIn keyRow maxDepth path in
     (ne-eqb (getD path 0 0) 0 (λ e. omega arith), held-valid v (valid .value))
@@ -85,27 +84,22 @@ module _ (tables : Bytes) (logins : List ℕ) (fields : Bytes) (n : ℕ) (path :
   abbrev p : Keys
   p = pathIn path
 
-  push-decides : (room : ℕ) (v : Value) → decide (stateIn tables logins fields) (model.push n p v) room
-      ≡ ((refuse 15 if ltb room listRoom) >> pushDecided (tablesIn tables) (loginsIn logins) (fieldsIn fields) n p v)
-  unfolding decide stateIn loginAt pushDecided
+  abbrev pushing : Value → ℕ → Result ℕ Change
+  pushing v room = decide (stateIn tables logins fields) (model.inSession n (model.push p v)) room
+
+  push-decides : (room : ℕ) (v : Value) → pushing v room ≡ ((refuse 15 if ltb room listRoom) >> pushDecided (tablesIn tables) (loginsIn logins) (fieldsIn fields) n p v)
+  unfolding decide decidePush stateIn pushDecided refuse_if_ _>>_
   push-decides room v = refl
 
-  pub push-short : (b : Bytes) (l : List ℕ) → length l < listRoom → (v : Value)
-      → outcomeIn (Refused 15) (stateIn tables logins fields) b l ≡ served (stateIn tables logins fields) b l (some (model.push n p v))
-  unfolding roomFor refuse_if_ _>>_
-  push-short b l h v = request-refused _ b l (model.push n p v) (push-decides (length l) v ∙ rw (lt-ltb (length l) listRoom h))
+  pub push-short : (room : ℕ) → room < listRoom → (v : Value) → pushing v room ≡ refused 15
+  unfolding refuse_if_ _>>_
+  push-short room h v = push-decides room v ∙ rw (lt-ltb room listRoom h)
 
   -- o is the ruling
   module _ {o : Ruling} (ruled : RuledAs tables logins fields n path o) where
-    push-ruled : {w : Ruling} → o ≡ w → (room : ℕ) → listRoom ≤ room → (v : Value)
-        → decide (stateIn tables logins fields) (model.push n p v) room ≡ rulingAnswer w p v
+    pub push-ruled : {w : Ruling} → o ≡ w → (room : ℕ) → listRoom ≤ room → (v : Value) → pushing v room ≡ rulingAnswer w p v
     unfolding refuse_if_ _>>_
     push-ruled is room h v = push-decides room v ∙ rw (le-ltb room listRoom h, ← ruled .answers v, is)
-
-    pub push-refused : {e : ℕ} → o ≡ ruling.Refused e → (b : Bytes) (l : List ℕ) → listRoom ≤ length l → (v : Value)
-        → outcomeIn (Refused e) (stateIn tables logins fields) b l ≡ served (stateIn tables logins fields) b l (some (model.push n p v))
-    unfolding roomFor
-    push-refused is b l h v = request-refused _ b l (model.push n p v) (push-ruled is (length l) h v)
 
     module _ {i : ℕ} {a : code.LoginState} {l : Place} (is : o ≡ ruling.Stores i a l) where
       -- the field is stored where the search for its path ended
@@ -116,15 +110,20 @@ module _ (tables : Bytes) (logins : List ℕ) (fields : Bytes) (n : ℕ) (path :
       pub push-below : i < maxUsers
       unfolding stateIn tablesIn usersIn userAt
       push-below =
-          let stored = decided (stateIn tables logins fields) (model.push n p (truth false)) listRoom _ (push-ruled is listRoom (omega arith) (truth false)) in
+          let stored = decided (stateIn tables logins fields) (model.inSession n (model.push p (truth false))) listRoom _ (push-ruled is listRoom (omega arith) (truth false)) in
           let below = elem-below (usersIn tables) i (stored .user) (stored .isUser) in
           omega (arith, below, length-table userIn userRow maxUsers tables, used-fit userRow maxUsers tables)
 
       -- the numbers are listed, the login state is put, the value is stored
       pub push-done : (b : Bytes) (l : List ℕ) → listRoom ≤ length l → {told : ℕ} {l₁ : List ℕ} (logins₁ : List ℕ) (fields₁ : Bytes)
-          → Reached tables logins i path l told l₁ → loginsIn logins₁ ≡ set (loginsIn logins) i (stateOf a)
-          → (v : Value) → fieldsIn fields₁ ≡ storedAt path v (fieldsIn fields) → (isEmpty path ≡ false) × (heldValue v ≡ v)
-          → outcomeIn (Pushed told) (stateIn tables logins₁ fields₁) b l₁ ≡ served (stateIn tables logins fields) b l (some (model.push n p v))
-      unfolding outcomeIn stateIn served roomFor conclude answerOf apply shown notified over storedAt
-      push-done b l h logins₁ fields₁ reached state v stored (keyed, held) =
-          rw (reached .listed, reached .counted, state, stored, keyed, held, push-ruled is (length l) h v, receivers-of (stateIn tables logins fields) i p)
+          → Listed tables logins i path l told l₁ → StateStored logins i (stateOf a) logins₁
+          → (v : Value) → fieldsIn fields₁ ≡ storedAt path v (fieldsIn fields) → StoredField fields (fieldOf p (heldValue v)) fields₁
+          → isEmpty path ≡ false → heldValue v ≡ v → (text : Bytes) (at : ℕ) → PushStands text p at v
+          → Leaves (pushing v (length l)) text (arrays tables logins fields) (lent b l) (Accepted told at) (arrays tables logins₁ fields₁) (lent b l₁)
+      unfolding outcomeIn stateIn conclude answerOf apply shown notified over storedAt
+      push-done b l h logins₁ fields₁ reached state v stored bytes keyed held text at stands = rw (push-ruled is (length l) h v) (record {
+        is = rw (reached .listed, reached .counted, state .states, stored, keyed, held, receivers-of (stateIn tables logins fields) i p);
+        logins = state .numbers;
+        fields = rw held at bytes;
+        position = stands;
+      })

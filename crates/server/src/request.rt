@@ -8,10 +8,12 @@ use copies::put_head;
 use copies::select;
 use deliveries::put_receivers;
 use layout::table::row_at;
+use lexical::limits::LIST_ROOM;
 use paths::field::PATH;
 use pushes::Ruling;
 use pushes::decide;
 use record::slot::store_value_at;
+use requests::Ask;
 use requests::Parsed;
 use requests::Request;
 use requests::parse;
@@ -20,7 +22,6 @@ use sessions::SessionAt;
 use sessions::put_state;
 use sessions::session;
 use tables::memory::USER;
-use tables::memory::USERS;
 use tables::memory::policy_of;
 use values::value::Scalar;
 use writer::saved::MOST_SAVED;
@@ -31,14 +32,20 @@ ghost use Rattle.paths.specs.Layout.{pathIn};
 ghost use Rattle.opening.specs.Memory.{arrays};
 ghost use Rattle.server.specs.Replies.{lent, Served, LoginServed, GetServed, PushServed, Storable};
 
-// LOGIN, the user and the key in the line before and behind the `;` at `cut`.
-fn login(tables: &[u8; TABLES], logins: &mut [u16; LOGINS], line: &[u8], cut: usize) -> Reply
-    requires { ⌜ (6 ≤ cut) × (cut < length (now line)) ⌝ }
+// LOGIN, the user in the line from a position up to the `;` at `cut`, behind which the key stands.
+fn login(
+    tables: &[u8; TABLES],
+    logins: &mut [u16; LOGINS],
+    line: &[u8],
+    from: usize,
+    cut: usize,
+) -> Reply
+    requires { ⌜ (from ≤ cut) × (cut < length (now line)) ⌝ }
     ensures { λ r. ⌜ LoginServed (now (tables .entry)) (now (logins .entry))
-        (now (line .entry)) cut r (now (logins .exit)) ⌝ }
+        (now (line .entry)) from cut r (now (logins .exit)) ⌝ }
 {
-    let from = cut + 1;
-    match sessions::login(tables, logins, &line[6..cut], &line[from..]) {
+    let key = cut + 1;
+    match sessions::login(tables, logins, &line[from..cut], &line[key..]) {
         LoginReply::Session(n) => Reply::Session(n),
         LoginReply::Refused(e) => Reply::Refused(e),
     }
@@ -73,7 +80,7 @@ fn get(
     Reply::Length(length)
 }
 
-// PUSH, the value a part of the line: the list is filled before anything is changed.
+// PUSH of what stands in the line from a position on: the list is filled before anything is changed.
 fn push(
     tables: &[u8; TABLES],
     logins: &mut [u16; LOGINS],
@@ -82,15 +89,16 @@ fn push(
     path: &[u8; PATH],
     value: Scalar,
     line: &[u8],
+    at: usize,
     list: &mut [u32],
 ) -> Reply
-    requires { ⌜ Storable (now path) (now line) value ⌝ }
+    requires { ⌜ Storable (now path) (now line) at value ⌝ }
     ensures { λ r. ⌜ PushServed
         (arrays (now (tables .entry)) (now (logins .entry)) (now (fields .entry)))
-        n (pathIn (now (path .entry))) (valueIn (now (line .entry)) value) (now (list .entry)) r
+        (now (line .entry)) n (pathIn (now (path .entry))) (valueIn (now (line .entry)) value) (now (list .entry)) r
         (arrays (now (tables .entry)) (now (logins .exit)) (now (fields .exit))) (now (list .exit)) ⌝ }
 {
-    if list.len() < USERS {
+    if list.len() < LIST_ROOM {
         return Reply::Refused(15);
     }
     let ruling = decide(tables, logins, fields, n, path);
@@ -100,7 +108,7 @@ fn push(
             let told = put_receivers(list, tables, logins, i, path);
             put_state(logins, i, state);
             store_value_at(fields, place, path, value, line);
-            Reply::Pushed(told)
+            Reply::Accepted(told, at)
         }
     }
 }
@@ -125,8 +133,10 @@ pub fn request(
         return Reply::Refused(11);
     };
     match asked {
-        Request::Login(cut) => login(tables, logins, line, cut),
-        Request::Get(n) => get(tables, logins, fields, n, buffer),
-        Request::Push(n, value) => push(tables, logins, fields, n, &path, value, line, list),
+        Request::Login(from, cut) => login(tables, logins, line, from, cut),
+        Request::InSession(n, ask) => match ask {
+            Ask::Get => get(tables, logins, fields, n, buffer),
+            Ask::Push(at, value) => push(tables, logins, fields, n, &path, value, line, at, list),
+        },
     }
 }

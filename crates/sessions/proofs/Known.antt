@@ -8,10 +8,10 @@ use native.Mathlib.Omega.{arith}
 use lib.ListN.{length, getD, take, drop}
 use Rattle.model.specs.Base.{Bytes}
 use Rattle.model.specs.Limits.{maxUsers}
-use Rattle.model.specs.Refusals.{Result, refused, _>>=_, _>>_, refuse_if_, _or_}
+use Rattle.model.specs.Refusals.{refused, done, _>>=_, _>>_, refuse_if_, _or_}
 use Rattle.model.specs.Tables.{User, userAt}
-use Rattle.model.specs.Opening.{LoginState, emptyLogin}
-use Rattle.model.specs.Serving.{Change, isSession, indexIn}
+use Rattle.model.specs.Opening.{LoginState, State, emptyLogin}
+use Rattle.model.specs.Serving.{indexIn, isSession, loginAt, asker}
 use Rattle.model.proofs.Lists.{never, elem-below}
 use Rattle.layout.specs.Layout.{inUse}
 use Rattle.tables.specs.Memory.{userRow, usersBytes, userIn, usersIn}
@@ -21,21 +21,19 @@ use Rattle.sessions.specs.declared.SessionAt.{SessionAt}
 use Rattle.sessions.specs.declared.SessionAt.the-variants.{Of, Unknown}
 use Rattle.sessions.specs.Logins.{sessionIs, hasSession, sessionAnswer}
 
--- 14, or what is decided for the session's user
-module _ (us : List User) (ls : List LoginState) (n : ℕ) (f : User → Result ℕ Change) where
-  abbrev pub inSession : Result ℕ Change
-  inSession = (userAt us (indexIn n) or 14) >>= λ u. (refuse 14 if not (isSession (indexIn n) (getD ls (indexIn n) emptyLogin) n)) >> f u
-
-  pub no-session : hasSession us ls n ≡ false → inSession ≡ refused 14
-  unfolding hasSession sessionIs _>>=_ _>>_ _or_ refuse_if_
-  no-session h = go (userAt us (indexIn n)) refl
+-- 14, or the session's user
+module _ (s : State) (n : ℕ) where
+  pub no-session : hasSession (s .tables .users) (s .loginStates) n ≡ false → asker s n ≡ refused 14
+  unfolding hasSession sessionIs asker loginAt _>>=_ _>>_ _or_ refuse_if_
+  no-session h = go (userAt (s .tables .users) (indexIn n)) refl
     where
-      go : (o : Option User) → userAt us (indexIn n) ≡ o → inSession ≡ refused 14
+      go : (o : Option User) → userAt (s .tables .users) (indexIn n) ≡ o → asker s n ≡ refused 14
       go none e = rw e
       go (some u) e = rw (e, rw e at h)
 
-  pub in-session : {u : User} → userAt us (indexIn n) ≡ some u → hasSession us ls n ≡ true → inSession ≡ f u
-  unfolding hasSession sessionIs _>>=_ _>>_ _or_ refuse_if_
+  pub in-session : {u : User} → userAt (s .tables .users) (indexIn n) ≡ some u → hasSession (s .tables .users) (s .loginStates) n ≡ true
+      → asker s n ≡ done (record { index = indexIn n; user = u; login = getD (s .loginStates) (indexIn n) emptyLogin })
+  unfolding hasSession sessionIs asker loginAt _>>=_ _>>_ _or_ refuse_if_
   in-session e h = rw (e, rw e at h)
 
 -- o is what the search for the session answered

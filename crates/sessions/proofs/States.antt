@@ -12,15 +12,15 @@ use mir.Val.{boolByte}
 use lib.Dec.{eqb}
 use lib.ListN.{length, getD, getElem?, take, drop, set}
 use lib.Seq.{sets, sets-eq, drop-drop}
-use Rattle.rows.specs.Rows.{rows, replaced}
+use Rattle.rows.specs.Rows.{rows, replaced, written}
 use Rattle.rows.proofs.Rows.{length-rows, row-at, rows-set, map-set, getD-map}
 use Rattle.rows.proofs.Parts.{part-at, part-part}
-use Rattle.model.specs.Base.{Bytes, firstFrom, _==_}
+use Rattle.model.specs.Base.{Bytes, if_then_else_, firstFrom, _==_}
 use Rattle.model.specs.Limits.{maxUsers, perUser, maxLogins}
 use Rattle.model.specs.Refusals.{refused, done, _>>=_, _>>_, refuse_if_, _or_}
 use Rattle.model.specs.Tables.{User, userAt, userNamed}
 use Rattle.model.specs.Opening.{LoginState, emptyLogin}
-use Rattle.model.specs.Serving.{enters, decideLogin, isSession, indexIn, sessionNumber}
+use Rattle.model.specs.Serving.{setsLogin, loginAt, decideLogin, isSession, indexIn, sessionNumber}
 use Rattle.model.proofs.Lists.{by-cases, elem-below}
 use Rattle.layout.specs.Layout.{inUse, nameRow, nameIn}
 use Rattle.tables.specs.Memory.{userRow, keyAt, userIn, usersIn, userAnswer}
@@ -29,13 +29,17 @@ use Rattle.tables.specs.declared.memory.UserAt.the-variants.{At, Unknown}
 use Rattle.layout.proofs.Used.{length-table, counted-fit}
 use Rattle.tables.proofs.Users.{user-none, user-some}
 use Rattle.sessions.specs.declared.LoginState as code
-use Rattle.sessions.specs.Logins.{loginRow, loginNumbers, loginIn, loginsIn, stateOf, entered, loginDecided, sessionIs, hasSession}
+use Rattle.sessions.specs.Logins.{loginRow, loginNumbers, loginIn, loginsIn, stateOf, numbersOf, withLogin, StateStored, entered, loginDecided, sessionIs, hasSession}
 
 -- ── A login state in its three numbers ──
 -- a flag is stored as 1 or 0
 flag : (b : Bool) → not (eqb (boolByte b) 0) ≡ b
 flag true = refl
 flag false = refl
+
+flag-byte : (b : Bool) → boolByte b ≡ (if b then 1 else 0)
+flag-byte true = refl
+flag-byte false = refl
 
 module _ (s : List ℕ) (i : ℕ) (below : i < maxUsers) where
   -- three numbers read
@@ -49,14 +53,23 @@ module _ (s : List ℕ) (i : ℕ) (below : i < maxUsers) where
       ∙ rw (row-at loginRow i maxUsers s [] below, at 0 (omega arith), at 1 (omega arith), at 2 (omega arith), add-zero)
 
   -- three numbers stored
-  pub state-put : length s ≡ loginNumbers → (a : ℕ) (b : Bool) (c : ℕ)
-      → loginsIn (set (set (set s (i * loginRow) a) (i * loginRow + 1) (boolByte b)) (i * loginRow + 2) c)
-      ≡ set (loginsIn s) i (record { logins = a; isOpen = b; created = c })
-  unfolding loginsIn loginIn
-  state-put long a b c =
-      let row = a ∷ boolByte b ∷ c ∷ [] in
-      let e : sets s (i * loginRow) row ≡ replaced (i * loginRow) loginRow row s = sets-eq row s (i * loginRow) (omega arith) ∙ rw (append-assoc, drop-drop) in
-      rw (add-one (i * loginRow), add-two (i * loginRow), e, rows-set loginRow i maxUsers row s refl below (omega arith), map-set, flag b)
+  module _ (a : ℕ) (b : Bool) (c : ℕ) where
+    abbrev put : List ℕ
+    put = set (set (set s (i * loginRow) a) (i * loginRow + 1) (boolByte b)) (i * loginRow + 2) c
+
+    numbers-put : put ≡ withLogin i (record { logins = a; isOpen = b; created = c }) s
+    unfolding withLogin numbersOf written
+    numbers-put = rw (flag-byte b, add-one (i * loginRow), add-two (i * loginRow))
+
+    states-put : length s ≡ loginNumbers → loginsIn put ≡ set (loginsIn s) i (record { logins = a; isOpen = b; created = c })
+    unfolding loginsIn loginIn
+    states-put long =
+        let row = a ∷ boolByte b ∷ c ∷ [] in
+        let e : sets s (i * loginRow) row ≡ replaced (i * loginRow) loginRow row s = sets-eq row s (i * loginRow) (omega arith) ∙ rw (append-assoc, drop-drop) in
+        rw (add-one (i * loginRow), add-two (i * loginRow), e, rows-set loginRow i maxUsers row s refl below (omega arith), map-set, flag b)
+
+    pub state-put : length s ≡ loginNumbers → StateStored s i (record { logins = a; isOpen = b; created = c }) put
+    state-put long = record { numbers = numbers-put; states = states-put long }
 
 -- ── One login more; up to the last ──
 abbrev pub capped : ℕ → ℕ
@@ -126,8 +139,8 @@ module _ (s n : Bytes) {o : UserAt} {i : ℕ} (at : o ≡ At i) (found : o ≡ u
   module _ (ls : List LoginState) (k : Bytes) {key : Bytes} {r : Bool} (is : key ≡ nameIn (take nameRow (drop (i * userRow + keyAt) s))) (same : r ≡ (key == k)) where
     -- the comparison stands for the key's
     login-is : loginDecided (usersIn s) ls n k
-        ≡ ((refuse 12 if not r) >> ((refuse 13 if getD ls i emptyLogin .isOpen) >> done (enters i (entered (getD ls i emptyLogin)))))
-    unfolding loginDecided decideLogin entered userIn _>>=_ _or_ _>>_ refuse_if_
+        ≡ ((refuse 12 if not r) >> ((refuse 13 if getD ls i emptyLogin .isOpen) >> done (setsLogin i (entered (getD ls i emptyLogin)))))
+    unfolding loginDecided decideLogin loginAt entered userIn _>>=_ _or_ _>>_ refuse_if_
     login-is = rw (found-row, part-part (i * userRow) userRow s keyAt nameRow (omega arith), ← is, ← same)
 
     -- the key is another; the user's login state is a, with a session or without
@@ -140,14 +153,14 @@ module _ (s n : Bytes) {o : UserAt} {i : ℕ} (at : o ≡ At i) (found : o ≡ u
       unfolding _>>_ refuse_if_
       has-session h = login-is ∙ rw (right, ← state, h)
 
-      pub login-enters : a .isOpen ≡ false → {b : LoginState} → b ≡ entered a → loginDecided (usersIn s) ls n k ≡ done (enters i b)
+      pub login-enters : a .isOpen ≡ false → {b : LoginState} → b ≡ entered a → loginDecided (usersIn s) ls n k ≡ done (setsLogin i b)
       unfolding entered _>>_ refuse_if_
       login-enters h e = login-is ∙ rw (right, ← state, h, e)
 
 -- nobody has the name
 pub login-unknown : (s n : Bytes) {o : UserAt} → o ≡ Unknown → o ≡ userAnswer (userNamed n (usersIn s)) → (ls : List LoginState) (k : Bytes)
     → loginDecided (usersIn s) ls n k ≡ refused 12
-unfolding loginDecided _>>=_ _or_
+unfolding loginDecided decideLogin _>>=_ _or_
 login-unknown s n at found ls k = go (userNamed n (usersIn s)) refl (sym at ∙ found)
   where
     go : (o : Option (ℕ × User)) → userNamed n (usersIn s) ≡ o → Unknown ≡ userAnswer o → loginDecided (usersIn s) ls n k ≡ refused 12

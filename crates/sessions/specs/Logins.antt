@@ -2,18 +2,18 @@
 use Prim.Native.Nat.{ℕ, _*_}
 use mathlib.Core.Path.{_≡_}
 use mathlib.Core.Bool.{Bool, true, false, not}
-use mathlib.Core.List.{List, map}
+use mathlib.Core.List.{List, [], _∷_, map}
 use mathlib.Core.Option.{Option, none, some}
 use lib.Dec.{eqb}
 use lib.ListN.{getD, set}
-use Rattle.rows.specs.Rows.{rows}
-use Rattle.model.specs.Base.{Bytes}
+use Rattle.rows.specs.Rows.{rows, written}
+use Rattle.model.specs.Base.{Bytes, if_then_else_}
 use Rattle.model.specs.Limits.{maxUsers}
-use Rattle.model.specs.Refusals.{Result, refused, done, _>>=_, _or_}
-use Rattle.model.specs.Tables.{User, userAt, userNamed}
+use Rattle.model.specs.Refusals.{Result, refused, done}
+use Rattle.model.specs.Tables.{User, userAt}
 use Rattle.model.specs.Opening.{LoginState, emptyLogin}
 use Rattle.model.specs.Serving as serving
-use Rattle.model.specs.Serving.{Change, enters, shows, stores, isSession, indexIn, sessionNumber, decideLogin}
+use Rattle.model.specs.Serving.{Change, setsLogin, shows, stores, isSession, indexIn, sessionNumber, decideLogin}
 use Rattle.tables.specs.Memory.{usersIn}
 use Rattle.sessions.specs.declared.LoginState as code
 use Rattle.sessions.specs.declared.LoginReply.{LoginReply}
@@ -41,40 +41,55 @@ loginsIn s = map loginIn (rows loginRow maxUsers s)
 unfoldable pub stateOf : code.LoginState → LoginState
 stateOf s = record { logins = s .logins; isOpen = s .is_open; created = s .created }
 
+-- ── A login state stored ──
+-- its three numbers
+unfoldable pub numbersOf : LoginState → List ℕ
+numbersOf a = a .logins ∷ (if a .isOpen then 1 else 0) ∷ a .created ∷ []
+
+-- they are written at the index i, and no other number is
+unfoldable pub withLogin : ℕ → LoginState → List ℕ → List ℕ
+withLogin i a s = written (i * loginRow) (numbersOf a) s
+
+-- the login state at the index i becomes this one, in numbers and in meaning
+pub record StateStored (before : List ℕ) (i : ℕ) (a : LoginState) (after : List ℕ) : Type 0 where
+  pub numbers : after ≡ withLogin i a before
+  pub states : loginsIn after ≡ set (loginsIn before) i a
+
+-- the numbers, once it is decided what a request changes
+abbrev pub numbersAfter : Result ℕ Change → List ℕ → List ℕ
+numbersAfter (refused e) s = s
+numbersAfter (done (setsLogin i a)) s = withLogin i a s
+numbersAfter (done (shows c)) s = s
+numbersAfter (done (stores i a f)) s = withLogin i a s
+
 -- ── A login ──
 -- the login state after a login, kept shut for the proofs
 unfoldable pub entered : LoginState → LoginState
 entered a = serving.entered a
 
+-- a login looks at the users and the login states alone
 unfoldable pub loginDecided : List User → List LoginState → Bytes → Bytes → Result ℕ Change
-loginDecided us ls n k = do
-  (i, u) ← userNamed n us or 12
-  decideLogin i u (getD ls i emptyLogin) k
+loginDecided us ls n k = decideLogin (record { tables = record { users = us; policy = [] }; loginStates = ls; fields = [] }) n k
 
 -- the number of a refusal, or the session's
 abbrev pub loginAnswer : Result ℕ Change → LoginReply
 loginAnswer (refused e) = login.Refused e
-loginAnswer (done (enters i a)) = login.Session (sessionNumber i a)
+loginAnswer (done (setsLogin i a)) = login.Session (sessionNumber i a)
 loginAnswer (done (shows c)) = login.Refused 0
 loginAnswer (done (stores i a f)) = login.Refused 0
 
 -- the login states once it is decided
 abbrev pub loginsAfter : List LoginState → Result ℕ Change → List LoginState
 loginsAfter ls (refused e) = ls
-loginsAfter ls (done (enters i a)) = set ls i a
+loginsAfter ls (done (setsLogin i a)) = set ls i a
 loginsAfter ls (done (shows c)) = ls
 loginsAfter ls (done (stores i a f)) = ls
 
--- a refusal keeps every number
-abbrev pub LoginKept : LoginReply → List ℕ → List ℕ → Type 0
-LoginKept (login.Session n) before now = Unit {0}
-LoginKept (login.Refused e) before now = now ≡ before
-
--- a login of a name with a key: what is decided for it is answered and done, and a refusal keeps every number
+-- a login of a name with a key: what is decided for it is answered and done, in meaning and in numbers
 pub record LoggedIn (tables : Bytes) (before : List ℕ) (name key : Bytes) (r : LoginReply) (after : List ℕ) : Type 0 where
   pub answers : r ≡ loginAnswer (loginDecided (usersIn tables) (loginsIn before) name key)
   pub leaves : loginsIn after ≡ loginsAfter (loginsIn before) (loginDecided (usersIn tables) (loginsIn before) name key)
-  pub kept : LoginKept r before after
+  pub numbers : after ≡ numbersAfter (loginDecided (usersIn tables) (loginsIn before) name key) before
 
 -- ── A session's number ──
 unfoldable pub sessionIs : Option User → ℕ → LoginState → ℕ → Bool

@@ -2,6 +2,8 @@
 use layout::name::NAME_ROW;
 use layout::name::name_from;
 use layout::table::row_count;
+use lexical::limits::MAX_LOGINS;
+use lexical::limits::PER_USER;
 use lexical::slice::same;
 use tables::memory::KEY;
 use tables::memory::TABLES;
@@ -11,21 +13,16 @@ use tables::memory::UserAt;
 use tables::memory::find_user;
 ghost use mathlib.Core.Path.{_≡_};
 ghost use Prim.Native.Nat.{suc, min, _<_};
-ghost use lib.ListN.{getD, set};
+ghost use lib.ListN.{getD};
 ghost use Rattle.model.specs.Limits.{maxUsers, maxLogins};
 ghost use Rattle.model.specs.Opening.{emptyLogin};
 ghost use Rattle.model.specs.Serving.{sessionNumber};
-ghost use Rattle.sessions.specs.Logins.{loginsIn, stateOf, entered, LoggedIn, sessionOf};
+ghost use Rattle.sessions.specs.Logins.{loginsIn, stateOf, StateStored, entered, LoggedIn, sessionOf};
 
 // A login state: the logins, whether a session is open, the fields created.
 pub const LOGIN_ROW: usize = 3;
 
 pub const LOGINS: usize = USERS * LOGIN_ROW;
-
-// A session's number: the user's index times this, and the logins, which end at the last number below it.
-const PER_USER: u32 = 65536;
-
-const MOST_LOGINS: u16 = 65535;
 
 pub struct LoginState {
     pub logins: u16,
@@ -61,7 +58,7 @@ pub fn state_at(logins: &[u16; LOGINS], i: usize) -> LoginState
 // The login state at an index becomes this one.
 pub fn put_state(logins: &mut [u16; LOGINS], i: usize, state: LoginState)
     requires { ⌜ i < maxUsers ⌝ }
-    ensures { λ _. ⌜ loginsIn (now (logins .exit)) ≡ set (loginsIn (now (logins .entry))) i (stateOf state) ⌝ }
+    ensures { λ _. ⌜ StateStored (now (logins .entry)) i (stateOf state) (now (logins .exit)) ⌝ }
 {
     let numbers: &mut [u16] = logins; // a slice, of which the proof knows how long it is
     let at = i * LOGIN_ROW;
@@ -82,7 +79,7 @@ pub fn number(i: usize, state: LoginState) -> u32
 fn one_more(logins: u16) -> u16
     ensures { λ r. ⌜ r ≡ min (suc logins) maxLogins ⌝ }
 {
-    if logins < MOST_LOGINS {
+    if logins < MAX_LOGINS {
         return logins + 1;
     }
     logins

@@ -17,9 +17,8 @@ use Rattle.rows.proofs.Positions.{over}
 use Rattle.layout.proofs.Used.{table-at}
 use Rattle.model.specs.Base.{Bytes, text}
 use Rattle.model.specs.Limits.{maxFields}
-use Rattle.model.specs.Values.{Value, readValue, valueText}
+use Rattle.model.specs.Values.{Value, readValue, valueText, validValue}
 use Rattle.model.specs.Fields.{Field, Fields}
-use Rattle.model.proofs.Valid.{validValue}
 use Rattle.model.proofs.Spelling.{value-spells, value-valid, value-length}
 use Rattle.model.proofs.Lists.{by-cases}
 use Rattle.values.specs.declared.value.Scalar.{Scalar}

@@ -59,7 +59,7 @@ fn proved_number(reply: jesovanga::Reply) -> i64 {
     match reply {
         jesovanga::Reply::Refused(number) => -(number as i64),
         jesovanga::Reply::Session(number) => i64::from(number),
-        jesovanga::Reply::Length(number) | jesovanga::Reply::Pushed(number) => number as i64,
+        jesovanga::Reply::Length(number) | jesovanga::Reply::Accepted(number) => number as i64,
     }
 }
 
@@ -67,6 +67,6 @@ fn second_number(reply: second::Reply) -> i64 {
     match reply {
         second::Reply::Refused(number) => -i64::from(number),
         second::Reply::Session(number) => i64::from(number),
-        second::Reply::Length(number) | second::Reply::Pushed(number) => number as i64,
+        second::Reply::Length(number) | second::Reply::Accepted(number) => number as i64,
     }
 }

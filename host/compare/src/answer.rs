@@ -7,7 +7,7 @@ pub enum Answer {
     Refused(usize),
     Session(usize),
     Length(usize),
-    Pushed(usize),
+    Accepted(usize),
 }
 
 impl From<jesovanga::Reply> for Answer {
@@ -16,7 +16,7 @@ impl From<jesovanga::Reply> for Answer {
             jesovanga::Reply::Refused(number) => Answer::Refused(number),
             jesovanga::Reply::Session(number) => Answer::Session(number as usize),
             jesovanga::Reply::Length(length) => Answer::Length(length),
-            jesovanga::Reply::Pushed(count) => Answer::Pushed(count),
+            jesovanga::Reply::Accepted(count) => Answer::Accepted(count),
         }
     }
 }
@@ -27,7 +27,7 @@ impl From<second::Reply> for Answer {
             second::Reply::Refused(number) => Answer::Refused(number as usize),
             second::Reply::Session(number) => Answer::Session(number as usize),
             second::Reply::Length(length) => Answer::Length(length),
-            second::Reply::Pushed(count) => Answer::Pushed(count),
+            second::Reply::Accepted(count) => Answer::Accepted(count),
         }
     }
 }

@@ -162,7 +162,7 @@ impl Run {
         let list = self.list();
         match (self.pair.request(&line.bytes, &buffer, &list)?, line.path) {
             (Answer::Session(number), _) => self.sessions.push(number),
-            (Answer::Pushed(_), Some(path)) => self.pushed.push(path),
+            (Answer::Accepted(_), Some(path)) => self.pushed.push(path),
             _ => (),
         }
         Ok(())

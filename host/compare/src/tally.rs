@@ -33,7 +33,7 @@ impl Tally {
             Answer::Refused(number) => self.count(format!("refused {number}")),
             Answer::Session(_) => self.count("session".into()),
             Answer::Length(length) => self.count_text("copy", length),
-            Answer::Pushed(_) => self.count("pushed".into()),
+            Answer::Accepted(_) => self.count("pushed".into()),
         }
     }
 

@@ -101,11 +101,19 @@ impl Watched {
             ensure(lent.piece() == text, "a text has changed")?;
         }
         let Err(Fault { number, text, line }) = opened else {
-            return Ok(());
+            return self.check_bytes(texts);
         };
         let known = (1..=10).contains(&number) && (1..=4).contains(&text);
         ensure(known && line <= texts[text - 1].len() + 1, "there is no such refusal")?;
         ensure(*self.former == self.lent.memory, "the arrays have changed")
+    }
+
+    /// The arrays are what the same texts make of zeros, whatever they held.
+    fn check_bytes(&self, texts: &Texts) -> Checked<()> {
+        let [users, environments, policy, record] = texts.each_ref().map(Vec::as_slice);
+        let mut fresh = Box::<Memory>::default();
+        let accepted = fresh.open(users, environments, policy, record).is_ok();
+        ensure(accepted && *fresh == self.lent.memory, "the same texts make other arrays of zeros")
     }
 
     fn check_request(
@@ -132,6 +140,8 @@ impl Watched {
                 let fields_kept = self.former.fields == self.lent.memory.fields;
                 ensure(fields_kept, "the fields have changed")?;
                 self.check_other_logins_kept(Some(number / 65_536))?;
+                let flag = self.lent.memory.logins[number / 65_536 * LOGIN + 1];
+                ensure(flag == 1, "an open session is not written as 1")?;
                 self.check_buffer_kept(buffer, 0)?;
                 self.check_list_kept(list, 0)
             }
@@ -140,7 +150,7 @@ impl Watched {
                 self.check_buffer_kept(buffer, length)?;
                 self.check_list_kept(list, 0)
             }
-            Answer::Pushed(count) => {
+            Answer::Accepted(count) => {
                 ensure(count <= LIST && LIST <= list.len(), "the list is too short")?;
                 self.check_other_logins_kept(None)?;
                 self.check_buffer_kept(buffer, 0)?;

@@ -95,7 +95,7 @@ pub enum Reply {
     Session(u32),
     Length(usize),
     /// How many numbers the list received: for the caller, not for the sender.
-    Pushed(usize),
+    Accepted(usize),
 }
 
 /// The arrays that the operations work on. Any content means some state; all zeros mean no users and no fields.
@@ -191,7 +191,8 @@ fn reply(kind: u32, number: usize) -> Reply {
         0 => Reply::Refused(number),
         1 => Reply::Session(number as u32),
         2 => Reply::Length(number),
-        _ => Reply::Pushed(number),
+        3 => Reply::Accepted(number),
+        _ => unreachable!("the library promises one of four kinds"),
     }
 }
 

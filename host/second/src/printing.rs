@@ -20,7 +20,7 @@ pub fn printed(server: &mut Server, line: &[u8], out: &mut Vec<u8>) {
             print_line(out, format_args!("OK;{length}"));
             out.extend_from_slice(&buffer[..length]);
         }
-        Reply::Pushed(count) => {
+        Reply::Accepted(count) => {
             print_line(out, format_args!("OK"));
             print_deliveries(out, line, &list[..count]);
         }

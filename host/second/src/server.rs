@@ -24,7 +24,7 @@ pub enum Reply {
     /// How many bytes were written to the buffer.
     Length(usize),
     /// How many numbers were written to the list.
-    Pushed(usize),
+    Accepted(usize),
 }
 
 /// What changes about a user: logins, an open session, fields created.
@@ -145,7 +145,7 @@ impl Server {
                 self.fields.insert(path.clone(), value);
             }
         }
-        Ok(Reply::Pushed(self.list_receivers(place, &path, list)))
+        Ok(Reply::Accepted(self.list_receivers(place, &path, list)))
     }
 
     /// Lists the other open sessions whose user may read the path. The order

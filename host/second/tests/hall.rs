@@ -93,15 +93,15 @@ fn pushes() {
     assert_eq!(short, Reply::Refused(15));
     ask(&mut server, "LOGIN;ann;k1");
     let mut push = |rest: &str| ask(&mut server, &format!("PUSH;1;$['e7']['cv']{rest}"));
-    assert_eq!(push("['1'];-2147483648"), Reply::Pushed(0));
+    assert_eq!(push("['1'];-2147483648"), Reply::Accepted(0));
     for value in ["-2147483649", "2147483648", "-0", "01", "1 ", " 1", "1-", "--1", "-", "+1", ""] {
         assert_eq!(push(&format!("['1'];{value}")), Reply::Refused(11), "{value}");
     }
     for key in 3..7 {
-        assert_eq!(push(&format!("['{key}'];\"a; b\"")), Reply::Pushed(0));
+        assert_eq!(push(&format!("['{key}'];\"a; b\"")), Reply::Accepted(0));
     }
     assert_eq!(push("['7'];1"), Reply::Refused(17));
-    assert_eq!(push("['3'];true"), Reply::Pushed(0));
+    assert_eq!(push("['3'];true"), Reply::Accepted(0));
     assert!(saved(&server).contains(r#"{"1":-2147483648,"29":6,"3":true,"4":"a; b","#));
 }
 

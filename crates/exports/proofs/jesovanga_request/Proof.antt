@@ -1,7 +1,7 @@
 -- The kind and the number are those of the reply.
-use mathlib.Core.Path.{_∙_}
 use borrow.Author.Needs.{needs}
-use Rattle.exports.proofs.Numbered.{reply-as, logins-as, fields-as}
+use Rattle.model.specs.Serving.{bufferOf, listOf, outcome}
+use Rattle.exports.proofs.Numbered.{reply-tells}
 use Rattle.exports.proofs.jesovanga_request.Statement.{statement}
 use Rattle.exports.proofs.jesovanga_request.Tie as tie
 
@@ -21,16 +21,11 @@ same-length-2 : tie.Need-same-length-2
 same-length-2 c = search needs
 
 returns : tie.Need-returns
+unfolding outcome bufferOf listOf
 returns c =
     let q = c .before .before .before .before .before .before in
-    let k = c .before .kind-of .ensures in
-    let n = c .number-of .ensures in
     let done = q .request .ensures in
-    record {
-      outcome-is = rw (k, n) (reply-as _ _ _ _ ∙ done .is);
-      logins-kept = rw k (logins-as (q .request .result) _ _ (done .logins-kept));
-      fields-kept = rw k (fields-as (q .request .result) _ _ (done .fields-kept));
-    }
+    record { tells = reply-tells (q .request .result) _ _ _ (done .is) (c .before .kind-of .ensures) (c .number-of .ensures); logins = done .logins; fields = done .fields }
 
 pub jesovanga-request-spec : {M : Type 1} → statement M
 jesovanga-request-spec =

@@ -1,7 +1,6 @@
 -- The kind and the number are those of the reply.
-use mathlib.Core.Path.{_∙_}
 use borrow.Author.Needs.{needs}
-use Rattle.exports.proofs.Numbered.{reply-as}
+use Rattle.exports.proofs.Numbered.{reply-tells}
 use Rattle.exports.proofs.jesovanga_save.Statement.{statement}
 use Rattle.exports.proofs.jesovanga_save.Tie as tie
 
@@ -19,9 +18,8 @@ same-length c = search needs
 
 returns : tie.Need-returns
 returns c =
-    let k = c .before .kind-of .ensures in
-    let n = c .number-of .ensures in
-    λ tables logins. rw (k, n) (reply-as _ _ _ _ ∙ c .before .before .before .before .save .ensures tables logins)
+    let saved = c .before .before .before .before .save in
+    λ tables logins. reply-tells (saved .result) _ _ _ (saved .ensures tables logins) (c .before .kind-of .ensures) (c .number-of .ensures)
 
 pub jesovanga-save-spec : {M : Type 1} → statement M
 jesovanga-save-spec =

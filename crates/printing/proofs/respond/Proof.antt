@@ -1,22 +1,31 @@
--- The answer is written, and behind that of a push the deliveries; what was pushed is the line behind its second `;`.
-use Prim.Native.Nat.{_+_, _≤_, _<_}
+-- The answer is written, and behind that of an accepted request the deliveries; what was pushed stands in the line from the reply's position on.
+use Prim.Native.Nat.{_≤_}
 use mathlib.Core.Path.{_≡_, _∙_}
 use native.Mathlib.Omega.{arith}
 use borrow.Author.Needs.{needs}
 use lib.ListN.{length, length-drop}
 use Rattle.rows.proofs.Parts.{tail-part}
+use Rattle.model.specs.Limits.{maxCopy, maxLine}
 use Rattle.buffers.proofs.Writers.{wrote-both}
-use Rattle.printing.proofs.Responded.{reply-inside, reply-left, pushed-long, pushed-inside, pushed-few, printed-other, printed-pushed}
+use Rattle.printing.proofs.Responded.{reply-inside, reply-left, accepted-inside, accepted-few, printed-other, printed-accepted}
 use Rattle.printing.proofs.respond.Statement.{statement}
 use Rattle.printing.proofs.respond.Tie as tie
-use Rattle.model.specs.Limits.{maxCopy}
+
+-- the position that was answered lies in the line
+inside : (c : tie.After-known-told)
+    → let asked = c .before .before .before .before .before .before .before .before .before in
+    let line = asked .before .before .before .before .before .before .before .args .line .now in
+    (c .before .reply .given .0 .1 .0 ≤ length line) × (length line ≤ maxLine)
+inside c =
+    let asked = c .before .before .before .before .before .before .before .before .before in
+    accepted-inside _ _ _ _ _ _ (asked .request .ensures) (c .before .reply .given .1)
 
 request-requires : tie.Need-request-requires
 request-requires c κs = search needs
 
 put-answer-requires : tie.Need-put-answer-requires
 put-answer-requires c κs =
-    let (inside, same) = reply-inside _ _ _ _ _ _ _ _ (c .before .before .before .request .ensures .is) in
+    let (inside, same) = reply-inside _ _ _ _ _ _ (c .before .before .before .request .ensures) in
     let long : length (c .before .before .before .before .before .before .before .before .before .before .args .buffer .now) ≡ maxCopy = search needs in
     (same ∙ long, rw same inside)
 
@@ -29,47 +38,31 @@ same-length c = search needs
 returns : tie.Need-returns
 returns c =
     let put = c .before .before .before in
-    let left = put .before .before .before .before .request .ensures .is in
+    let served = put .before .before .before .before .request .ensures in
     record {
-      left = reply-left _ _ _ _ _ _ _ _ left;
-      wrote = rw (printed-other _ _ _ _ _ _ _ _ left (c .match .keys2)) (put .put-answer .ensures .0);
+      leaves = reply-left _ _ _ _ _ _ served;
+      logins = served .logins;
+      fields = served .fields;
+      wrote = rw (printed-other _ _ _ _ _ _ served (c .match .keys2)) (put .put-answer .ensures .0);
       short = omega arith;
     }
 
-until-requires : tie.Need-until-requires
-until-requires c κs =
-    let left = c .before .before .before .before .before .before .before .before .before .request .ensures .is in
-    let long = pushed-long _ _ _ _ _ _ _ _ left (c .before .reply .given .1) in
-    omega arith
-
--- the second `;` stands in the line
-inside : (c : tie.After-until)
-    → let asked = c .before .before .before .before .before .before .before .before .before .before in
-    c .until .result < length (asked .before .before .before .before .before .before .before .args .line .now)
-inside c =
-    let left = c .before .before .before .before .before .before .before .before .before .before .request .ensures .is in
-    pushed-inside _ _ _ _ _ _ _ _ left (c .before .before .reply .given .1) (c .until .ensures)
-
-add-from : tie.Need-add-from
-add-from c = let i = inside c in search needs
-
 sub-put-deliveries : tie.Need-sub-put-deliveries
-sub-put-deliveries c = let i = inside (c .before .before .before) in omega arith
+sub-put-deliveries c = inside (c .before .before .before) .0
 
 part-put-deliveries-start : tie.Need-part-put-deliveries-start
-part-put-deliveries-start c = let i = inside (c .before .before .before) in omega arith
+part-put-deliveries-start c = inside (c .before .before .before) .0
 
 part-put-deliveries-end : tie.Need-part-put-deliveries-end
 part-put-deliveries-end c = search needs
 
 put-deliveries-requires : tie.Need-put-deliveries-requires
 put-deliveries-requires c κs =
-    let put = c .before .before .before .before .before .before .before .before .before .before in
-    let left = put .before .before .before .before .request .ensures .is in
-    let is = c .before .before .before .before .before .before .reply .given .1 in
-    let (few, _, room) = pushed-few _ _ _ _ _ _ _ _ _ _ left is in
-    let long = pushed-long _ _ _ _ _ _ _ _ left is in
-    let i = inside (c .before .before .before .before) in
+    let told = c .before .before .before .before in
+    let put = told .before .before .before .before .before in
+    let served = put .before .before .before .before .request .ensures in
+    let (few, room) = accepted-few _ _ _ _ _ _ served (told .before .reply .given .1) in
+    let (within, short) = inside told in
     (room, few, rw (tail-part, length-drop) (omega arith), omega (arith, put .put-answer .ensures .1))
 
 same-length-2 : tie.Need-same-length-2
@@ -77,14 +70,16 @@ same-length-2 c = search needs
 
 returns-2 : tie.Need-returns-2
 returns-2 c =
-    let until = c .before .before .before .before .before .before .before in
-    let is = until .before .before .reply .given .1 in
-    let put = until .before .before .before .before .before .before in
-    let left = put .before .before .before .before .request .ensures .is in
+    let told = c .before .before .before .before .before .before .before in
+    let is = told .before .reply .given .1 in
+    let put = told .before .before .before .before .before in
+    let served = put .before .before .before .before .request .ensures in
     let sent = rw tail-part at (c .before .before .put-deliveries .ensures .0) in
     record {
-      left = reply-left _ _ _ _ _ _ _ _ left;
-      wrote = rw (printed-pushed _ _ _ _ _ _ _ _ left is (until .until .ensures)) (wrote-both _ _ _ _ _ _ _ _ (put .put-answer .ensures .0) sent);
+      leaves = reply-left _ _ _ _ _ _ served;
+      logins = served .logins;
+      fields = served .fields;
+      wrote = rw (printed-accepted _ _ _ _ _ _ served is) (wrote-both _ _ _ _ _ _ _ _ (put .put-answer .ensures .0) sent);
       short = omega (arith, put .put-answer .ensures .1);
     }
 
@@ -97,8 +92,6 @@ respond-spec =
     enum-known-reply
     same-length
     returns
-    until-requires
-    add-from
     sub-put-deliveries
     part-put-deliveries-start
     part-put-deliveries-end

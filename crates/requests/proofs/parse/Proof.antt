@@ -1,22 +1,22 @@
 -- The readers are tried in the model's order: the first answer that is not Bad is the line's, and the ones before it read nothing.
-use Prim.Native.Nat.{_≤_}
-use mathlib.Core.Path.{_∙_}
-use mathlib.Core.List.{[]}
+use mathlib.Core.Path.{_≡_, refl, _∙_}
+use mathlib.Core.List.{[], _∷_}
 use borrow.Author.Needs.{needs}
-use lib.ListN.{length}
-use Rattle.model.specs.Limits.{maxLine}
+use Rattle.model.specs.Requests.{readLogin, readGet, readPush, readers, firstOf, requestOf}
 use Rattle.values.proofs.Values.{told}
 use Rattle.requests.specs.Lines.{parsedAnswer}
-use Rattle.requests.proofs.FirstOf.{is-some, too-long, asks-login, asks-get, asks-push}
+use Rattle.requests.proofs.FirstOf.{is-some, first-reads, first-fails, last-reads, too-long, short}
+use Rattle.requests.proofs.ByPositions.{slot-same}
 use Rattle.requests.proofs.parse.Statement.{statement}
 use Rattle.requests.proofs.parse.Tie as tie
 
--- the line is no longer than a line may be
-short : (c : tie.Else1) → length (c .before .before .args .line .now) ≤ maxLine
-short c = search needs
+-- the line is no longer than a line may be, so that the readers decide
+by-readers : (c : tie.Else1) → let line = c .before .before .args .line .now in firstOf (readLogin ∷ readGet ∷ readPush ∷ []) line ≡ requestOf line
+unfolding readers
+by-readers c = short _ (search needs)
 
 returns : tie.Need-returns
-returns c = (too-long _ (search needs), tt)
+returns c = (record { asks = too-long _ (search needs); stands = tt }, refl)
 
 login-line-requires : tie.Need-login-line-requires
 login-line-requires c κs = search needs
@@ -30,9 +30,9 @@ enum-told-2 c = search needs
 returns-2 : tie.Need-returns-2
 returns-2 c =
     let l = c .before .before in
-    let login = l .login-line .ensures .0 in
-    let reads = is-some (told (parsedAnswer _ []) (login []) (c .enum-told2 .given .1)) in
-    (login _ ∙ asks-login _ (short (l .before)) reads, l .login-line .ensures .1)
+    let login = l .login-line .ensures in
+    let reads = is-some (told (parsedAnswer _ []) (login [] .asks) (c .enum-told2 .given .1)) in
+    (record { asks = login _ .asks ∙ first-reads _ readLogin _ reads ∙ by-readers (l .before); stands = login _ .stands }, slot-same (l .login-line .result) (l .before .before .before .args .path .now))
 
 get-line-requires : tie.Need-get-line-requires
 get-line-requires c κs = search needs
@@ -47,10 +47,10 @@ returns-3 : tie.Need-returns-3
 returns-3 c =
     let g = c .before .before in
     let l = g .before .before .before in
-    let get = g .get-line .ensures .0 in
-    let no-login = told (parsedAnswer _ []) (l .login-line .ensures .0 []) (g .before .enum-told .given .1) in
-    let reads = is-some (told (parsedAnswer _ []) (get []) (c .enum-told4 .given .1)) in
-    (get _ ∙ asks-get _ (short (l .before)) no-login reads, g .get-line .ensures .1)
+    let get = g .get-line .ensures in
+    let no-login = told (parsedAnswer _ []) (l .login-line .ensures [] .asks) (g .before .enum-told .given .1) in
+    let reads = is-some (told (parsedAnswer _ []) (get [] .asks) (c .enum-told4 .given .1)) in
+    (record { asks = get _ .asks ∙ first-reads _ readGet _ reads ∙ first-fails _ readLogin _ no-login ∙ by-readers (l .before); stands = get _ .stands }, slot-same (g .get-line .result) (l .before .before .before .args .path .now))
 
 push-line-requires : tie.Need-push-line-requires
 push-line-requires c κs = search needs
@@ -60,9 +60,10 @@ returns-4 c =
     let t = c .before .before in
     let g = t .before .before in
     let l = g .before .before .before in
-    let no-login = told (parsedAnswer _ []) (l .login-line .ensures .0 []) (g .before .enum-told .given .1) in
-    let no-get = told (parsedAnswer _ []) (g .get-line .ensures .0 []) (t .enum-told3 .given .1) in
-    (c .push-line .ensures .0 ∙ asks-push _ (short (l .before)) no-login no-get, c .push-line .ensures .1)
+    let no-login = told (parsedAnswer _ []) (l .login-line .ensures [] .asks) (g .before .enum-told .given .1) in
+    let no-get = told (parsedAnswer _ []) (g .get-line .ensures [] .asks) (t .enum-told3 .given .1) in
+    let (push, kept) = c .push-line .ensures in
+    (record { asks = push .asks ∙ last-reads _ readPush ∙ first-fails _ readGet _ no-get ∙ first-fails _ readLogin _ no-login ∙ by-readers (l .before); stands = push .stands }, kept)
 
 pub parse-spec : {M : Type 1} → statement M
 parse-spec =

@@ -1,5 +1,5 @@
 -- Nobody of that name, or another key: 12. A session is open: 13. Else the state of one login more is stored, and its number answered.
-use mathlib.Core.Path.{refl, ap}
+use mathlib.Core.Path.{ap}
 use native.Mathlib.Omega.{arith}
 use borrow.Author.Needs.{needs}
 use borrow.Author.Tests.{not-true, not-false}
@@ -23,7 +23,7 @@ returns c =
     let f = c .before .before in
     let a = f .before .before .before .before .args in
     let decided = login-unknown _ _ (c .enum-told .given .1) (f .find-user .ensures) (loginsIn (a .logins .now)) (a .key .now) in
-    record { answers = rw decided; leaves = rw decided; kept = refl }
+    record { answers = rw decided; leaves = rw decided; numbers = rw decided }
 
 mul-name-from : tie.Need-mul-name-from
 mul-name-from c = omega (arith, found-below _ _ (c .before .before .i .given .1) (c .before .before .before .before .find-user .ensures))
@@ -44,7 +44,7 @@ returns-2 c =
     let ls = loginsIn (k .before .before .before .before .args .logins .now) in
     let name = c .before .before .name-from .ensures in
     let decided = wrong-key _ _ (j .i .given .1) (k .find-user .ensures) ls _ name (c .before .same .ensures) (not-true _ (c .if1 .taken)) in
-    record { answers = rw decided; leaves = rw decided; kept = refl }
+    record { answers = rw decided; leaves = rw decided; numbers = rw decided }
 
 state-at-requires : tie.Need-state-at-requires
 state-at-requires c κs =
@@ -61,7 +61,7 @@ returns-3 c =
     let name = i .before .before .name-from .ensures in
     let right = not-false _ (i .if1 .left) in
     let decided = has-session _ _ (j .i .given .1) (k .find-user .ensures) ls _ name (i .before .same .ensures) right (c .before .state-at .ensures) (c .if2 .taken) in
-    record { answers = rw decided; leaves = rw decided; kept = refl }
+    record { answers = rw decided; leaves = rw decided; numbers = rw decided }
 
 entered-requires : tie.Need-entered-requires
 entered-requires c κs = search needs
@@ -89,7 +89,8 @@ returns-4 c =
     let state = h .before .state-at .ensures in
     let enters = c .before .before .before .entered .ensures in
     let decided = login-enters _ _ (j .i .given .1) (k .find-user .ensures) ls _ name (i .before .same .ensures) right state (h .if2 .left) enters in
-    record { answers = rw decided (ap Session (c .number .ensures)); leaves = rw decided (c .before .put-state .ensures); kept = tt }
+    let stored = c .before .put-state .ensures in
+    record { answers = rw decided (ap Session (c .number .ensures)); leaves = rw decided (stored .states); numbers = rw decided (stored .numbers) }
 
 pub login-spec : {M : Type 1} → statement M
 login-spec =

@@ -43,7 +43,7 @@ unfolding stateOf
 returns c =
     let start = c .before .before in
     let long : length (start .args .logins .now) ≡ loginNumbers = search needs in
-    state-put _ _ (start .pre) long _ _ _
+    state-put _ _ (start .pre) _ _ _ long
 
 pub put-state-spec : {M : Type 1} → statement M
 put-state-spec =

@@ -3,7 +3,7 @@ use native.Mathlib.Omega.{arith}
 use Prim.Native.Nat.{_+_, _*_, _≤_}
 use lib.ListN.{length, length-take, length-drop}
 use mathlib.Core.Path.{refl}
-use Rattle.layout.proofs.Changed.{row-inside, moved-room, used-inserted}
+use Rattle.layout.proofs.Changed.{row-inside, moved-room, used-inserted, bytes-inserted}
 use borrow.Author.Needs.{needs}
 use Rattle.layout.proofs.table.insert_row.Statement.{statement}
 use Rattle.layout.proofs.table.insert_row.Tie as tie
@@ -49,7 +49,10 @@ returns c =
     let s = m .before .before .before .before in
     let a = s .args in
     let p = s .pre .0 in
-    used-inserted (a .size) (a .most) (a .i) (a .row .now) (a .t .now) (p .0) (p .1) (p .2) (s .pre .1 .0) (s .pre .1 .1) _ (m .moved-end .result) (m .moved-end .ensures) refl _ (put .put-before .ensures)
+    let e = m .moved-end .result in (
+      used-inserted (a .size) (a .most) (a .i) (a .row .now) (a .t .now) (p .0) (p .1) (p .2) (s .pre .1 .0) (s .pre .1 .1) _ e (m .moved-end .ensures) refl _ (put .put-before .ensures),
+      bytes-inserted (a .size) (a .most) (a .i) (a .row .now) (a .t .now) (p .0) (p .1) (p .2) (s .pre .1 .0) (s .pre .1 .1) _ e (m .moved-end .ensures) refl _ (put .put-before .ensures),
+    )
 
 pub insert-row-spec : {M : Type 1} → statement M
 insert-row-spec =

@@ -35,8 +35,8 @@ returns c =
     let s = c .before .before .before .before .before .before in
     let a = s .args in
     let p = s .pre .0 in
-    rw (copied-in (a .i * a .size) (a .row .now) (a .t .now) _ (c .before .before .copy .ensures), p .1)
-    (used-set (a .size) (a .most) (a .i) (a .row .now) (a .t .now) (p .0) (p .1) (p .2) (s .pre .1))
+    let copied = copied-in (a .i * a .size) (a .row .now) (a .t .now) _ (c .before .before .copy .ensures) in
+    (rw (copied, p .1) (used-set (a .size) (a .most) (a .i) (a .row .now) (a .t .now) (p .0) (p .1) (p .2) (s .pre .1)), rw (copied, p .1))
 
 pub replace-row-spec : {M : Type 1} → statement M
 replace-row-spec =

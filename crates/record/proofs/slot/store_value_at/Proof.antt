@@ -25,7 +25,9 @@ returns : tie.Need-returns
 unfolding storedIn storedAt
 returns c =
     let f = c .before .before .before .before .fill .ensures in
-    c .store-at .ensures ∙ rw (f .0, f .1)
+    let h = c .before .before .before .before .before .before .before .before .pre in
+    let (fields, bytes) = c .store-at .ensures in
+    (fields ∙ rw (f .0, f .1), record { slot = _; isField = f .0; bytes = bytes ∙ rw (h .1 .1) })
 
 pub store-value-at-spec : {M : Type 1} → statement M
 store-value-at-spec =

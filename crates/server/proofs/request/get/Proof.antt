@@ -5,8 +5,9 @@ use mathlib.Core.Logic.{⊎-elim}
 use native.Mathlib.Omega.{arith}
 use lib.ListN.{length}
 use borrow.Author.Needs.{needs}
+use Rattle.model.specs.Serving.{roomFor}
 use Rattle.sessions.proofs.Known.{session-inside}
-use Rattle.server.proofs.Replied.{unwritten, get-unknown, get-refused, get-done}
+use Rattle.server.proofs.Replied.{left-refused, unwritten, shown-refused, shown-done, get-unknown, get-shows}
 use Rattle.server.proofs.request.get.Statement.{statement}
 use Rattle.server.proofs.request.get.Tie as tie
 
@@ -33,10 +34,10 @@ enum-told : tie.Need-enum-told
 enum-told c = search needs
 
 returns : tie.Need-returns
-returns c l =
+unfolding roomFor
+returns c text l =
     let a = c .before .before .before .before .args in
-    let is = get-unknown (a .tables .now) (a .logins .now) (a .fields .now) (a .n) (c .before .before .session .ensures) (a .buffer .now) l (c .enum-told .given .1) in
-    record { is = is; logins-kept = refl; fields-kept = refl }
+    left-refused (get-unknown (a .tables .now) (a .logins .now) (a .fields .now) (a .n) (c .before .before .session .ensures) (c .enum-told .given .1) _) text _ _ l refl
 
 row-at-requires : tie.Need-row-at-requires
 row-at-requires c κs =
@@ -73,7 +74,8 @@ same-length : tie.Need-same-length
 same-length c = search needs
 
 returns-2 : tie.Need-returns-2
-returns-2 c l =
+unfolding roomFor
+returns-2 c text l =
     let m = c .before .before .before in
     let h = m .before .before .before .before .before .before in
     let select = h .before .before .select in
@@ -82,9 +84,9 @@ returns-2 c l =
     let k = r .before .before .before .before .before in
     let a = k .before .before .args in
     let kept = unwritten _ _ (m .put-copy .ensures .0) ∙ unwritten _ _ (h .put-head .ensures .0) in
-    let is = get-refused (a .tables .now) (a .logins .now) (a .fields .now) (a .n) (k .session .ensures) (a .buffer .now) l (select .result)
-    (r .before .before .before .i .given .1) (r .row-at .ensures .0) (p .policy-of .ensures .0) (select .ensures) kept (m .put-copy .ensures .0) (c .if2 .taken) in
-    record { is = is; logins-kept = refl; fields-kept = refl }
+    let shows = get-shows (a .tables .now) (a .logins .now) (a .fields .now) (a .n) (k .session .ensures) (select .result)
+    (r .before .before .before .i .given .1) (r .row-at .ensures .0) (p .policy-of .ensures .0) (select .ensures) (length (a .buffer .now)) in
+    shown-refused _ (a .buffer .now) shows text _ l kept (m .put-copy .ensures .0) (c .if2 .taken)
 
 put-copy-requires-2 : tie.Need-put-copy-requires-2
 put-copy-requires-2 c κs = search needs
@@ -93,16 +95,16 @@ same-length-2 : tie.Need-same-length-2
 same-length-2 c = c .before .before .put-copy2 .kept .0 ∙ ap length (met c .0)
 
 returns-3 : tie.Need-returns-3
-returns-3 c l =
+unfolding roomFor
+returns-3 c text l =
     let p = c .before .before .before .before .before .before .before .before .before .before .before in
     let select = c .before .before .before .before .before .before .before .before .before .before .select in
     let r = p .before .before in
     let k = r .before .before .before .before .before in
     let a = k .before .before .args in
-    let is = get-done (a .tables .now) (a .logins .now) (a .fields .now) (a .n) (k .session .ensures) (a .buffer .now) l (select .result)
-    (r .before .before .before .i .given .1) (r .row-at .ensures .0) (p .policy-of .ensures .0) (select .ensures) (met c .0)
-    (c .before .before .put-copy2 .ensures .0) (met c .1) in
-    record { is = is; logins-kept = refl; fields-kept = refl }
+    let shows = get-shows (a .tables .now) (a .logins .now) (a .fields .now) (a .n) (k .session .ensures) (select .result)
+    (r .before .before .before .i .given .1) (r .row-at .ensures .0) (p .policy-of .ensures .0) (select .ensures) (length (a .buffer .now)) in
+    shown-done _ (a .buffer .now) shows text _ l (met c .0) (c .before .before .put-copy2 .ensures .0) (met c .1)
 
 pub get-spec : {M : Type 1} → statement M
 get-spec =

@@ -1,13 +1,13 @@
 -- The answer of the login states is passed on.
-use mathlib.Core.Path.{refl}
 use borrow.Author.Needs.{needs}
 use Rattle.rows.proofs.Parts.{tail-part}
-use Rattle.server.proofs.Replied.{login-replied, login-kept}
+use Rattle.sessions.specs.declared.LoginReply.the-variants.{Session, Refused}
+use Rattle.server.proofs.Replied.{login-left}
 use Rattle.server.proofs.request.login.Statement.{statement}
 use Rattle.server.proofs.request.login.Tie as tie
 
-add-from : tie.Need-add-from
-add-from c = search needs
+add-key : tie.Need-add-key
+add-key c = search needs
 
 sub-login : tie.Need-sub-login
 sub-login c = search needs
@@ -40,25 +40,19 @@ returns : tie.Need-returns
 returns c fields b l =
     let k = c .before .before .before in
     let a = k .before .before .before .before .before .args in
-    let done = k .login .ensures in
-    let replied = login-replied (a .tables .now) (a .logins .now) _ _ (k .login .last .1 .0) (done .answers) (c .before .n .given .1) (done .leaves) in
-    record { is = rw tail-part at (replied fields b l); logins-kept = tt; fields-kept = refl }
+    rw tail-part at (login-left (a .tables .now) (a .logins .now) _ _ _ (Session (c .before .n .given .0 .0)) (k .login .ensures) (c .before .n .given .1) fields b l (a .line .now))
 
 returns-2 : tie.Need-returns-2
 returns-2 c fields b l =
     let k = c .before .before .before in
     let a = k .before .before .before .before .before .args in
-    let done = k .login .ensures in
-    let is = c .before .e .given .1 in
-    let replied = login-replied (a .tables .now) (a .logins .now) _ _ (k .login .last .1 .0) (done .answers) is (done .leaves) in
-    let kept = login-kept (a .tables .now) (a .logins .now) _ _ (k .login .last .1 .0) (done .answers) is (done .leaves) (done .kept) in
-    record { is = rw tail-part at (replied fields b l); logins-kept = kept; fields-kept = refl }
+    rw tail-part at (login-left (a .tables .now) (a .logins .now) _ _ _ (Refused (c .before .e .given .0 .0)) (k .login .ensures) (c .before .e .given .1) fields b l (a .line .now))
 
 pub login-spec : {M : Type 1} → statement M
 login-spec =
     tie.close
     (tie.spec
-    add-from
+    add-key
     sub-login
     part-login-start
     part-login-end

@@ -2,17 +2,20 @@
 use mathlib.Core.Path.{refl}
 use native.Mathlib.Omega.{arith}
 use borrow.Author.Needs.{needs}
+use lib.ListN.{length}
+use Rattle.model.specs.Serving.{roomFor}
 use Rattle.values.specs.Scalars.{valueIn}
-use Rattle.server.proofs.Pushed.{push-short, push-refused, push-below, push-place, push-done}
+use Rattle.server.proofs.Pushed.{push-short, push-ruled, push-below, push-place, push-done}
+use Rattle.server.proofs.Replied.{left-refused}
 use Rattle.server.proofs.request.push.Statement.{statement}
 use Rattle.server.proofs.request.push.Tie as tie
 
 returns : tie.Need-returns
+unfolding roomFor
 returns c b =
     let a = c .before .before .before .args in
     let value = valueIn (a .line .now) (a .value) in
-    let is = push-short (a .tables .now) (a .logins .now) (a .fields .now) (a .n) (a .path .now) b (a .list .now) (c .if1 .taken) value in
-    record { is = is; logins-kept = refl; fields-kept = refl }
+    left-refused (push-short (a .tables .now) (a .logins .now) (a .fields .now) (a .n) (a .path .now) (length (a .list .now)) (c .if1 .taken) value) _ _ b _ refl
 
 decide-requires : tie.Need-decide-requires
 decide-requires c κs = search needs
@@ -40,15 +43,17 @@ store-value-at-requires c κs =
     ((search needs, omega (arith, given .short), given .inside), (given .keyed, place))
 
 returns-2 : tie.Need-returns-2
+unfolding roomFor
 returns-2 c b =
     let d = c .before .before .before in
     let long = d .before .before .before .if1 .left in
-    record { is = push-refused _ _ _ _ _ (d .decide .ensures) (c .before .ruling .given .1) b _ long _; logins-kept = refl; fields-kept = refl }
+    left-refused (push-ruled _ _ _ _ _ (d .decide .ensures) (c .before .ruling .given .1) _ long _) _ _ b _ refl
 
 same-length : tie.Need-same-length
 same-length c = search needs
 
 returns-3 : tie.Need-returns-3
+unfolding roomFor
 returns-3 c b =
     let p = c .before .before .before in
     let l = p .before .before .before .before in
@@ -56,9 +61,8 @@ returns-3 c b =
     let d = r .before .before in
     let long = d .before .before .before .if1 .left in
     let given = d .before .before .before .before .before .before .pre in
-    let is = push-done _ _ _ _ _ (d .decide .ensures) (r .ruling2 .given .1) b _ long _ _ (l .put-receivers .ensures) (p .put-state .ensures) _
-    (c .store-value-at .ensures) (given .keyed, given .held) in
-    record { is = is; logins-kept = tt; fields-kept = tt }
+    let (stored, bytes) = c .store-value-at .ensures in
+    push-done _ _ _ _ _ (d .decide .ensures) (r .ruling2 .given .1) b _ long _ _ (l .put-receivers .ensures) (p .put-state .ensures) _ stored bytes (given .keyed) (given .held) _ _ (given .stands)
 
 pub push-spec : {M : Type 1} → statement M
 push-spec =

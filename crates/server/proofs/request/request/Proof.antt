@@ -1,9 +1,23 @@
 -- The line is taken apart; what it asks for is answered by the function for it.
-use mathlib.Core.Path.{refl, _∙_}
+use mathlib.Core.Path.{_≡_, refl, ap, _∙_}
 use borrow.Author.Needs.{needs}
-use Rattle.server.proofs.Pushed.{line-refused, asks, asked-inside, asked-short, line-served, push-asked}
+use Rattle.requests.specs.declared.Ask.the-variants.{Get, Push}
+use Rattle.requests.specs.declared.Request.the-variants.{InSession}
+use Rattle.server.proofs.Pushed.{line-refused, asks, asked-stands, asked-short, line-decided, push-asked}
+use Rattle.server.proofs.Replied.{left-refused}
 use Rattle.server.proofs.request.request.Statement.{statement}
 use Rattle.server.proofs.request.request.Tie as tie
+
+-- what a session asks for
+asks-copy : (c : tie.After-enum-told2)
+    → let q = c .before .before .before in
+    q .before .before .before .asked .given .0 .0 ≡ InSession (q .asked3 .given .0 .0) Get
+asks-copy c = let q = c .before .before .before in q .asked3 .given .1 ∙ ap (InSession (q .asked3 .given .0 .0)) (c .enum-told2 .given .1)
+
+asks-push : (c : tie.After-ask)
+    → let q = c .before .before .before in
+    q .before .before .before .asked .given .0 .0 ≡ InSession (q .asked3 .given .0 .0) (Push (c .ask .given .0 .0) (c .ask .given .0 .1 .0))
+asks-push c = let q = c .before .before .before in q .asked3 .given .1 ∙ ap (InSession (q .asked3 .given .0 .0)) (c .ask .given .1)
 
 parse-requires : tie.Need-parse-requires
 parse-requires c κs = search needs
@@ -15,9 +29,7 @@ enum-told : tie.Need-enum-told
 enum-told c = search needs
 
 returns : tie.Need-returns
-returns c =
-    let is = line-refused _ _ (c .before .before .parse .ensures .0) (c .enum-told .given .1) _ _ _ in
-    record { is = is; logins-kept = refl; fields-kept = refl }
+returns c = left-refused (line-refused _ _ (c .before .before .parse .ensures .0) (c .enum-told .given .1) _ _ _) _ _ _ _ refl
 
 enum-known-asked-2 : tie.Need-enum-known-asked-2
 enum-known-asked-2 c = search needs
@@ -26,32 +38,30 @@ login-requires : tie.Need-login-requires
 login-requires c κs =
     let q = c .before .before in
     let o = q .before .before .before in
-    let p = o .before .before in
-    asked-inside _ _ (p .parse .ensures .0) (o .asked .given .1) (q .asked2 .given .1) (p .parse .ensures .1)
+    asked-stands _ _ (o .before .before .parse .ensures .0) (o .asked .given .1) (q .asked2 .given .1)
 
 enum-known-asked-3 : tie.Need-enum-known-asked-3
 enum-known-asked-3 c = search needs
 
+enum-told-2 : tie.Need-enum-told-2
+enum-told-2 c = search needs
+
 get-requires : tie.Need-get-requires
 get-requires c κs = search needs
 
-enum-known-asked-4 : tie.Need-enum-known-asked-4
-enum-known-asked-4 c = search needs
+enum-known-ask : tie.Need-enum-known-ask
+enum-known-ask c = search needs
 
 push-requires : tie.Need-push-requires
 push-requires c κs =
-    let q = c .before .before .before .before .before in
-    let o = q .before .before .before in
-    let p = o .before .before in
+    let a = c .before .before .before .before .before in
+    let o = a .before .before .before .before .before .before in
+    let parsed = o .before .before .parse .ensures .0 in
     let is = o .asked .given .1 in
-    let kind = q .asked4 .given .1 in
-    let (keyed, held) = push-asked _ _ (asks _ _ (p .parse .ensures .0) is kind) in
-    record {
-      short = asked-short _ _ (p .parse .ensures .0) is kind;
-      inside = asked-inside _ _ (p .parse .ensures .0) is kind (p .parse .ensures .1);
-      keyed = keyed;
-      held = held;
-    }
+    let kind = asks-push a in
+    let (keyed, held) = push-asked _ _ (asks _ _ parsed is kind) in
+    let (inside, stands) = asked-stands _ _ parsed is kind in
+    record { short = asked-short _ _ parsed is kind; inside = inside; stands = stands; keyed = keyed; held = held }
 
 returns-2 : tie.Need-returns-2
 returns-2 c =
@@ -59,35 +69,31 @@ returns-2 c =
     let o = q .before .before .before in
     let p = o .before .before in
     let a = p .before .before .before .before .before .args in
-    let done = c .login .ensures (a .fields .now) (a .buffer .now) (a .list .now) in
-    let served = line-served _ _ (p .parse .ensures .0) (o .asked .given .1) (q .asked2 .given .1) _ _ _ in
-    record { is = done .is ∙ served; logins-kept = done .logins-kept; fields-kept = done .fields-kept }
+    rw (line-decided _ _ (p .parse .ensures .0) (o .asked .given .1) (q .asked2 .given .1) _ _ _) (c .login .ensures (a .fields .now) (a .buffer .now) (a .list .now))
 
 same-length : tie.Need-same-length
 same-length c = search needs
 
 returns-3 : tie.Need-returns-3
 returns-3 c =
-    let q = c .before .before .before .before .before .before .before in
-    let o = q .before .before .before in
+    let g = c .before .before in
+    let t = g .before .before .before .before in
+    let o = t .before .before .before .before .before .before in
     let p = o .before .before in
     let a = p .before .before .before .before .before .args in
-    let done = c .before .before .get .ensures (a .list .now) in
-    let served = line-served _ _ (p .parse .ensures .0) (o .asked .given .1) (q .asked3 .given .1) _ _ _ in
-    record { is = done .is ∙ served; logins-kept = done .logins-kept; fields-kept = done .fields-kept }
+    rw (line-decided _ _ (p .parse .ensures .0) (o .asked .given .1) (asks-copy t) _ _ _) (g .get .ensures (a .line .now) (a .list .now))
 
 same-length-2 : tie.Need-same-length-2
 same-length-2 c = search needs
 
 returns-4 : tie.Need-returns-4
 returns-4 c =
-    let q = c .before .before .before .before .before .before .before .before in
-    let o = q .before .before .before in
+    let w = c .before .before in
+    let t = w .before .before .before .before .before .before in
+    let o = t .before .before .before .before .before .before in
     let p = o .before .before in
     let a = p .before .before .before .before .before .args in
-    let done = c .before .before .push .ensures (a .buffer .now) in
-    let served = line-served _ _ (p .parse .ensures .0) (o .asked .given .1) (q .asked4 .given .1) _ _ _ in
-    record { is = done .is ∙ served; logins-kept = done .logins-kept; fields-kept = done .fields-kept }
+    rw (line-decided _ _ (p .parse .ensures .0) (o .asked .given .1) (asks-push t) _ _ _) (w .push .ensures (a .buffer .now))
 
 pub request-spec : {M : Type 1} → statement M
 request-spec =
@@ -100,8 +106,9 @@ request-spec =
     enum-known-asked-2
     login-requires
     enum-known-asked-3
+    enum-told-2
     get-requires
-    enum-known-asked-4
+    enum-known-ask
     push-requires
     returns-2
     same-length

@@ -1,11 +1,12 @@
 -- The saved text of all fields is written if it fits: no text is longer than the buffer, or it was measured.
 use Prim.Native.Nat.{_≤_}
 use mathlib.Core.Path.{_≡_, ap, _∙_}
+use mathlib.Core.List.{[]}
 use mathlib.Core.Logic.{⊎-elim}
 use native.Mathlib.Omega.{arith}
 use lib.ListN.{length}
 use borrow.Author.Needs.{needs}
-use Rattle.server.proofs.Replied.{unwritten, shown-refused, shown-done, save-shows}
+use Rattle.server.proofs.Replied.{unwritten, shown-refused, shown-done, save-shows, save-outcome}
 use Rattle.server.proofs.save.save.Statement.{statement}
 use Rattle.server.proofs.save.save.Tie as tie
 
@@ -36,8 +37,9 @@ returns : tie.Need-returns
 returns c tables logins =
     let m = c .before .before .before in
     let a = m .before .before .before .before .before .args in
-    shown-refused _ (a .buffer .now) _ _ (unwritten _ _ (m .put-saved .ensures .0)) (m .put-saved .ensures .0) (c .if2 .taken)
-    ∙ save-shows tables logins (a .fields .now) (a .buffer .now)
+    let shows = save-shows tables logins (a .fields .now) (a .buffer .now) in
+    let kept = unwritten _ _ (m .put-saved .ensures .0) in
+    save-outcome tables logins (a .fields .now) (a .buffer .now) (shown-refused _ _ shows [] _ _ kept (m .put-saved .ensures .0) (c .if2 .taken))
 
 put-saved-requires-2 : tie.Need-put-saved-requires-2
 put-saved-requires-2 c κs = search needs
@@ -48,8 +50,8 @@ same-length-2 c = c .before .before .put-saved2 .kept .0 ∙ ap length (met c .0
 returns-2 : tie.Need-returns-2
 returns-2 c tables logins =
     let a = c .before .before .before .before .before .before .before .args in
-    shown-done _ (a .buffer .now) _ _ (met c .0) (c .before .before .put-saved2 .ensures .0) (met c .1)
-    ∙ save-shows tables logins (a .fields .now) (a .buffer .now)
+    let shows = save-shows tables logins (a .fields .now) (a .buffer .now) in
+    save-outcome tables logins (a .fields .now) (a .buffer .now) (shown-done _ _ shows [] _ _ (met c .0) (c .before .before .put-saved2 .ensures .0) (met c .1))
 
 pub save-spec : {M : Type 1} → statement M
 save-spec =
