@@ -22,8 +22,8 @@ size_t jesovanga_list(void);
 /* What an answered number is. */
 enum jesovanga_kind { JESOVANGA_REFUSED = 0, JESOVANGA_SESSION = 1, JESOVANGA_LENGTH = 2, JESOVANGA_ACCEPTED = 3 };
 
-/* Opens the four texts: 0, and the arrays hold the new state, every byte behind its rows 0; or the number of the refusal, with its text (1 to 4) in *source and
-   its line, and the arrays keep every byte. All zeros are a state too: no users and no fields. */
+/* Opens the four texts: 0, and the arrays hold the new state, the same bytes for the same texts whatever they held; or the number of the refusal, with its text
+   (1 to 4) in *source and its line, and the arrays keep every byte. All zeros are a state too: no users and no fields. */
 size_t jesovanga_open(uint8_t *tables, uint16_t *logins, uint8_t *fields,
                       const uint8_t *users, size_t users_length,
                       const uint8_t *environments, size_t environments_length,

@@ -1,6 +1,6 @@
 -- No refusal of an opening has the number 0, which says that it was accepted.
 use Prim.Native.Nat.{ℕ, zero, suc, _<_}
-use mathlib.Core.Path.{_≡_}
+use mathlib.Core.Path.{_≡_, refl, sym, _∙_}
 use mathlib.Core.Bool.{Bool, true, false}
 use mathlib.Core.Option.{Option, none, some}
 use mathlib.Core.List.{List, [], _∷_}
@@ -10,10 +10,7 @@ use Rattle.model.specs.Refusals.{Result, refused, done, _>>=_, _>>_, refuse_if_
 use Rattle.model.specs.Table.{Table, Line, ended, broken, lines, split, inLine, readRow, readRows, readLines, readTable}
 use Rattle.model.specs.Tables.{User, Rule, Tables, usersTable, environmentsTable, policyTable}
 use Rattle.model.specs.Opening.{Fault, Texts, State, fault, from, checkLength, conflictFrom, refuseAt, checkPolicy, openTables, openRecord, opened}
-use Rattle.opening.specs.Memory.{Arrays}
-use Rattle.opening.specs.Answers.{openingAnswer}
-use Rattle.opening.specs.declared.answer.Opening.the-variants as opening
-use Rattle.exports.specs.Numbers.{WipedIf0}
+use Rattle.exports.specs.Numbers.{faultNumber}
 
 -- what is refused has a number above 0
 abbrev pub ByNumber : {E A : Type 0} → (E → ℕ) → Result E A → Type 0
@@ -146,12 +143,11 @@ opened-numbered t =
     (bound numberIn _ _ (tables-numbered t) (λ tables.
     bound numberIn _ _ (record-numbered tables _) (λ fields. tt))))))
 
--- so a refused opening has nothing to leave
-pub refused-wiped : (t : Texts) (a : Arrays) (n : ℕ) → {i l : ℕ} → opening.Refused n i l ≡ openingAnswer (opened t) → WipedIf0 n a
-unfolding WipedIf0
-refused-wiped t a n {i} {l} e = go (opened t) (opened-numbered t) n e
+-- so where the number is 0 the opening was accepted
+pub zero-accepted : (t : Texts) {n : ℕ} → n ≡ faultNumber (opened t) → n ≡ 0 → (s : State) × (opened t ≡ done s)
+unfolding faultNumber
+zero-accepted t is empty = go (opened t) (opened-numbered t) (sym is ∙ empty)
   where
-    go : (o : Result Fault State) → ByNumber numberIn o → (n : ℕ) → opening.Refused n i l ≡ openingAnswer o → WipedIf0 n a
-    go (refused f) h zero e = let z : 0 ≡ f .number = cc in absurd (omega arith)
-    go (refused f) h (suc n) e = tt
-    go (done s) h n e = let z : _≡_ {A = ℕ} 0 1 = cc in absurd (omega arith)
+    go : (o : Result Fault State) → ByNumber numberIn o → faultNumber o ≡ 0 → (s : State) × (o ≡ done s)
+    go (refused f) h z = absurd (omega arith)
+    go (done s) h z = (s, refl)

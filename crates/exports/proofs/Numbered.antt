@@ -1,5 +1,5 @@
 -- Numbers say what the answer says that they were taken from.
-use Prim.Native.Nat.{ℕ, zero, suc}
+use Prim.Native.Nat.{ℕ}
 use mathlib.Core.Path.{_≡_, refl}
 use mathlib.Core.List.{List}
 use native.Mathlib.Omega.{arith}
@@ -12,7 +12,7 @@ use Rattle.opening.specs.Answers.{openingAnswer}
 use Rattle.model.specs.Serving.{Outcome}
 use Rattle.server.specs.declared.answer.Reply.{Reply}
 use Rattle.server.specs.Replies.{answerIn, toldIn, outcomeIn}
-use Rattle.exports.specs.Numbers.{faultNumber, faultText, faultLine, kindOf, numberOf, Tells, KeptUnless0}
+use Rattle.exports.specs.Numbers.{faultNumber, faultText, faultLine, kindOf, numberOf, Tells}
 
 -- a reply's kind and number, where the reply with what it left is an outcome
 pub reply-tells : (r : Reply) (s : State) (b : Bytes) (l : List ℕ) {o : Outcome} {kind number : ℕ} → outcomeIn r s b l ≡ o
@@ -31,8 +31,3 @@ pub refused-as : (o : Result Fault State) (n t l : ℕ) → opening.Refused n t 
 unfolding faultNumber faultText faultLine
 refused-as (refused f) n t l e = (cc, cc, cc)
 refused-as (done s) n t l e = let z : _≡_ {A = ℕ} 0 1 = cc in absurd (omega arith)
-
-pub kept-unless : {A : Type 0} (n : ℕ) (before now : A) → now ≡ before → KeptUnless0 n before now
-unfolding KeptUnless0
-kept-unless zero before now h = tt
-kept-unless (suc n) before now h = h

@@ -1,14 +1,15 @@
 -- What is answered, as numbers.
-use Prim.Native.Nat.{ℕ, zero, suc}
+use Prim.Native.Nat.{ℕ}
 use mathlib.Core.Path.{_≡_}
 use mathlib.Core.List.{List, []}
 use Rattle.model.specs.Base.{Bytes}
 use Rattle.model.specs.Refusals.{Result, refused, done}
 use Rattle.model.specs.Opening.{State, Texts, Fault, opened, afterOpening}
 use Rattle.model.specs.Serving.{Answer, refusal, session, length-is, accepted, Act, save, decision, Outcome, outcome}
-use Rattle.opening.specs.Memory.{Arrays, stateIn, stateOf, Wiped}
+use Rattle.opening.specs.Memory.{Arrays, stateIn, stateOf}
+use Rattle.opening.specs.Answers.{arraysAfter}
 use Rattle.sessions.specs.Logins.{numbersAfter}
-use Rattle.server.specs.Replies.{FieldsAfter}
+use Rattle.server.specs.Replies.{fieldsAfter}
 
 -- an opening's refusal: its number, its text and its line; 0 where it is accepted
 unfoldable pub faultNumber : Result Fault State → ℕ
@@ -37,25 +38,15 @@ numberOf (session n) told = n
 numberOf (length-is n) told = n
 numberOf accepted told = told
 
--- a refused opening keeps what was lent, number by number
-unfoldable pub KeptUnless0 : {A : Type 0} → ℕ → A → A → Type 0
-KeptUnless0 zero before now = Unit {0}
-KeptUnless0 (suc e) before now = now ≡ before
-
--- an accepted one leaves nothing behind the rows that it stored
-unfoldable pub WipedIf0 : ℕ → Arrays → Type 0
-WipedIf0 zero now = Wiped now
-WipedIf0 (suc e) now = Unit {0}
-
 -- ── What each function promises ──
--- four texts opened: 0 or the number of the refusal, its text and its line, and what the arrays are afterwards
+-- four texts opened: 0 or the number of the refusal, its text and its line, and what the arrays are afterwards; 0 only where they are accepted
 pub record OpensAs (before : Arrays) (texts : Texts) (r inText inLine : ℕ) (after : Arrays) : Type 0 where
   pub number : r ≡ faultNumber (opened texts)
   pub source : inText ≡ faultText (opened texts)
   pub line : inLine ≡ faultLine (opened texts)
   pub state : stateOf after ≡ afterOpening (stateOf before) texts
-  pub kept : KeptUnless0 r before after
-  pub wiped : WipedIf0 r after
+  pub bytes : after ≡ arraysAfter before (opened texts)
+  pub accepted : r ≡ 0 → (s : State) × (opened texts ≡ done s)
 
 -- a kind and a number are those of an outcome, and so is what was left
 pub record Tells (o : Outcome) (kind r : ℕ) (after : State) (buffer : Bytes) (list : List ℕ) : Type 0 where
@@ -69,7 +60,7 @@ pub record Tells (o : Outcome) (kind r : ℕ) (after : State) (buffer : Bytes) (
 pub record ServesAs (before : Arrays) (act : Act) (kind r : ℕ) (after : Arrays) (buffer : Bytes) (list : List ℕ) : Type 0 where
   pub tells : Tells (outcome (stateOf before) act) kind r (stateOf after) buffer list
   pub logins : after .logins ≡ numbersAfter (decision (stateOf before) act) (before .logins)
-  pub fields : FieldsAfter (decision (stateOf before) act) (before .fields) (after .fields)
+  pub fields : after .fields ≡ fieldsAfter (decision (stateOf before) act) (before .fields)
 
 -- fields saved, whatever the tables and the login states are
 abbrev pub SavesAs : Bytes → Bytes → ℕ → ℕ → Bytes → Type 0

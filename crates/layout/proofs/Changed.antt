@@ -158,6 +158,14 @@ module _ (k n : ℕ) where
           unfolding insertedRow
           bytes-inserted = rw (part-inserted, ends, moved)
 
+-- the same of the bytes by themselves
+pub inserted-used : (k n i : ℕ) (row xs : Bytes) → Holds k n xs → length row ≡ k → isEmpty row ≡ false → i < n → i ≤ length (inUse k n xs)
+    → inUse k n (insertedRow k n i row xs) ≡ take n (insertAt i row (inUse k n xs))
+inserted-used k n i row xs fits long kept below within =
+    let m = min (length (inUse k n xs) + 2) n in
+    rw (← bytes-inserted k n i row xs fits long kept below within m (m * k) refl refl _ refl)
+    (used-inserted k n i row xs fits long kept below within m (m * k) refl refl _ refl)
+
 -- after each byte has moved by the length of a row, the copy of the row
 pub put-first : (tail row mid out : Bytes) → length row ≤ length tail → mid ≡ movedLater (length row) tail → out ≡ row ++ drop (length row) mid
     → out ≡ row ++ take (length tail - length row) tail

@@ -5,7 +5,7 @@ ghost use mathlib.Core.Path.{_≡_};
 ghost use mathlib.Core.List.{[], _∷_, _++_};
 ghost use Prim.Native.Nat.{_+_, _*_, _≤_, _<_, min};
 ghost use lib.ListN.{length, getD, take, drop};
-ghost use Rattle.layout.specs.Layout.{countedRows};
+ghost use Rattle.layout.specs.Layout.{countedRows, TightCounted, Keeps};
 
 // How many rows a slot says it has, at most `most`.
 pub fn count(slot: &[u8], most: usize) -> usize
@@ -29,6 +29,7 @@ pub fn row_at(slot: &[u8], size: usize, i: usize) -> &[u8]
 pub fn push_row(slot: &mut [u8], size: usize, most: usize, row: &[u8])
     requires { ⌜ (most * size + 1 ≤ length (now slot)) × (most < 256) × (0 < size) × (length (now row) ≡ size) ⌝ }
     ensures { λ _. ⌜ countedRows size most (now (slot .exit)) ≡ take most (countedRows size most (now (slot .entry)) ++ now (row .entry) ∷ []) ⌝ }
+    ensures { λ _. ⌜ Keeps (TightCounted size most) (now (slot .entry)) (now (slot .exit)) ⌝ }
 {
     let n = count(slot, most);
     if n < most {

@@ -10,7 +10,7 @@ ghost use Prim.Native.Nat.{_+_, _*_, _-_, _≤_, _<_};
 ghost use lib.ListN.{length, take, drop, set};
 ghost use Rattle.rows.specs.Rows.{insertAt};
 ghost use Rattle.rows.specs.Moves.{movedLater};
-ghost use Rattle.layout.specs.Layout.{isEmpty, inUse, Holds, overRow, movedEnd, insertedRow, wiped};
+ghost use Rattle.layout.specs.Layout.{isEmpty, inUse, Holds, overRow, movedEnd, insertedRow, Tight, Keeps};
 
 // Whether a row is empty.
 pub fn is_empty(row: &[u8]) -> bool
@@ -49,6 +49,7 @@ pub fn row_count(t: &[u8], size: usize, most: usize) -> usize
 pub fn push_row(t: &mut [u8], size: usize, most: usize, row: &[u8])
     requires { ⌜ Holds size most (now t) × (length (now row) ≡ size) × (isEmpty (now row) ≡ false) ⌝ }
     ensures { λ _. ⌜ inUse size most (now (t .exit)) ≡ take most (inUse size most (now (t .entry)) ++ now (row .entry) ∷ []) ⌝ }
+    ensures { λ _. ⌜ Keeps (Tight size most) (now (t .entry)) (now (t .exit)) ⌝ }
 {
     let n = row_count(t, size, most);
     if n < most {
@@ -111,10 +112,10 @@ pub fn insert_row(t: &mut [u8], size: usize, most: usize, i: usize, row: &[u8])
     put_before(&mut t[start..end], row);
 }
 
-// The rows in use into a table of as many rows, and zeros behind them: nothing of what stood there stays.
+// A table with zeros behind its rows, copied: only the rows in use are read.
 pub fn copy_rows(to: &mut [u8], from: &[u8], size: usize, most: usize)
-    requires { ⌜ Holds size most (now from) × (length (now to) ≡ most * size) ⌝ }
-    ensures { λ _. ⌜ now (to .exit) ≡ wiped size most (now (from .entry)) ⌝ }
+    requires { ⌜ Holds size most (now from) × (length (now to) ≡ most * size) × Tight size most (now from) ⌝ }
+    ensures { λ _. ⌜ now (to .exit) ≡ now (from .entry) ⌝ }
 {
     let end = row_count(from, size, most) * size;
     copy(to, &from[..end]);

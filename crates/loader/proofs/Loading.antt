@@ -10,7 +10,7 @@ use types.Run.{OneOf}
 use denote.Enum.Declared.{tagOf}
 use borrow.Author.Tests.{ne-eqb, le-leb, lt-leb}
 use lib.ListN.{length, getD, take, drop, set, length-append}
-use lib.Seq.{take-append-le}
+use lib.Seq.{set-getD}
 use Rattle.rows.specs.Rows.{rows, upTo}
 use Rattle.layout.specs.Layout.{table, nameIn, isEmpty, keyRow}
 use Rattle.rows.specs.Positions.{Reads, behind, placed, runEnd}
@@ -30,12 +30,14 @@ use Rattle.values.specs.declared.value.Scalar.{Scalar}
 use Rattle.values.specs.declared.value.ValueAt.{ValueAt}
 use Rattle.values.specs.declared.value.ValueAt.the-variants as value-at
 use Rattle.values.specs.Scalars.{valueIn, valueAnswer}
-use Rattle.paths.specs.Layout.{pathSlot, pathIn}
+use Rattle.paths.specs.Layout.{pathIn}
 use Rattle.layout.proofs.Counts.{length-counted}
 use Rattle.layout.proofs.Named.{push-whole}
-use Rattle.record.specs.Slots.{fieldsIn}
+use Rattle.layout.proofs.Tight.{zeros, zero-at}
+use Rattle.record.specs.Slots.{recordBytes, fieldsIn, CanonicalFields}
 use Rattle.record.specs.Search.{storedAt}
-use Rattle.record.proofs.Slots.{path-same, held-valid}
+use Rattle.record.proofs.Slots.{held-valid}
+use Rattle.record.proofs.Canonical.{none-canonical}
 use Rattle.reader.specs.Tokens.{readScalar, readMember, mapped, readTop}
 use Rattle.loader.specs.Loaded.{loaded, loadAnswer, fieldsOf}
 use Rattle.reader.specs.Summaries.{readingOf, readAnswer}
@@ -62,10 +64,12 @@ scalar-valid s r v h =
     let e = ap (λ (t : Value × Bytes). t .0) (some-same h₁) in
     rw e at (value-valid s (t .1) (t .0) value)
 
--- ── A slot with the path p and the key k behind it ──
-pub copied-path : (p q r : Bytes) → length p ≡ pathSlot → q ≡ p ++ r → pathIn q ≡ pathIn p
-copied-path p q r l e = path-same q p (rw e (take-append-le pathSlot p r (omega arith)))
+-- a value that was read at v
+pub leaf-valid : (s : Bytes) (v : ℕ) (x : ValueAt) → valueAnswer s x ≡ placed readScalar s v → v ≤ length s → (w : Scalar) (e : ℕ) → x ≡ value-at.At w e
+    → validValue (valueIn s w) ≡ true
+leaf-valid s v x answer h w e i = scalar-valid _ _ _ (scalar-reads s v x answer h w e i .is)
 
+-- ── A slot with the path p and the key k behind it ──
 pub record Child (p : Keys) (k slot : Bytes) : Type 0 where
   pub is : pathIn slot ≡ p ++ k ∷ []
 
@@ -96,8 +100,7 @@ module _ {p : Keys} {k slot : Bytes} (child : Child p k slot) where
       pub leaf-loaded : v ≤ length s → (w : Scalar) (e : ℕ) → x ≡ value-at.At w e
           → some (storedAt slot (valueIn s w) fs, e) ≡ placed (mapped (nodeLoaded (p ++ k ∷ []) fs) (readNode d)) s v
       leaf-loaded h w e i =
-          let r = scalar-reads s v x answer h w e i in
-          rw (leaf-stored (valueIn s w) (scalar-valid _ _ _ (r .is))) (mapped-is _ (readNode d) s v _ e (node-leaf d s v x answer h w e i))
+          rw (leaf-stored (valueIn s w) (leaf-valid s v x answer h w e i)) (mapped-is _ (readNode d) s v _ e (node-leaf d s v x answer h w e i))
 
       pub object-loaded : x ≡ value-at.Bad
           → placed (mapped (loaded (pathIn slot) fs) (readObject d)) s v ≡ placed (mapped (nodeLoaded (p ++ k ∷ []) fs) (readNode d)) s v
@@ -119,6 +122,13 @@ pub emptied : (xs : Bytes) → fieldsIn (set xs 0 0) ≡ []
 unfolding fieldsIn table rows upTo isEmpty
 emptied [] = refl
 emptied (x ∷ xs) = refl
+
+-- zeros stay zeros, which are written as no fields are
+first-zero : (n : ℕ) → set (zeros n) 0 0 ≡ zeros n
+first-zero n = ap (set (zeros n) 0) (sym (zero-at n 0)) ∙ set-getD (zeros n) 0 0
+
+pub emptied-zeros : (xs : Bytes) → xs ≡ zeros recordBytes → CanonicalFields (set xs 0 0)
+emptied-zeros xs e = rw (e, first-zero recordBytes) none-canonical
 
 -- ── The whole text ──
 tree-top : (s : Bytes) (m : Members) → treeOf s ≡ some m → (r : Bytes) × (readTop (skip s) ≡ some (m, r))

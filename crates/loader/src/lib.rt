@@ -20,11 +20,12 @@ use values::value::ValueAt;
 ghost use mathlib.Core.Path.{_≡_};
 ghost use mathlib.Core.List.{[], _∷_, _++_};
 ghost use Prim.Native.Nat.{_+_, _≤_};
-ghost use lib.ListN.{length, take};
+ghost use lib.ListN.{length, take, replicate};
 ghost use Rattle.rows.specs.Positions.{placed};
 ghost use Rattle.model.specs.RecordText.{readObject};
 ghost use Rattle.paths.specs.Layout.{pathSlot, pathIn};
-ghost use Rattle.record.specs.Slots.{fieldsIn};
+ghost use Rattle.layout.specs.Layout.{Keeps, CanonicalKeys};
+ghost use Rattle.record.specs.Slots.{recordBytes, fieldsIn, CanonicalFields};
 ghost use Rattle.reader.specs.Tokens.{mapped, readTop};
 ghost use Rattle.reader.specs.Summaries.{readingOf, readAnswer};
 ghost use Rattle.loader.specs.Loaded.{loaded, loadAnswer, fieldsOf, HoldsOrKeeps};
@@ -34,6 +35,7 @@ ghost use Rattle.model.specs.Limits.{maxKey, maxDepth, maxText};
 fn put_child(child: &mut [u8; PATH], path: &[u8; PATH], key: &[u8])
     ensures { λ _. ⌜ pathIn (now (child .exit)) ≡ take maxDepth (pathIn (now (path .entry)) ++ (take maxKey (now (key .entry)) ∷ [])) ⌝ }
     ensures { λ _. ⌜ length (now (child .exit)) ≡ pathSlot ⌝ }
+    ensures { λ _. ⌜ Keeps (CanonicalKeys maxDepth) (now (path .entry)) (now (child .exit)) ⌝ }
 {
     copy(child, path);
     push_key(child, key, MAX_DEPTH);
@@ -49,6 +51,7 @@ fn load_object(
 ) -> End
     requires { ⌜ (at ≤ length (now s)) × (length (now s) ≤ maxText) × (length (pathIn (now path)) + depth ≤ maxDepth) ⌝ }
     ensures { λ r. ⌜ loadAnswer (fieldsIn (now (table .exit))) r ≡ placed (mapped (loaded (pathIn (now (path .entry))) (fieldsIn (now (table .entry)))) (readObject depth)) (now (s .entry)) at ⌝ }
+    ensures { λ r. ⌜ (CanonicalKeys maxDepth (now (path .entry)) → Keeps CanonicalFields (now (table .entry)) (now (table .exit))) ⌝ }
 {
     if depth == 0 {
         return End::Bad;
@@ -89,6 +92,7 @@ fn load_object(
 fn load_top(table: &mut [u8; RECORD], s: &[u8], at: usize) -> End
     requires { ⌜ (at ≤ length (now s)) × (length (now s) ≤ maxText) ⌝ }
     ensures { λ r. ⌜ loadAnswer (fieldsIn (now (table .exit))) r ≡ placed (mapped (loaded [] []) readTop) (now (s .entry)) at ⌝ }
+    ensures { λ r. ⌜ (now (table .entry) ≡ replicate recordBytes 0 → CanonicalFields (now (table .exit))) ⌝ }
 {
     table[0] = 0;
     let TokenAt::Open(open) = token_at(s, at) else {
@@ -106,6 +110,7 @@ pub fn read_record(table: &mut [u8; RECORD], s: &[u8]) -> RecordRead
     requires { ⌜ length (now s) ≤ maxText ⌝ }
     ensures { λ r. ⌜ readAnswer r ≡ readingOf (now (s .entry)) ⌝ }
     ensures { λ r. ⌜ HoldsOrKeeps (fieldsOf (now (s .entry))) (now (table .entry)) (now (table .exit)) ⌝ }
+    ensures { λ r. ⌜ (now (table .entry) ≡ replicate recordBytes 0 → CanonicalFields (now (table .exit))) ⌝ }
 {
     let read = read_summary(s);
     if let RecordRead::Fields(n) = read {

@@ -1,36 +1,34 @@
 -- The four texts opened: the lengths decide first, then the tables, then the record; a refusal keeps the state.
 use Prim.Native.Nat.{ℕ, suc, _≤_, _<_}
-use mathlib.Core.Path.{_≡_, refl, sym, _∙_}
+use mathlib.Core.Path.{_≡_, refl, sym, ap₂, _∙_}
 use mathlib.Core.Bool.{Bool, true, false, cond}
 use mathlib.Core.List.{List, []}
 use native.Mathlib.Omega.{arith}
 use borrow.Author.Tests.{ltb-false}
 use lib.Dec.{ltb}
-use lib.ListN.{length, replicate}
+use lib.ListN.{length}
 use Rattle.model.specs.Base.{Bytes}
 use Rattle.model.specs.Limits.{maxText}
 use Rattle.model.specs.Fields.{Fields}
 use Rattle.model.specs.Tables.{Tables}
 use Rattle.model.specs.Refusals.{refused, done, _>>=_, Opened}
-use Rattle.model.specs.Opening.{State, Texts, fault, checkLength, emptyLogin, emptyLogins, openTables, openRecord, opened, kept, afterOpening}
+use Rattle.model.specs.Opening.{State, Texts, fault, checkLength, emptyLogins, openTables, openRecord, opened, kept, afterOpening}
 use Rattle.model.proofs.Lists.{by-cases}
-use Rattle.rows.specs.Rows.{rows}
-use Rattle.tables.specs.Memory.{tablesIn}
-use Rattle.record.specs.Slots.{fieldsIn}
+use Rattle.layout.proofs.Tight.{zeros}
+use Rattle.tables.specs.Memory.{tablesIn, CanonicalTables}
+use Rattle.tables.proofs.Encoded.{tables-encoded}
+use Rattle.record.specs.Slots.{fieldsIn, CanonicalFields}
+use Rattle.record.proofs.Canonical.{fields-encoded}
 use Rattle.opening.specs.declared.answer.Opening.{Opening}
 use Rattle.opening.specs.declared.answer.Opening.the-variants.{Done, Refused}
-use Rattle.sessions.specs.Logins.{loginNumbers, loginIn, loginsIn}
-use Rattle.opening.specs.Memory.{Arrays, arrays, stateIn, wipedTables, wipedFields}
+use Rattle.sessions.specs.Logins.{loginNumbers}
+use Rattle.opening.specs.Memory.{Arrays, arrays, stateIn, encodeOpened}
 use Rattle.opening.specs.Answers.{textsOf, tooLong, openingResult, Opens}
+use Rattle.opening.proofs.Zeros.{no-logins}
 
 -- the state that opened tables and fields make
 abbrev pub fresh : Tables → Fields → State
 fresh tables fields = record { tables = tables; loginStates = emptyLogins; fields = fields }
-
--- zeros are the login states of an opening
-pub no-logins : loginsIn (replicate loginNumbers 0) ≡ emptyLogins
-unfolding loginsIn loginIn rows emptyLogin emptyLogins
-no-logins = refl
 
 -- a choice that gives 0 is no positive number
 if-zero : (b : Bool) (n m : ℕ) → cond b (suc n) m ≡ 0 → (b ≡ false) × (m ≡ 0)
@@ -85,11 +83,13 @@ module _ (u e p r : Bytes) where
 pub refusal : (texts : Texts) (a : Arrays) {answer : Opening} {k t l : ℕ} → answer ≡ Refused k t l → opened texts ≡ refused (fault k t l)
     → Opens a texts answer a
 unfolding afterOpening kept fault
-refusal texts a i h = record { answered = rw (i, h); state = rw h; kept = rw i refl; wiped = rw i tt }
+refusal texts a i h = record { answered = rw (i, h); state = rw h; bytes = rw h }
 
 -- what an accepted opening answers and leaves
 pub acceptance : (texts : Texts) (before : Arrays) (tables fields : Bytes) → opened texts ≡ done (fresh (tablesIn tables) (fieldsIn fields))
-    → tables ≡ wipedTables tables → fields ≡ wipedFields fields → Opens before texts Done (arrays tables (replicate loginNumbers 0) fields)
-unfolding afterOpening kept stateIn
+    → CanonicalTables tables → CanonicalFields fields → Opens before texts Done (arrays tables (zeros loginNumbers) fields)
+unfolding afterOpening kept stateIn encodeOpened
 acceptance texts before tables fields h t f =
-    record { answered = rw h; state = rw (h, no-logins); kept = tt; wiped = record { tables = t; logins = refl; fields = f } }
+    let written = tables-encoded tables t in
+    let stored = fields-encoded fields f in
+    record { answered = rw h; state = rw (h, no-logins); bytes = rw h (ap₂ (λ (x y : Bytes). arrays x (zeros loginNumbers) y) written stored) }

@@ -18,8 +18,7 @@ use Rattle.model.specs.Opening.{Fault, fault, from, conflictFrom, refuseAt, che
 use Rattle.model.proofs.Lists.{by-cases, refused-done, done-same, none-some, if-done}
 use Rattle.tables.specs.Memory.{userRow, usersBytes, ruleRow, tablesBytes, userIn, usersIn, ruleIn, policyIn, tablesIn}
 use Rattle.tables.specs.Grants.{lineNumber}
-use Rattle.tabletext.specs.Reading.{inUsers, inPolicy, tableOf, tableAnswer, ifDone, rowsAsFar, linesAsFar, tablesAsFar}
-use Rattle.tabletext.proofs.Lined.{Answered}
+use Rattle.tabletext.specs.Reading.{inUsers, inPolicy, tableOf, tableAnswer, ifDone, rowsAsFar, linesAsFar, tablesAsFar, Answered}
 use Rattle.tabletext.specs.declared.read.Table.the-variants.{Users, Environments, Policy}
 use Rattle.tabletext.specs.declared.read.TableRead.{TableRead}
 use Rattle.tabletext.specs.declared.read.TableRead.the-variants as table-read
@@ -136,14 +135,6 @@ module _ (rs : List Rule) {n : ℕ} (is : n ≡ lineNumber (conflictFrom 2 [] rs
 -- ── A memory without users and policy ──
 abbrev pub noTables : Tables
 noTables = record { users = []; policy = [] }
-
-pub emptied : (s : Bytes) → length s ≡ tablesBytes → tablesIn (set (set s 0 0) usersBytes 0) ≡ noTables
-unfolding tablesIn usersIn policyIn
-emptied s l =
-    let m = set (set s 0 0) usersBytes 0 in
-    let users : getD m 0 0 ≡ 0 = getD-set-other (set s 0 0) usersBytes 0 0 0 (λ e. omega arith) ∙ getD-set-same s 0 0 0 (omega arith) in
-    let policy : getD (drop usersBytes m) 0 0 ≡ 0 = getD-drop usersBytes m 0 0 ∙ getD-set-same (set s 0 0) usersBytes 0 0 (rw length-set (omega arith)) in
-    rw (table-none userIn userRow maxUsers m (omega arith) users, table-none ruleIn ruleRow maxRules (drop usersBytes m) (omega arith) policy)
 
 -- ── The three readings, each in both tables ──
 module _ (users environments policy : Bytes) where

@@ -6,8 +6,8 @@ use lib.ListN.{length}
 use Rattle.model.specs.Base.{Bytes, if_then_else_}
 use Rattle.model.specs.Limits.{maxText}
 use Rattle.model.specs.Refusals.{Result, refused, done}
-use Rattle.model.specs.Opening.{Texts, Fault, fault, opened, afterOpening}
-use Rattle.opening.specs.Memory.{Arrays, stateOf, Wiped}
+use Rattle.model.specs.Opening.{State, Texts, Fault, fault, opened, afterOpening}
+use Rattle.opening.specs.Memory.{Arrays, stateOf, encodeOpened}
 use Rattle.opening.specs.declared.answer.Opening.{Opening}
 use Rattle.opening.specs.declared.answer.Opening.the-variants.{Done, Refused}
 
@@ -31,19 +31,13 @@ abbrev pub openingAnswer : {A : Type 0} → Result Fault A → Opening
 openingAnswer (refused f) = Refused (f .number) (f .inText) (f .line)
 openingAnswer (done a) = Done
 
--- a refusal keeps what was lent, byte for byte
-abbrev pub KeptIfRefused : {A : Type 0} → Opening → A → A → Type 0
-KeptIfRefused Done before now = Unit {0}
-KeptIfRefused (Refused n t l) before now = now ≡ before
+-- the arrays after an opening: kept by a refusal, else those of the new state
+abbrev pub arraysAfter : Arrays → Result Fault State → Arrays
+arraysAfter before (refused f) = before
+arraysAfter before (done s) = encodeOpened s
 
--- an acceptance leaves nothing behind the rows that it stored
-abbrev pub WipedIfDone : Opening → Arrays → Type 0
-WipedIfDone Done now = Wiped now
-WipedIfDone (Refused n t l) now = Unit {0}
-
--- four texts opened: what is answered, and what the arrays are afterwards
+-- four texts opened: what is answered, what the arrays mean afterwards, and every byte of them
 pub record Opens (before : Arrays) (texts : Texts) (answer : Opening) (after : Arrays) : Type 0 where
   pub answered : answer ≡ openingAnswer (opened texts)
   pub state : stateOf after ≡ afterOpening (stateOf before) texts
-  pub kept : KeptIfRefused answer before after
-  pub wiped : WipedIfDone answer after
+  pub bytes : after ≡ arraysAfter before (opened texts)

@@ -1,14 +1,11 @@
--- What the three arrays mean, whatever they hold.
+-- What the three arrays mean, whatever they hold; and the bytes of a state that was opened.
 use Prim.Native.Nat.{ℕ}
-use mathlib.Core.Path.{_≡_}
-use mathlib.Core.List.{List, _++_}
-use lib.ListN.{drop, replicate}
-use Rattle.layout.specs.Layout.{wiped}
+use mathlib.Core.List.{List}
+use lib.ListN.{replicate}
 use Rattle.model.specs.Base.{Bytes}
-use Rattle.model.specs.Limits.{maxUsers, maxRules, maxFields}
 use Rattle.model.specs.Opening.{State}
-use Rattle.tables.specs.Memory.{userRow, usersBytes, ruleRow, tablesIn}
-use Rattle.record.specs.Slots.{slotBytes, fieldsIn}
+use Rattle.tables.specs.Memory.{tablesIn, encodeTables}
+use Rattle.record.specs.Slots.{fieldsIn, encodeFields}
 use Rattle.sessions.specs.Logins.{loginNumbers, loginsIn}
 
 -- the three arrays that a caller lends
@@ -27,17 +24,6 @@ stateIn tables logins fields = record { tables = tablesIn tables; loginStates = 
 abbrev pub stateOf : Arrays → State
 stateOf a = stateIn (a .tables) (a .logins) (a .fields)
 
--- ── Nothing behind what they hold ──
--- the rows in use alone, of the users and behind them of the policy
-unfoldable pub wipedTables : Bytes → Bytes
-wipedTables s = wiped userRow maxUsers s ++ wiped ruleRow maxRules (drop usersBytes s)
-
--- and of the fields
-unfoldable pub wipedFields : Bytes → Bytes
-wipedFields s = wiped slotBytes maxFields s
-
--- the arrays hold their rows in use and nothing else: every other byte is 0, and every login number
-pub record Wiped (a : Arrays) : Type 0 where
-  pub tables : a .tables ≡ wipedTables (a .tables)
-  pub logins : a .logins ≡ replicate loginNumbers 0
-  pub fields : a .fields ≡ wipedFields (a .fields)
+-- the arrays of a state without logins: written as it is, byte for byte, with zeros wherever nothing is said
+unfoldable pub encodeOpened : State → Arrays
+encodeOpened s = arrays (encodeTables (s .tables)) (replicate loginNumbers 0) (encodeFields (s .fields))

@@ -18,13 +18,13 @@ use tables::memory::policy_of;
 use tables::memory::quota;
 ghost use mathlib.Core.Path.{_≡_};
 ghost use Prim.Native.Nat.{_≤_};
-ghost use lib.ListN.{length};
+ghost use lib.ListN.{length, replicate};
 ghost use Rattle.model.specs.Base.{any};
 ghost use Rattle.model.specs.Limits.{maxText};
 ghost use Rattle.model.specs.Paths.{asSteps};
 ghost use Rattle.model.specs.Rights.{conflictsWith};
 ghost use Rattle.model.specs.Opening.{quotas, openRecord};
-ghost use Rattle.record.specs.Slots.{fieldsIn};
+ghost use Rattle.record.specs.Slots.{recordBytes, fieldsIn, CanonicalFields};
 ghost use Rattle.tables.specs.Memory.{usersBytes, policyBytes, usersIn, policyIn, tablesIn};
 ghost use Rattle.opening.specs.Answers.{openingResult};
 
@@ -60,10 +60,11 @@ fn has_conflicting_field(policy: &[u8], table: &[u8; RECORD]) -> bool
     false
 }
 
-// A record's text into a table.
+// A record's text into a table of zeros.
 pub fn open_record(tables: &[u8; TABLES], table: &mut [u8; RECORD], s: &[u8]) -> Opening
-    requires { ⌜ length (now s) ≤ maxText ⌝ }
+    requires { ⌜ (length (now s) ≤ maxText) × (now table ≡ replicate recordBytes 0) ⌝ }
     ensures { λ r. ⌜ openingResult r (fieldsIn (now (table .exit))) ≡ openRecord (tablesIn (now (tables .entry))) (now (s .entry)) ⌝ }
+    ensures { λ _. ⌜ CanonicalFields (now (table .exit)) ⌝ }
 {
     let read = read_record(table, s);
     let n = match read {

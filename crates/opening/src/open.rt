@@ -31,7 +31,7 @@ fn too_long(users: &[u8], environments: &[u8], policy: &[u8], text: &[u8]) -> us
     0
 }
 
-// The four texts opened together: refused, the three arrays are as they were; accepted, they hold the new state, and zeros behind its rows.
+// The four texts opened together: refused, the three arrays are as they were; accepted, they are those of the new state, byte for byte.
 pub fn open(
     tables: &mut [u8; TABLES],
     logins: &mut [u16; LOGINS],

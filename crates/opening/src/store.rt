@@ -1,4 +1,4 @@
-// What was read into arrays of the opening's own, stored in the lent ones, of which nothing else stays.
+// What was read into arrays of the opening's own, stored in the lent ones: only rows in use are read, so that short texts stay cheap.
 use layout::table::copy_rows;
 use record::table::RECORD;
 use record::table::SLOT;
@@ -11,31 +11,30 @@ use tables::memory::USER;
 use tables::memory::USERS;
 ghost use mathlib.Core.Path.{_≡_};
 ghost use lib.ListN.{length};
-ghost use Rattle.record.specs.Slots.{fieldsIn};
-ghost use Rattle.tables.specs.Memory.{tablesBytes, tablesIn};
-ghost use Rattle.opening.specs.Memory.{wipedTables, wipedFields};
+ghost use Rattle.record.specs.Slots.{CanonicalFields};
+ghost use Rattle.tables.specs.Memory.{tablesBytes, CanonicalTables};
 
 // The tables: users, and behind their rows the policy.
 fn copy_both(to: &mut [u8], from: &[u8])
-    requires { ⌜ (length (now to) ≡ tablesBytes) × (length (now from) ≡ tablesBytes) ⌝ }
-    ensures { λ _. ⌜ now (to .exit) ≡ wipedTables (now (from .entry)) ⌝ }
+    requires { ⌜ (length (now to) ≡ tablesBytes) × (length (now from) ≡ tablesBytes) × CanonicalTables (now from) ⌝ }
+    ensures { λ _. ⌜ now (to .exit) ≡ now (from .entry) ⌝ }
 {
-    copy_rows(&mut to[..POLICY], from, USER, USERS);
+    copy_rows(&mut to[..POLICY], &from[..POLICY], USER, USERS);
     copy_rows(&mut to[POLICY..], &from[POLICY..], RULE, RULES);
 }
 
 // The same for whole arrays.
 pub fn copy_tables(to: &mut [u8; TABLES], from: &[u8; TABLES])
-    ensures { λ _. ⌜ tablesIn (now (to .exit)) ≡ tablesIn (now (from .entry)) ⌝ }
-    ensures { λ _. ⌜ now (to .exit) ≡ wipedTables (now (to .exit)) ⌝ }
+    requires { ⌜ CanonicalTables (now from) ⌝ }
+    ensures { λ _. ⌜ now (to .exit) ≡ now (from .entry) ⌝ }
 {
     copy_both(to, from);
 }
 
 // The fields.
 pub fn copy_fields(to: &mut [u8; RECORD], from: &[u8; RECORD])
-    ensures { λ _. ⌜ fieldsIn (now (to .exit)) ≡ fieldsIn (now (from .entry)) ⌝ }
-    ensures { λ _. ⌜ now (to .exit) ≡ wipedFields (now (to .exit)) ⌝ }
+    requires { ⌜ CanonicalFields (now from) ⌝ }
+    ensures { λ _. ⌜ now (to .exit) ≡ now (from .entry) ⌝ }
 {
     copy_rows(to, from, SLOT, SLOTS);
 }

@@ -1,7 +1,6 @@
 // The texts of the three tables opened together.
 use crate::answer::Opening;
 use tables::conflicts::first_conflict;
-use tables::memory::POLICY;
 use tables::memory::TABLES;
 use tables::memory::policy_of;
 use tabletext::read::Table;
@@ -10,21 +9,12 @@ use tabletext::read::read_table;
 ghost use mathlib.Core.Path.{_≡_};
 ghost use mathlib.Core.List.{[]};
 ghost use Prim.Native.Nat.{_≤_};
-ghost use lib.ListN.{length, drop};
+ghost use lib.ListN.{length, drop, replicate};
 ghost use Rattle.model.specs.Limits.{maxText};
 ghost use Rattle.model.specs.Opening.{conflictFrom, openTables};
 ghost use Rattle.tables.specs.Grants.{lineNumber};
-ghost use Rattle.tables.specs.Memory.{usersBytes, tablesBytes, policyIn, tablesIn};
+ghost use Rattle.tables.specs.Memory.{usersBytes, tablesBytes, policyIn, tablesIn, CanonicalTables};
 ghost use Rattle.opening.specs.Answers.{textsOf, openingResult};
-
-// No users and no policy: the first row of each is empty.
-fn clear(tables: &mut [u8])
-    requires { ⌜ length (now tables) ≡ tablesBytes ⌝ }
-    ensures { λ _. ⌜ tablesIn (now (tables .exit)) ≡ record { users = []; policy = [] } ⌝ }
-{
-    tables[0] = 0;
-    tables[POLICY] = 0;
-}
 
 // The line of the first conflict among the policy's; 0 where there is none.
 fn conflict_in(tables: &[u8; TABLES]) -> usize
@@ -33,7 +23,7 @@ fn conflict_in(tables: &[u8; TABLES]) -> usize
     first_conflict(policy_of(tables))
 }
 
-// The three tables' texts into memory.
+// The three tables' texts into memory of zeros.
 pub fn open_tables(
     tables: &mut [u8; TABLES],
     users: &[u8],
@@ -41,9 +31,10 @@ pub fn open_tables(
     policy: &[u8],
 ) -> Opening
     requires { ⌜ (length (now users) ≤ maxText) × (length (now environments) ≤ maxText) × (length (now policy) ≤ maxText) ⌝ }
+    requires { ⌜ now tables ≡ replicate tablesBytes 0 ⌝ }
     ensures { λ r. ⌜ openingResult r (tablesIn (now (tables .exit))) ≡ openTables (textsOf (now (users .entry)) (now (environments .entry)) (now (policy .entry)) []) ⌝ }
+    ensures { λ _. ⌜ CanonicalTables (now (tables .exit)) ⌝ }
 {
-    clear(tables);
     if let TableRead::Refused(e, n) = read_table(Table::Users, tables, users) {
         return Opening::Refused(e, 1, n);
     }

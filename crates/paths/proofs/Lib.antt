@@ -5,3 +5,4 @@ pub mod Spelled
 pub mod InBrackets
 pub mod WholePaths
 pub mod KeySteps
+pub mod PathBytes

@@ -3,7 +3,7 @@ use Prim.Native.Nat.{ℕ, _+_, _*_}
 use Rattle.model.specs.Base.{Bytes}
 use Rattle.model.specs.Limits.{maxDepth}
 use Rattle.model.specs.Fields.{Keys}
-use Rattle.layout.specs.Layout.{keyRow, nameIn, counted}
+use Rattle.layout.specs.Layout.{keyRow, nameIn, counted, encodeKeys}
 
 -- ── Sizes, in bytes ──
 -- a slot of a field's path: how many keys, and a row for each
@@ -14,3 +14,7 @@ pathSlot = 1 + maxDepth * keyRow
 -- a field's path
 unfoldable pub pathIn : Bytes → Keys
 pathIn s = counted nameIn keyRow maxDepth s
+
+-- ── Every byte ──
+unfoldable pub encodePath : Keys → Bytes
+encodePath p = encodeKeys maxDepth p

@@ -20,9 +20,10 @@ ghost use Prim.Native.Nat.{_+_, _≤_, _<_, _^_};
 ghost use lib.ListN.{length};
 ghost use Rattle.rows.specs.Rows.{Wrote};
 ghost use Rattle.rows.specs.Positions.{placed};
-ghost use Rattle.model.specs.Limits.{maxPathText};
+ghost use Rattle.model.specs.Limits.{maxPathText, maxDepth};
 ghost use Rattle.model.specs.Fields.{orderPath};
 ghost use Rattle.model.specs.Paths.{readKeyStep, keysOf, keysText};
+ghost use Rattle.layout.specs.Layout.{CanonicalKeys};
 ghost use Rattle.lexical.specs.Orders.{orderOf};
 ghost use Rattle.paths.specs.Layout.{pathSlot, pathIn};
 ghost use Rattle.paths.specs.Fields.{keyAnswer, pathAnswer, shared};
@@ -99,7 +100,7 @@ fn key_step(s: &[u8], at: usize) -> End
 }
 
 fn no_path() -> PathRead
-    ensures { λ r. ⌜ pathAnswer r ≡ none ⌝ }
+    ensures { λ r. ⌜ (pathAnswer r ≡ none) × CanonicalKeys maxDepth (r .slot) ⌝ }
 {
     PathRead {
         ok: false,
@@ -109,7 +110,7 @@ fn no_path() -> PathRead
 
 // A normalized path that is the whole text.
 pub fn read_path(s: &[u8]) -> PathRead
-    ensures { λ r. ⌜ pathAnswer r ≡ keysOf (now (s .entry)) ⌝ }
+    ensures { λ r. ⌜ (pathAnswer r ≡ keysOf (now (s .entry))) × CanonicalKeys maxDepth (r .slot) ⌝ }
 {
     if !is_at(s, 0, b'$') {
         return no_path();

@@ -16,7 +16,7 @@ use Rattle.opening.specs.declared.answer.Opening.{Opening}
 use Rattle.opening.specs.declared.answer.Opening.the-variants as opening
 use Rattle.server.specs.declared.answer.Reply.{Reply}
 use Rattle.server.specs.declared.answer.Reply.the-variants as reply
-use Rattle.server.specs.Replies.{Lent, FieldsAfter}
+use Rattle.server.specs.Replies.{Lent, fieldsAfter}
 
 -- ── Lengths, in bytes ──
 -- `OK;` and `NO;`
@@ -68,6 +68,6 @@ act text given = line text (given .buffer) (given .list)
 pub record Responds (before : Arrays) (text : Bytes) (given : Lent) (after : Arrays) (left : Lent) (over : Bytes) (n : ℕ) (out : Bytes) : Type 0 where
   pub leaves : Left (outcome (stateOf before) (act text given)) (stateOf after) left
   pub logins : after .logins ≡ numbersAfter (decision (stateOf before) (act text given)) (before .logins)
-  pub fields : FieldsAfter (decision (stateOf before) (act text given)) (before .fields) (after .fields)
+  pub fields : after .fields ≡ fieldsAfter (decision (stateOf before) (act text given)) (before .fields)
   pub wrote : Wrote 0 (printed (eventIn (stateOf before) (act text given))) over n out
   pub short : n ≤ mostPrinted

@@ -3,3 +3,4 @@ pub mod Search
 pub mod Places
 pub mod Stores
 pub mod Slots
+pub mod Canonical

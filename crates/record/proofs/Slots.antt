@@ -1,21 +1,22 @@
 -- A slot: the value that its text says, and what it holds once a path, a value's text and the length of the text are written into it.
-use Prim.Native.Nat.{ℕ, _+_, _*_, _-_, _≤_, _<_, min}
+use Prim.Native.Nat.{ℕ, suc, _+_, _*_, _-_, _≤_, _<_, min}
 use mathlib.Core.Path.{_≡_, sym, ap, _∙_}
 use mathlib.Core.Bool.{true, false}
-use mathlib.Core.List.{[], _++_, append-nil}
-use native.Mathlib.Nat.{add-sub-cancel-left}
+use mathlib.Core.List.{[], _∷_, _++_, append-assoc, append-nil}
+use native.Mathlib.Nat.{add-sub-cancel-left, zero-add}
 use native.Mathlib.Omega.{arith}
-use lib.ListN.{length, getD, take, drop, set, length-take, length-drop, length-append, length-set}
-use lib.Seq.{take-take, take-at, take-all, take-append-le, take-set-le, drop-at, drop-set-lt, length-take-le, getD-take, getD-set-same}
-use Rattle.rows.specs.Rows.{replaced, written, Wrote}
+use lib.ListN.{length, getD, take, drop, set, replicate, length-take, length-append, length-replicate}
+use lib.Seq.{take-take, take-at, take-all, take-append-le, take-append-seam, drop-at, drop-drop, set-at, getD-at, getD-take}
+use Rattle.rows.specs.Rows.{replaced, Wrote}
 use Rattle.layout.proofs.Counts.{counted-part}
 use Rattle.layout.proofs.Used.{table-at}
-use Rattle.rows.proofs.Parts.{part-at, tail-replaced}
-use Rattle.rows.proofs.Writing.{length-written, written-clipped}
+use Rattle.layout.proofs.Tight.{zeros, drop-zeros}
+use Rattle.rows.proofs.Parts.{part-at, tail-part, tail-replaced}
+use Rattle.rows.proofs.Writing.{written-clipped}
 use Rattle.rows.specs.Positions.{placed}
 use Rattle.model.specs.Base.{Bytes}
 use Rattle.model.specs.Limits.{maxDepth, maxFields}
-use Rattle.model.specs.Fields.{fieldOf}
+use Rattle.model.specs.Fields.{Fields, fieldOf}
 use Rattle.model.specs.Values.{Value, truth, readValue, valueText, validValue}
 use Rattle.model.proofs.Spelling as spelling
 use Rattle.values.specs.declared.value.ValueAt.{ValueAt}
@@ -23,8 +24,9 @@ use Rattle.values.specs.declared.value.ValueAt.the-variants.{Bad}
 use Rattle.values.specs.Scalars as scalars
 use Rattle.values.proofs.Values.{value-bad}
 use Rattle.paths.specs.Layout.{pathSlot, pathIn}
-use Rattle.layout.specs.Layout.{keyRow, nameIn, counted, isEmpty}
-use Rattle.record.specs.Slots.{valueRoom, slotBytes, textIn, valueIn, heldValue, fieldIn, fieldsIn, fieldAt}
+use Rattle.layout.specs.Layout.{keyRow, nameIn, isEmpty, encodeName}
+use Rattle.record.specs.Slots.{valueRoom, slotBytes, textIn, valueIn, heldText, heldValue, fieldIn, fieldsIn, fieldAt, encodeField, CanonicalField, slotOf, Proper}
+use Rattle.record.specs.Search.{storedIn, storedAt}
 
 -- ── The value's text, and the value ──
 pub text-part : (s : Bytes) (n : ℕ) → pathSlot < length s → n ≡ min (getD (take (length s - pathSlot) (drop pathSlot s)) 0 0) valueRoom → take ((1 + pathSlot) + n - (1 + pathSlot)) (drop (1 + pathSlot) s) ≡ textIn s
@@ -63,12 +65,6 @@ pub field-slot : (s slot : Bytes) (i : ℕ) → slot ≡ take slotBytes (drop (i
 unfolding fieldsIn fieldAt
 field-slot s slot i here h = ap fieldIn here ∙ sym (table-at fieldIn slotBytes maxFields s i _ h)
 
--- a text that is written into its room, read back by its length: what there was room for
-text-clipped : (xs room : Bytes) → length room ≡ valueRoom → (n : ℕ) → n ≡ min (length xs) valueRoom → take (min n valueRoom) (written 0 xs room) ≡ take valueRoom xs
-text-clipped xs room l n h =
-    let k : length (take valueRoom xs) ≡ min n valueRoom = rw length-take (omega arith) in
-    rw (written-clipped, l) (take-at (take valueRoom xs) _ (min n valueRoom) k)
-
 -- a value within its limits is held as it is
 pub held-valid : (v : Value) → validValue v ≡ true → heldValue v ≡ v
 unfolding heldValue
@@ -76,77 +72,100 @@ held-valid v valid =
     let all = take-all valueRoom (valueText v) (spelling.value-length v valid) in
     rw all (rw (rw append-nil at (spelling.value-reads v [] valid tt)))
 
--- ── A slot s that is filled with the path of p and the value v ──
+-- ── A slot made of the path p and the value v ──
+held-short : (v : Value) → length (heldText v) ≤ valueRoom
+held-short v = rw length-take (omega arith)
+
+module _ (p : Bytes) (v : Value) where
+  module _ (l : length p ≡ pathSlot) where
+    pub slot-long : length (slotOf p v) ≡ slotBytes
+    unfolding slotOf encodeName
+    slot-long = simp (length-append, length-replicate) (omega (arith, held-short v))
+
+    slot-path : take pathSlot (slotOf p v) ≡ take pathSlot p
+    unfolding slotOf
+    slot-path = take-append-le pathSlot p _ (omega arith)
+
+    -- the path's keys
+    pub slot-keys : pathIn (slotOf p v) ≡ pathIn p
+    slot-keys = path-same (slotOf p v) p slot-path
+
+    pub slot-empty : isEmpty (slotOf p v) ≡ isEmpty p
+    slot-empty = empty-same (slotOf p v) p slot-path
+
+    slot-text : textIn (slotOf p v) ≡ heldText v
+    unfolding slotOf textIn encodeName
+    slot-text =
+        let n = length (heldText v) in
+        let rest = heldText v ++ replicate (1 + valueRoom - length (n ∷ heldText v)) 0 in
+        let fits : min n valueRoom ≡ n = omega (arith, held-short v) in
+        rw (getD-at p n rest 0 pathSlot l, fits, ← drop-drop 1 pathSlot (p ++ n ∷ rest), drop-at p (n ∷ rest) pathSlot l)
+        (take-append-seam (heldText v) _)
+
+    -- the field of the keys, and of what is held of the value
+    pub slot-field : fieldIn (slotOf p v) ≡ fieldOf (pathIn p) (heldValue v)
+    unfolding fieldIn valueIn heldValue
+    slot-field = rw (slot-keys, slot-text)
+
+    -- to store the slot is to store the value at the path
+    pub slot-stored : (fs : Fields) → storedIn (slotOf p v) fs ≡ storedAt p v fs
+    unfolding storedIn storedAt
+    slot-stored fs = rw (slot-empty, slot-field)
+
+  -- where the path is written as its keys are, and the value is within its limits
+  module _ (proper : Proper p v) where
+    -- the slot has the bytes that their field is written as
+    pub slot-encoded : slotOf p v ≡ encodeField (fieldOf (pathIn p) v)
+    unfolding slotOf encodeField
+    slot-encoded =
+        rw (take-all valueRoom (valueText v) (spelling.value-length v (proper .1)))
+        (ap (λ (q : Bytes). q ++ encodeName (1 + valueRoom) (valueText v)) (proper .0))
+
+    pub slot-canonical : length p ≡ pathSlot → CanonicalField (slotOf p v)
+    slot-canonical l = slot-encoded ∙ rw (slot-field l, held-valid v (proper .1))
+
+-- ── A slot s of zeros that is filled with the path p and the value v ──
 pub record Filled (s p : Bytes) (v : Value) (out : Bytes) : Type 0 where
+  pub is : out ≡ slotOf p v
   pub long : length out ≡ length s
-  pub empty : isEmpty out ≡ isEmpty p
-  pub field : fieldIn out ≡ fieldOf (pathIn p) (heldValue v)
 
 -- the path is copied, which gives q; the room for a text comes back as ys, with v's text up to e; n, which says its length, stands before it
 module _
     (s p q ys : Bytes)
     (v : Value)
     (e n : ℕ)
-    (l : length s ≡ slotBytes)
-    (k : pathSlot ≤ length p)
-    (copied : q ≡ take pathSlot p ++ drop (length (take pathSlot p)) s)
+    (clean : s ≡ zeros slotBytes)
+    (l : length p ≡ pathSlot)
+    (copied : q ≡ p ++ drop (length p) s)
     (put : Wrote 0 (valueText v) (take (length q - (1 + pathSlot)) (drop (1 + pathSlot) q)) e ys)
     (byte : n ≡ min e valueRoom)
   where
-    abbrev back : Bytes
-    back = replaced (1 + pathSlot) (length q - (1 + pathSlot)) ys q
+    -- the path and the byte behind it
+    abbrev start : Bytes
+    start = p ++ 0 ∷ []
+
+    start-long : length start ≡ 1 + pathSlot
+    start-long = rw length-append (omega arith)
+
+    copied-is : q ≡ start ++ zeros valueRoom
+    copied-is = copied ∙ rw (clean, l, drop-zeros pathSlot slotBytes, append-assoc)
+
+    room-is : take (length q - (1 + pathSlot)) (drop (1 + pathSlot) q) ≡ zeros valueRoom
+    room-is = tail-part (1 + pathSlot) q ∙ rw (copied-is, drop-at start (zeros valueRoom) (1 + pathSlot) start-long)
+
+    text-is : ys ≡ heldText v ++ zeros (valueRoom - length (valueText v))
+    text-is = put .1 ∙ rw (room-is, written-clipped, zero-add, drop-zeros)
 
     abbrev out : Bytes
-    out = set back pathSlot n
+    out = set (replaced (1 + pathSlot) (length q - (1 + pathSlot)) ys q) pathSlot n
 
-    part-long : length (take pathSlot p) ≡ pathSlot
-    part-long = length-take-le pathSlot p k
-
-    copied-long : length q ≡ slotBytes
-    copied-long = rw (copied, length-append, length-drop) (omega (arith, part-long))
-
-    room : length (take (length q - (1 + pathSlot)) (drop (1 + pathSlot) q)) ≡ valueRoom
-    room = simp (length-take, length-drop) (omega (arith, copied-long))
-
-    text-long : length ys ≡ valueRoom
-    text-long = ap length (put .1) ∙ length-written 0 (valueText v) (take (length q - (1 + pathSlot)) (drop (1 + pathSlot) q)) ∙ room
-
-    start-long : length (take (1 + pathSlot) q) ≡ (1 + pathSlot)
-    start-long = length-take-le (1 + pathSlot) q (omega (arith, copied-long))
-
-    back-is : back ≡ take (1 + pathSlot) q ++ ys
-    back-is = tail-replaced (1 + pathSlot) q ys
-
-    back-long : length back ≡ slotBytes
-    back-long = rw (back-is, length-append) (omega (arith, start-long, text-long))
-
-    -- the three parts of the slot
-    out-path : take pathSlot out ≡ take pathSlot p
-    out-path =
-        take-set-le pathSlot back pathSlot n (omega arith)
-        ∙ ap (take pathSlot) back-is
-        ∙ take-append-le pathSlot (take (1 + pathSlot) q) ys (omega (arith, start-long))
-        ∙ take-take pathSlot (1 + pathSlot) q (omega arith)
-        ∙ ap (take pathSlot) copied
-        ∙ take-at (take pathSlot p) _ pathSlot part-long
-
-    out-length : getD out pathSlot 0 ≡ n
-    out-length = getD-set-same back pathSlot n 0 (omega (arith, back-long))
-
-    out-text : drop (1 + pathSlot) out ≡ ys
-    out-text = drop-set-lt (1 + pathSlot) back pathSlot n (omega arith) ∙ ap (drop (1 + pathSlot)) back-is ∙ drop-at (take (1 + pathSlot) q) ys (1 + pathSlot) start-long
-
-    -- the text, as far as there is room for it
-    out-value : valueIn out ≡ heldValue v
-    unfolding valueIn textIn heldValue
-    out-value =
-        let w = text-clipped (valueText v) (take (length q - (1 + pathSlot)) (drop (1 + pathSlot) q)) room n (omega (arith, put .0)) in
-        rw (out-length, out-text, put .1, w)
+    out-is : out ≡ slotOf p v
+    unfolding slotOf encodeName
+    out-is =
+        let says : n ≡ length (heldText v) = rw length-take (omega (arith, put .0)) in
+        let rest : 1 + valueRoom - suc (length (heldText v)) ≡ valueRoom - length (valueText v) = rw length-take (omega arith) in
+        rw (tail-replaced (1 + pathSlot) q ys, copied-is, take-at start (zeros valueRoom) (1 + pathSlot) start-long)
+        (rw (append-assoc p (0 ∷ []) ys, set-at p 0 ys n pathSlot l, text-is, says, rest))
 
     pub filled : Filled s p v out
-    unfolding fieldIn
-    filled = record {
-      long = length-set back pathSlot n ∙ back-long ∙ sym l;
-      empty = empty-same out p out-path;
-      field = rw (path-same out p out-path, out-value);
-    }
+    filled = record { is = out-is; long = ap length out-is ∙ slot-long p v l ∙ sym (ap length clean) }

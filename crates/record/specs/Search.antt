@@ -1,6 +1,5 @@
 -- Where the search for a path ends, and what is stored of a slot.
 use Prim.Native.Nat.{ℕ, suc}
-use mathlib.Core.Path.{_≡_}
 use mathlib.Core.List.{[], _∷_}
 use lib.Dec.{ltb}
 use Rattle.model.specs.Base.{Bytes, if_then_else_}
@@ -10,7 +9,7 @@ use Rattle.model.specs.Fields.{Keys, Field, Fields, orderPath, byOrder, store, 
 use Rattle.paths.specs.Layout.{pathIn}
 use Rattle.record.specs.declared.table.Place.{Place}
 use Rattle.record.specs.declared.table.Place.the-variants.{At, Before}
-use Rattle.record.specs.Slots.{slotBytes, heldValue, fieldIn, fieldsIn}
+use Rattle.record.specs.Slots.{slotBytes, heldValue, fieldIn, fieldsIn, encodeField}
 use Rattle.layout.specs.Layout.{isEmpty, overRow, insertedRow}
 
 -- where the path p stands, or before which place it belongs, counted from i on
@@ -24,11 +23,9 @@ unfoldable pub storedBytes : Place → Bytes → Bytes → Bytes
 storedBytes (At i) slot s = overRow slotBytes i slot s
 storedBytes (Before i) slot s = if ltb i maxFields then insertedRow slotBytes maxFields i slot s else s
 
--- a slot that holds the field is stored where the search for its path ends: every byte of the table is said, but for those of the slot that mean nothing
-pub record StoredField (before : Bytes) (f : Field) (after : Bytes) : Type 0 where
-  pub slot : Bytes
-  pub isField : fieldIn slot ≡ f
-  pub bytes : after ≡ storedBytes (placeIn 0 (f .path) (fieldsIn before)) slot before
+-- and once a field is stored where the search for its path ends
+unfoldable pub storedField : Field → Bytes → Bytes
+storedField f s = storedBytes (placeIn 0 (f .path) (fieldsIn s)) (encodeField f) s
 
 -- the fields, once a slot is stored; an empty slot changes nothing
 unfoldable pub storedIn : Bytes → Fields → Fields

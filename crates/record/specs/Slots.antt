@@ -1,15 +1,16 @@
 -- What the bytes of a table of fields mean, whatever they are.
 use Prim.Native.Nat.{ℕ, _+_, _*_, min}
+use mathlib.Core.Path.{_≡_}
 use mathlib.Core.Option.{Option, none, some}
-use mathlib.Core.Bool.{false}
-use mathlib.Core.List.{[]}
+use mathlib.Core.Bool.{true, false}
+use mathlib.Core.List.{[], _++_}
 use lib.ListN.{getD, take, drop}
-use Rattle.layout.specs.Layout.{table}
+use Rattle.layout.specs.Layout.{table, encodeName, encodeTable, Canonical, CanonicalTable}
 use Rattle.model.specs.Base.{Bytes}
 use Rattle.model.specs.Limits.{maxString, maxFields}
-use Rattle.model.specs.Values.{Value, truth, readValue, valueText}
+use Rattle.model.specs.Values.{Value, truth, readValue, valueText, validValue}
 use Rattle.model.specs.Fields.{Field, Fields, fieldOf}
-use Rattle.paths.specs.Layout.{pathSlot, pathIn}
+use Rattle.paths.specs.Layout.{pathSlot, pathIn, encodePath}
 
 -- ── Sizes, in bytes ──
 -- room for the text of a value: the longest string in quotes
@@ -37,8 +38,11 @@ unfoldable pub valueIn : Bytes → Value
 valueIn s = valueOr (readValue (textIn s))
 
 -- what a slot holds of a value that was written into it: all of it, if its text has room
+abbrev pub heldText : Value → Bytes
+heldText v = take valueRoom (valueText v)
+
 unfoldable pub heldValue : Value → Value
-heldValue v = valueOr (readValue (take valueRoom (valueText v)))
+heldValue v = valueOr (readValue (heldText v))
 
 unfoldable pub fieldIn : Bytes → Field
 fieldIn s = fieldOf (pathIn s) (valueIn s)
@@ -50,3 +54,25 @@ fieldsIn s = table fieldIn slotBytes maxFields s
 -- the i-th of some fields, where there is one
 unfoldable pub fieldAt : ℕ → Fields → Field
 fieldAt i fs = getD fs i (fieldOf [] (truth false))
+
+-- ── Every byte ──
+-- a field: its path, and its value's text
+unfoldable pub encodeField : Field → Bytes
+encodeField f = encodePath (f .path) ++ encodeName (1 + valueRoom) (valueText (f .value))
+
+unfoldable pub encodeFields : Fields → Bytes
+encodeFields fs = encodeTable encodeField slotBytes maxFields fs
+
+abbrev pub CanonicalField : Bytes → Type 0
+CanonicalField slot = Canonical encodeField fieldIn slot
+
+abbrev pub CanonicalFields : Bytes → Type 0
+CanonicalFields s = CanonicalTable CanonicalField slotBytes maxFields s
+
+-- a slot made of a path's bytes and a value, as much of it as is held
+unfoldable pub slotOf : Bytes → Value → Bytes
+slotOf path v = path ++ encodeName (1 + valueRoom) (heldText v)
+
+-- a path written as its keys are, and a value within its limits
+abbrev pub Proper : Bytes → Value → Type 0
+Proper path v = Canonical encodePath pathIn path × (validValue v ≡ true)

@@ -14,14 +14,13 @@ use values::value::put_value;
 ghost use mathlib.Core.Path.{_≡_};
 ghost use mathlib.Core.Bool.{false};
 ghost use Prim.Native.Nat.{_≤_, min};
-ghost use lib.ListN.{length};
+ghost use lib.ListN.{length, replicate};
 ghost use Rattle.model.specs.Limits.{maxText};
-ghost use Rattle.model.specs.Fields.{fieldOf};
 ghost use Rattle.values.specs.Scalars as scalars;
 ghost use Rattle.paths.specs.Layout.{pathSlot, pathIn};
-ghost use Rattle.record.specs.Slots.{valueRoom, slotBytes, textIn, heldValue, fieldIn, fieldsIn};
-ghost use Rattle.layout.specs.Layout.{isEmpty};
-ghost use Rattle.record.specs.Search.{placeIn, StoredField, storedAt};
+ghost use Rattle.record.specs.Slots.{valueRoom, slotBytes, textIn, fieldsIn, slotOf, Proper, CanonicalFields};
+ghost use Rattle.layout.specs.Layout.{isEmpty, Keeps};
+ghost use Rattle.record.specs.Search.{placeIn, storedBytes, storedAt};
 
 // The text of a slot's value.
 pub fn value_text(slot: &[u8]) -> &[u8]
@@ -43,21 +42,21 @@ fn length_byte(n: usize) -> u8
     VALUE_ROOM as u8
 }
 
-// A field into a slot: the path of another slot, and a value whose string is a part of the text.
-pub fn fill(slot: &mut [u8], path: &[u8], v: Scalar, text: &[u8])
-    requires { ⌜ (length (now slot) ≡ slotBytes) × (pathSlot ≤ length (now path)) × (length (now text) ≤ maxText) × scalars.InText v (now text) ⌝ }
-    ensures { λ _. ⌜ fieldIn (now (slot .exit)) ≡ fieldOf (pathIn (now (path .entry))) (heldValue (scalars.valueIn (now (text .entry)) v)) ⌝ }
-    ensures { λ _. ⌜ isEmpty (now (slot .exit)) ≡ isEmpty (now (path .entry)) ⌝ }
+// A field into a slot of zeros: a path, and a value whose string is a part of the text.
+fn fill(slot: &mut [u8], path: &[u8], v: Scalar, text: &[u8])
+    requires { ⌜ (now slot ≡ replicate slotBytes 0) × (length (now path) ≡ pathSlot) × (length (now text) ≤ maxText) × scalars.InText v (now text) ⌝ }
+    ensures { λ _. ⌜ now (slot .exit) ≡ slotOf (now (path .entry)) (scalars.valueIn (now (text .entry)) v) ⌝ }
 {
-    copy(slot, &path[0..PATH]);
+    copy(slot, path);
     let n = put_value(&mut slot[TEXT..], 0, v, text);
     slot[PATH] = length_byte(n);
 }
 
-// A value, whose string is a part of the text, at the path of another slot: without keys nothing changes.
+// A value, whose string is a part of the text, at a path: without keys nothing changes.
 pub fn store_value(table: &mut [u8; RECORD], path: &[u8], v: Scalar, text: &[u8])
-    requires { ⌜ (pathSlot ≤ length (now path)) × (length (now text) ≤ maxText) × scalars.InText v (now text) ⌝ }
+    requires { ⌜ (length (now path) ≡ pathSlot) × (length (now text) ≤ maxText) × scalars.InText v (now text) ⌝ }
     ensures { λ _. ⌜ fieldsIn (now (table .exit)) ≡ storedAt (now (path .entry)) (scalars.valueIn (now (text .entry)) v) (fieldsIn (now (table .entry))) ⌝ }
+    ensures { λ _. ⌜ (Proper (now (path .entry)) (scalars.valueIn (now (text .entry)) v) → Keeps CanonicalFields (now (table .entry)) (now (table .exit))) ⌝ }
 {
     let mut slot = [0u8; SLOT];
     fill(&mut slot, path, v, text);
@@ -66,11 +65,10 @@ pub fn store_value(table: &mut [u8; RECORD], path: &[u8], v: Scalar, text: &[u8]
 
 // The same where the path has keys and its place is known.
 pub fn store_value_at(table: &mut [u8; RECORD], place: Place, path: &[u8], v: Scalar, text: &[u8])
-    requires { ⌜ (pathSlot ≤ length (now path)) × (length (now text) ≤ maxText) × scalars.InText v (now text) ⌝ }
+    requires { ⌜ (length (now path) ≡ pathSlot) × (length (now text) ≤ maxText) × scalars.InText v (now text) ⌝ }
     requires { ⌜ (isEmpty (now path) ≡ false) × (place ≡ placeIn 0 (pathIn (now path)) (fieldsIn (now table))) ⌝ }
     ensures { λ _. ⌜ fieldsIn (now (table .exit)) ≡ storedAt (now (path .entry)) (scalars.valueIn (now (text .entry)) v) (fieldsIn (now (table .entry))) ⌝ }
-    ensures { λ _. ⌜ StoredField (now (table .entry))
-        (fieldOf (pathIn (now (path .entry))) (heldValue (scalars.valueIn (now (text .entry)) v))) (now (table .exit)) ⌝ }
+    ensures { λ _. ⌜ now (table .exit) ≡ storedBytes place (slotOf (now (path .entry)) (scalars.valueIn (now (text .entry)) v)) (now (table .entry)) ⌝ }
 {
     let mut slot = [0u8; SLOT];
     fill(&mut slot, path, v, text);

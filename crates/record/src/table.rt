@@ -14,9 +14,9 @@ ghost use mathlib.Core.Bool.{false};
 ghost use Prim.Native.Nat.{_*_, _≤_, _<_};
 ghost use lib.ListN.{length, take, drop};
 ghost use Rattle.model.specs.Limits.{maxFields};
-ghost use Rattle.layout.specs.Layout.{isEmpty};
+ghost use Rattle.layout.specs.Layout.{isEmpty, Keeps};
 ghost use Rattle.paths.specs.Layout.{pathSlot, pathIn};
-ghost use Rattle.record.specs.Slots.{slotBytes, fieldsIn};
+ghost use Rattle.record.specs.Slots.{slotBytes, fieldsIn, CanonicalField, CanonicalFields};
 ghost use Rattle.record.specs.Search.{placeIn, storedBytes, storedIn};
 
 // In a slot, behind the path: how long the value's text is, and room for the longest.
@@ -91,6 +91,7 @@ pub fn store_at(table: &mut [u8; RECORD], place: Place, slot: &[u8; SLOT])
 // The field of a slot, in the place of the one of its path or where it belongs: an empty slot changes nothing.
 pub fn store(table: &mut [u8; RECORD], slot: &[u8; SLOT])
     ensures { λ _. ⌜ fieldsIn (now (table .exit)) ≡ storedIn (now (slot .entry)) (fieldsIn (now (table .entry))) ⌝ }
+    ensures { λ _. ⌜ (CanonicalField (now (slot .entry)) → Keeps CanonicalFields (now (table .entry)) (now (table .exit))) ⌝ }
 {
     if is_empty(slot) {
         return;

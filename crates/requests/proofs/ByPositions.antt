@@ -1,9 +1,9 @@
 -- Request lines by positions: what the tests of a line say of the request that is read.
 use Prim.Native.Nat.{ℕ, _+_, _-_, _≤_, _<_}
-use mathlib.Core.Path.{_≡_, refl, sym, _∙_}
+use mathlib.Core.Path.{_≡_, refl, sym, ap, _∙_}
 use mathlib.Core.Bool.{Bool, true, false, _&&_}
 use mathlib.Core.Option.{Option, none, some}
-use mathlib.Core.List.{_∷_, _++_, append-nil}
+use mathlib.Core.List.{[], _∷_, _++_, append-nil}
 use native.Mathlib.Omega.{arith}
 use lib.ListN.{length, take, drop}
 use Rattle.rows.specs.Positions.{placed, runEnd}
@@ -28,7 +28,7 @@ use Rattle.lexical.specs.declared.class.End.{End}
 use Rattle.lexical.specs.declared.class.End.the-variants as end
 use Rattle.model.proofs.Reading.{cut-some}
 use Rattle.model.proofs.Spelling.{keys-as-written, value-as-written}
-use Rattle.requests.specs.Lines.{pushedText, PushStands, Behind, SlotKept}
+use Rattle.requests.specs.Lines.{parsedAnswer, pushedText, PushStands, Behind, SlotAfter}
 use Rattle.requests.specs.declared.Ask.the-variants.{Get, Push}
 use Rattle.requests.specs.declared.Request.the-variants.{Login, InSession}
 use Rattle.requests.specs.declared.Parsed.{Parsed}
@@ -123,12 +123,16 @@ unfolding pushedText text between
 push-stands s from a b p v e k w = record { within = omega (arith, e .between, e .to); pushed = e .parts ∙ rw (keys-as-written _ _ k, value-as-written _ _ w) }
 
 -- ── The slot for a path ──
--- it is the same before and after what reads none
-pub slot-same : (r : Parsed) (b : Bytes) → SlotKept r b b
-slot-same (Is (Login from m)) b = refl
-slot-same (Is (InSession n Get)) b = refl
-slot-same (Is (InSession n (Push at v))) b = tt
-slot-same Bad b = refl
+-- it is the same before and after what reads none: an answer that holds whatever the path is no push
+pub slot-same : (s : Bytes) (x : Option Request) (b : Bytes) (r : Parsed) → ((p : Keys) → parsedAnswer s p r ≡ x) → SlotAfter r b b
+slot-same s x b (Is (Login from m)) h = refl
+slot-same s x b (Is (InSession n Get)) h = refl
+slot-same s x b (Is (InSession n (Push at v))) h =
+    let one = h [] in
+    let two = h ([] ∷ []) in
+    let same : _≡_ {A = Keys} [] ([] ∷ []) = cc in
+    absurd (omega (arith, ap length same))
+slot-same s x b Bad h = refl
 
 -- ── A path ──
 -- what the function `read_path` answered, once it is known whether it is one

@@ -11,6 +11,8 @@ use Rattle.model.specs.Paths.{keysText}
 use Rattle.model.specs.Requests as model
 use Rattle.lexical.specs.declared.class.End.{End}
 use Rattle.lexical.specs.declared.class.End.the-variants as end
+use Rattle.layout.specs.Layout.{Canonical}
+use Rattle.paths.specs.Layout.{pathIn, encodePath}
 use Rattle.values.specs.Scalars.{valueIn, InText}
 use Rattle.requests.specs.declared.Ask.{Ask}
 use Rattle.requests.specs.declared.Ask.the-variants.{Get, Push}
@@ -67,9 +69,9 @@ pub record ReadsAs (read : Bytes → Option model.Request) (s : Bytes) (p : Keys
   pub asks : parsedAnswer s p r ≡ read s
   pub stands : ParsedStands s p r
 
--- the slot for a path keeps its bytes unless a push is read
-abbrev pub SlotKept : Parsed → Bytes → Bytes → Type 0
-SlotKept (Is (Login from m)) before now = now ≡ before
-SlotKept (Is (InSession n Get)) before now = now ≡ before
-SlotKept (Is (InSession n (Push at v))) before now = Unit {0}
-SlotKept Bad before now = now ≡ before
+-- the slot for a path keeps its bytes unless a push is read: then they are its path's, each of them
+abbrev pub SlotAfter : Parsed → Bytes → Bytes → Type 0
+SlotAfter (Is (Login from m)) before now = now ≡ before
+SlotAfter (Is (InSession n Get)) before now = now ≡ before
+SlotAfter (Is (InSession n (Push at v))) before now = Canonical encodePath pathIn now
+SlotAfter Bad before now = now ≡ before

@@ -16,7 +16,7 @@ use values::value::value_at;
 ghost use Rattle.model.specs.Fields.{Keys};
 ghost use Rattle.model.specs.Requests.{readLogin, readGet, readPush, requestOf};
 ghost use Rattle.paths.specs.Layout.{pathIn};
-ghost use Rattle.requests.specs.Lines.{Behind, ReadsAs, SlotKept};
+ghost use Rattle.requests.specs.Lines.{Behind, ReadsAs, SlotAfter};
 
 // What a session asks for: a copy; or a value for the path in the slot, both of which stand in the line from a position on.
 pub enum Ask {
@@ -83,7 +83,7 @@ fn get_line(line: &[u8]) -> Parsed
 // `PUSH;session;path;value`, the path read into the slot
 fn push_line(line: &[u8], path: &mut [u8; PATH]) -> Parsed
     ensures { λ r. ⌜ ReadsAs readPush (now (line .entry)) (pathIn (now (path .exit))) r ⌝ }
-    ensures { λ r. ⌜ SlotKept r (now (path .entry)) (now (path .exit)) ⌝ }
+    ensures { λ r. ⌜ SlotAfter r (now (path .entry)) (now (path .exit)) ⌝ }
 {
     let End::At(from) = behind(line, b"PUSH;") else {
         return Parsed::Bad;
@@ -118,7 +118,7 @@ fn push_line(line: &[u8], path: &mut [u8; PATH]) -> Parsed
 // What a line asks for.
 pub fn parse(line: &[u8], path: &mut [u8; PATH]) -> Parsed
     ensures { λ r. ⌜ ReadsAs requestOf (now (line .entry)) (pathIn (now (path .exit))) r ⌝ }
-    ensures { λ r. ⌜ SlotKept r (now (path .entry)) (now (path .exit)) ⌝ }
+    ensures { λ r. ⌜ SlotAfter r (now (path .entry)) (now (path .exit)) ⌝ }
 {
     if MAX_LINE < line.len() {
         return Parsed::Bad;

@@ -1,7 +1,7 @@
 -- A line that asks for something, and what an accepted and a refused push leave.
 use Prim.Native.Nat.{ℕ, _≤_, _<_}
 use mathlib.Core.Path.{_≡_, refl, sym, _∙_}
-use mathlib.Core.Bool.{false}
+use mathlib.Core.Bool.{true, false}
 use mathlib.Core.Option.{some}
 use mathlib.Core.List.{List}
 use native.Mathlib.Omega.{arith}
@@ -10,7 +10,7 @@ use lib.Dec.{ltb}
 use lib.ListN.{length, getD}
 use Rattle.model.specs.Base.{Bytes}
 use Rattle.model.specs.Limits.{maxUsers, maxDepth, maxLine, listRoom}
-use Rattle.model.specs.Values.{Value, truth}
+use Rattle.model.specs.Values.{Value, truth, validValue}
 use Rattle.model.specs.Fields.{Keys, validKeys, fieldOf}
 use Rattle.model.specs.Refusals.{Result, refused, done, _>>_, refuse_if_}
 use Rattle.model.specs.Tables.{userAt}
@@ -21,15 +21,15 @@ use Rattle.model.proofs.Lists.{and-both, elem-below}
 use Rattle.model.proofs.Reading.{check-some, within-bounds}
 use Rattle.model.proofs.Sound.{push-valid}
 use Rattle.model.proofs.Decisions.{decided}
-use Rattle.paths.specs.Layout.{pathIn}
-use Rattle.layout.specs.Layout.{keyRow, nameIn, isEmpty}
+use Rattle.paths.specs.Layout.{pathIn, encodePath}
+use Rattle.layout.specs.Layout.{keyRow, nameIn, isEmpty, Canonical}
 use Rattle.layout.proofs.Counts.{length-counted}
 use Rattle.tables.specs.Memory.{userRow, userIn, usersIn, tablesIn}
 use Rattle.layout.proofs.Used.{length-table, used-fit}
-use Rattle.record.specs.Slots.{heldValue, fieldsIn}
+use Rattle.record.specs.Slots.{fieldsIn, slotOf}
 use Rattle.record.specs.declared.table.Place.{Place}
-use Rattle.record.specs.Search.{placeIn, StoredField, storedAt}
-use Rattle.record.proofs.Slots.{held-valid}
+use Rattle.record.specs.Search.{placeIn, storedBytes, storedField, storedAt}
+use Rattle.record.proofs.Slots.{held-valid, slot-encoded}
 use Rattle.sessions.specs.declared.LoginState as code
 use Rattle.sessions.specs.Logins.{loginsIn, stateOf, StateStored}
 use Rattle.pushes.specs.declared.Ruling.{Ruling}
@@ -40,7 +40,10 @@ use Rattle.deliveries.proofs.Received.{receivers-of}
 use Rattle.requests.specs.declared.Request.{Request}
 use Rattle.requests.specs.declared.Parsed.{Parsed}
 use Rattle.requests.specs.declared.Parsed.the-variants.{Is, Bad}
-use Rattle.requests.specs.Lines.{requestIn, ReadsAs, RequestStands, PushStands}
+use Rattle.values.specs.declared.value.Scalar.{Scalar}
+use Rattle.requests.specs.declared.Ask.the-variants.{Push}
+use Rattle.requests.specs.declared.Request.the-variants.{InSession}
+use Rattle.requests.specs.Lines.{requestIn, ReadsAs, RequestStands, PushStands, SlotAfter}
 use Rattle.opening.specs.Memory.{arrays, stateIn}
 use Rattle.server.specs.declared.answer.Reply.the-variants.{Accepted}
 use Rattle.server.specs.Replies.{outcomeIn, lent, Leaves}
@@ -71,13 +74,18 @@ module _ (s path : Bytes) {r : Parsed} (answer : ReadsAs model.requestOf s (path
 
 -- a push has keys, and a value within its limits
 pub push-asked : (s path : Bytes) {n : ℕ} {v : Value} → model.requestOf s ≡ some (model.inSession n (model.push (pathIn path) v))
-    → (isEmpty path ≡ false) × (heldValue v ≡ v)
+    → (isEmpty path ≡ false) × (validValue v ≡ true)
 unfolding isEmpty validKeys pathIn model.pushOf
 push-asked s path {n} {v} h =
     let valid = push-valid s _ (fieldOf (pathIn path) v) refl h in
     let bounds = within-bounds 1 maxDepth (length (pathIn path)) (and-both _ _ (valid .path) .0) in
     let count = length-counted nameIn keyRow maxDepth path in
-    (ne-eqb (getD path 0 0) 0 (λ e. omega arith), held-valid v (valid .value))
+    (ne-eqb (getD path 0 0) 0 (λ e. omega arith), valid .value)
+
+-- and its slot has the bytes of its path
+pub slot-asked : (before path : Bytes) {r : Parsed} {asked : Request} {n at : ℕ} {v : Scalar} → r ≡ Is asked → asked ≡ InSession n (Push at v)
+    → SlotAfter r before path → Canonical encodePath pathIn path
+slot-asked before path is kind slot = rw (is, kind) at slot
 
 -- ── PUSH: the list's length decides first, then the ruling ──
 module _ (tables : Bytes) (logins : List ℕ) (fields : Bytes) (n : ℕ) (path : Bytes) where
@@ -101,9 +109,9 @@ module _ (tables : Bytes) (logins : List ℕ) (fields : Bytes) (n : ℕ) (path :
     unfolding refuse_if_ _>>_
     push-ruled is room h v = push-decides room v ∙ rw (le-ltb room listRoom h, ← ruled .answers v, is)
 
-    module _ {i : ℕ} {a : code.LoginState} {l : Place} (is : o ≡ ruling.Stores i a l) where
+    module _ {i : ℕ} {a : code.LoginState} {at : Place} (is : o ≡ ruling.Stores i a at) where
       -- the field is stored where the search for its path ended
-      pub push-place : l ≡ placeIn 0 p (fieldsIn fields)
+      pub push-place : at ≡ placeIn 0 p (fieldsIn fields)
       push-place = rw is at (ruled .place)
 
       -- the index is a user's
@@ -117,13 +125,13 @@ module _ (tables : Bytes) (logins : List ℕ) (fields : Bytes) (n : ℕ) (path :
       -- the numbers are listed, the login state is put, the value is stored
       pub push-done : (b : Bytes) (l : List ℕ) → listRoom ≤ length l → {told : ℕ} {l₁ : List ℕ} (logins₁ : List ℕ) (fields₁ : Bytes)
           → Listed tables logins i path l told l₁ → StateStored logins i (stateOf a) logins₁
-          → (v : Value) → fieldsIn fields₁ ≡ storedAt path v (fieldsIn fields) → StoredField fields (fieldOf p (heldValue v)) fields₁
-          → isEmpty path ≡ false → heldValue v ≡ v → (text : Bytes) (at : ℕ) → PushStands text p at v
-          → Leaves (pushing v (length l)) text (arrays tables logins fields) (lent b l) (Accepted told at) (arrays tables logins₁ fields₁) (lent b l₁)
-      unfolding outcomeIn stateIn conclude answerOf apply shown notified over storedAt
-      push-done b l h logins₁ fields₁ reached state v stored bytes keyed held text at stands = rw (push-ruled is (length l) h v) (record {
-        is = rw (reached .listed, reached .counted, state .states, stored, keyed, held, receivers-of (stateIn tables logins fields) i p);
+          → (v : Value) → fieldsIn fields₁ ≡ storedAt path v (fieldsIn fields) → fields₁ ≡ storedBytes at (slotOf path v) fields
+          → isEmpty path ≡ false → Canonical encodePath pathIn path → validValue v ≡ true → (text : Bytes) (from : ℕ) → PushStands text p from v
+          → Leaves (pushing v (length l)) text (arrays tables logins fields) (lent b l) (Accepted told from) (arrays tables logins₁ fields₁) (lent b l₁)
+      unfolding outcomeIn stateIn conclude answerOf apply shown notified over storedAt storedField
+      push-done b l h logins₁ fields₁ reached state v stored bytes keyed exact valid text from stands = rw (push-ruled is (length l) h v) (record {
+        is = rw (reached .listed, reached .counted, state .states, stored, keyed, held-valid v valid, receivers-of (stateIn tables logins fields) i p);
         logins = state .numbers;
-        fields = rw held at bytes;
+        fields = bytes ∙ rw (push-place, slot-encoded path v (exact, valid));
         position = stands;
       })

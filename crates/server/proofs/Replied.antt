@@ -32,7 +32,7 @@ use Rattle.sessions.proofs.Known.{no-session, in-session, session-unknown, sess
 use Rattle.opening.specs.Memory.{Arrays, arrays, stateIn}
 use Rattle.server.specs.declared.answer.Reply.{Reply}
 use Rattle.server.specs.declared.answer.Reply.the-variants.{Refused, Session, Length}
-use Rattle.server.specs.Replies.{outcomeIn, lent, FieldsAfter, Position, Leaves}
+use Rattle.server.specs.Replies.{outcomeIn, lent, fieldsAfter, Position, Leaves}
 
 -- ── Refusals: all is as it was ──
 -- p is still the buffer b that was lent
@@ -77,7 +77,7 @@ module _ (tables : Bytes) (logins : List ℕ) (n k : Bytes) where
       went (refused e) h = rw (← is, logged .answers, logged .leaves, h)
       went (done c) h = unfold loginDecided in (login-change _ n k c h λ i u named shut e. rw (← is, logged .answers, logged .leaves, h, ← e))
 
-      stayed : (d : Result ℕ Change) → entering ≡ d → FieldsAfter entering fs fs
+      stayed : (d : Result ℕ Change) → entering ≡ d → fs ≡ fieldsAfter entering fs
       stayed (refused e) h = rw h
       stayed (done c) h = unfold loginDecided in (login-change _ n k c h λ i u named shut e. rw (h, ← e))
 

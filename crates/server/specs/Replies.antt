@@ -1,12 +1,12 @@
 -- Document 01's number and values for each reply, and what a request and a save leave.
 use Prim.Native.Nat.{ℕ, _≤_}
 use mathlib.Core.Path.{_≡_}
-use mathlib.Core.Bool.{false}
+use mathlib.Core.Bool.{true, false}
 use mathlib.Core.List.{List, []}
 use lib.ListN.{length}
 use Rattle.model.specs.Base.{Bytes}
 use Rattle.model.specs.Limits.{maxLine}
-use Rattle.model.specs.Values.{Value}
+use Rattle.model.specs.Values.{Value, validValue}
 use Rattle.model.specs.Fields.{Keys}
 use Rattle.model.specs.Refusals.{Result, refused, done}
 use Rattle.model.specs.Opening.{State}
@@ -14,10 +14,9 @@ use Rattle.model.specs.Requests as model
 use Rattle.model.specs.Serving.{Change, setsLogin, shows, stores, roomFor, decide, Answer, refusal, session, length-is, accepted, line, save, decision, Outcome, conclude, outcome}
 use Rattle.values.specs.declared.value.Scalar.{Scalar}
 use Rattle.values.specs.Scalars.{valueIn, InText}
-use Rattle.layout.specs.Layout.{isEmpty}
-use Rattle.paths.specs.Layout.{pathIn}
-use Rattle.record.specs.Slots.{heldValue}
-use Rattle.record.specs.Search.{StoredField}
+use Rattle.layout.specs.Layout.{isEmpty, Canonical}
+use Rattle.paths.specs.Layout.{pathIn, encodePath}
+use Rattle.record.specs.Search.{storedField}
 use Rattle.sessions.specs.Logins.{numbersAfter}
 use Rattle.opening.specs.Memory.{Arrays, arrays, stateIn, stateOf}
 use Rattle.requests.specs.declared.Request.the-variants.{Login}
@@ -53,12 +52,12 @@ abbrev pub lent : Bytes → List ℕ → Lent
 lent buffer list = record { buffer = buffer; list = list }
 
 -- ── What is left, once it is decided what a request changes ──
--- a field is stored in one slot; what stores none keeps every byte
-abbrev pub FieldsAfter : Result ℕ Change → Bytes → Bytes → Type 0
-FieldsAfter (refused e) before after = after ≡ before
-FieldsAfter (done (setsLogin i a)) before after = after ≡ before
-FieldsAfter (done (shows c)) before after = after ≡ before
-FieldsAfter (done (stores i a f)) before after = StoredField before f after
+-- the bytes of the fields: a field is stored in its place; what stores none keeps every byte
+abbrev pub fieldsAfter : Result ℕ Change → Bytes → Bytes
+fieldsAfter (refused e) before = before
+fieldsAfter (done (setsLogin i a)) before = before
+fieldsAfter (done (shows c)) before = before
+fieldsAfter (done (stores i a f)) before = storedField f before
 
 -- from the position on stands what is pushed
 abbrev pub StandsAt : Result ℕ Change → Bytes → ℕ → Type 0
@@ -78,7 +77,7 @@ Position (Accepted k at) d text = StandsAt d text at
 pub record Leaves (d : Result ℕ Change) (text : Bytes) (before : Arrays) (given : Lent) (r : Reply) (after : Arrays) (left : Lent) : Type 0 where
   pub is : outcomeIn r (stateOf after) (left .buffer) (left .list) ≡ conclude (stateOf before) (given .buffer) (given .list) d
   pub logins : after .logins ≡ numbersAfter d (before .logins)
-  pub fields : FieldsAfter d (before .fields) (after .fields)
+  pub fields : after .fields ≡ fieldsAfter d (before .fields)
   pub position : Position r d text
 
 -- a line, with the buffer and the list that were lent, is served as document 01 says
@@ -102,13 +101,14 @@ GetServed a n before r after = (text : Bytes) (l : List ℕ) → Answered a text
 abbrev pub PushServed : Arrays → Bytes → ℕ → Keys → Value → List ℕ → Reply → Arrays → List ℕ → Type 0
 PushServed before text n p v given r after left = (b : Bytes) → Answered before text (model.inSession n (model.push p v)) (lent b given) r after (lent b left)
 
--- a path and a value that a slot holds as they are, both standing in the line from a position on
+-- a path in its bytes and a value within its limits, both standing in the line from a position on
 pub record Storable (path text : Bytes) (at : ℕ) (value : Scalar) : Type 0 where
   pub short : length text ≤ maxLine
   pub inside : InText value text
   pub stands : PushStands text (pathIn path) at (valueIn text value)
   pub keyed : isEmpty path ≡ false
-  pub held : heldValue (valueIn text value) ≡ valueIn text value
+  pub exact : Canonical encodePath pathIn path
+  pub valid : validValue (valueIn text value) ≡ true
 
 -- a save, whatever the tables and the login states, at which it does not look
 abbrev pub Saved : Bytes → Bytes → Reply → Bytes → Type 0

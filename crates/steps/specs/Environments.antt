@@ -1,8 +1,8 @@
 -- What a user's environment lines in memory mean.
 use Prim.Native.Nat.{ℕ, _+_, _*_}
-use mathlib.Core.List.{List}
+use mathlib.Core.List.{List, _++_}
 use lib.ListN.{take, drop}
-use Rattle.layout.specs.Layout.{table, nameRow, keyRow, nameIn}
+use Rattle.layout.specs.Layout.{table, nameRow, keyRow, nameIn, encodeName, encodeTable, Canonical, CanonicalTable}
 use Rattle.model.specs.Base.{Bytes}
 use Rattle.model.specs.Limits.{maxBindings}
 use Rattle.model.specs.Tables.{Binding}
@@ -23,3 +23,13 @@ bindingIn row = record { name = nameIn (take nameRow row); value = nameIn (take 
 -- up to the first row whose name is empty
 unfoldable pub bindingsIn : Bytes → List Binding
 bindingsIn s = table bindingIn bindingRow maxBindings s
+
+-- ── Every byte ──
+unfoldable pub encodeBinding : Binding → Bytes
+encodeBinding b = encodeName nameRow (b .name) ++ encodeName keyRow (b .value)
+
+unfoldable pub encodeBindings : List Binding → Bytes
+encodeBindings bs = encodeTable encodeBinding bindingRow maxBindings bs
+
+abbrev pub CanonicalBindings : Bytes → Type 0
+CanonicalBindings s = CanonicalTable (Canonical encodeBinding bindingIn) bindingRow maxBindings s

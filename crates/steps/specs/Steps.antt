@@ -1,14 +1,15 @@
 -- What a step of the code means, and the answers of its readers.
 use Prim.Native.Nat.{ℕ, _+_, _*_}
+use mathlib.Core.Path.{_≡_}
 use mathlib.Core.Option.{Option, none, some}
-use mathlib.Core.List.{List, []}
+use mathlib.Core.List.{List, [], _∷_}
 use lib.Dec.{eqb}
 use lib.ListN.{getD, drop}
 use Rattle.model.specs.Base.{Bytes, if_then_else_}
 use Rattle.model.specs.Limits.{maxKey, maxListed, maxDepth}
 use Rattle.model.specs.Paths.{Step, names, wildcard, environment}
 use Rattle.model.specs.Paths as paths
-use Rattle.layout.specs.Layout.{keyRow, nameIn, counted}
+use Rattle.layout.specs.Layout.{keyRow, nameIn, counted, encodeKeys, encodeCounted, Canonical, CanonicalCounted}
 use Rattle.steps.specs.declared.step.Operator.{Operator}
 use Rattle.steps.specs.declared.step.Operator.the-variants.{Equals, In}
 use Rattle.steps.specs.declared.step.Kind.{Kind}
@@ -71,11 +72,46 @@ stepIn row = byKind (kindOf (getD row 0 0)) (namesIn (drop 1 row))
 unfoldable pub stepsIn : Bytes → paths.Steps
 stepsIn s = counted stepIn stepRow maxDepth s
 
+-- a step of the code, and the row that it is stored as
 unfoldable pub stepOf : code.Step → Step
 stepOf t = byKind (t .kind) (namesIn (t .names))
+
+abbrev pub rowOf : code.Step → Bytes
+rowOf t = byteOf (t .kind) ∷ t .names
+
+-- ── Every byte ──
+abbrev pub operatorIn : paths.Operator → Operator
+operatorIn paths.equals = Equals
+operatorIn paths.isIn = In
+
+-- a step: the byte of its kind, and the names beside it
+unfoldable pub encodeStep : Step → Bytes
+encodeStep (names ns) = byteOf Names ∷ encodeKeys maxListed ns
+encodeStep wildcard = byteOf Wildcard ∷ encodeKeys maxListed []
+encodeStep (environment o n) = byteOf (Environment (operatorIn o)) ∷ encodeKeys maxListed (n ∷ [])
+
+unfoldable pub encodeSteps : paths.Steps → Bytes
+encodeSteps ts = encodeCounted encodeStep stepRow maxDepth ts
+
+abbrev pub CanonicalStep : Bytes → Type 0
+CanonicalStep row = Canonical encodeStep stepIn row
+
+abbrev pub CanonicalSteps : Bytes → Type 0
+CanonicalSteps s = CanonicalCounted CanonicalStep stepRow maxDepth s
+
+-- ── What the readers answer: what is read, in canonical bytes ──
+-- a slot of some names
+abbrev pub HoldsNames : Bytes → List Bytes → Type 0
+HoldsNames s ns = (namesIn s ≡ ns) × (s ≡ encodeKeys maxListed ns)
 
 abbrev pub stepAnswer : StepRead → Option (Step × ℕ)
 stepAnswer r = if r .ok then some (stepOf (r .step), r .to) else none
 
+abbrev pub StepIs : StepRead → Option (Step × ℕ) → Type 0
+StepIs r x = (stepAnswer r ≡ x) × CanonicalStep (rowOf (r .step))
+
 abbrev pub stepsAnswer : StepsRead → Option paths.Steps
 stepsAnswer r = if r .ok then some (stepsIn (r .slot)) else none
+
+abbrev pub StepsAre : StepsRead → Option paths.Steps → Type 0
+StepsAre r x = (stepsAnswer r ≡ x) × CanonicalSteps (r .slot)

@@ -22,7 +22,8 @@ ghost use Prim.Native.Nat.{_+_, _*_, _≤_, _<_, _^_};
 ghost use lib.ListN.{length, getD, take, drop};
 ghost use Rattle.rows.specs.Rows.{Wrote};
 ghost use Rattle.model.specs.Paths.{environment, operatorText, stepText, stepsText, readStep, readPath, stepsOf};
-ghost use Rattle.steps.specs.Steps.{namesSlot, stepRow, stepsSlot, spelledStep, spelledSteps, operatorOf, namesIn, byKind, kindOf, byteOf, stepIn, stepsIn, stepOf, stepsAnswer};
+ghost use Rattle.steps.specs.Steps.{namesSlot, stepRow, stepsSlot, spelledStep, spelledSteps, operatorOf, namesIn, byKind, kindOf, byteOf, stepIn, stepsIn, stepOf, rowOf, CanonicalStep, CanonicalSteps, StepsAre};
+ghost use Rattle.layout.specs.Layout.{Keeps};
 ghost use Rattle.model.specs.Limits.{maxDepth};
 
 // A step in a row: the byte of its kind, and its names. A slot: how many steps, and a row for each.
@@ -63,7 +64,7 @@ pub fn kind_of(b: u8) -> Kind
 // A step into its row.
 fn put_row(row: &mut [u8], step: Step)
     requires { ⌜ length (now row) ≡ stepRow ⌝ }
-    ensures { λ _. ⌜ now (row .exit) ≡ byteOf (step .kind) ∷ step .names ⌝ }
+    ensures { λ _. ⌜ now (row .exit) ≡ rowOf step ⌝ }
 {
     let kind = step.kind;
     let names = step.names;
@@ -75,6 +76,7 @@ fn put_row(row: &mut [u8], step: Step)
 pub fn push_step(slot: &mut [u8], step: Step)
     requires { ⌜ stepsSlot ≤ length (now slot) ⌝ }
     ensures { λ _. ⌜ stepsIn (now (slot .exit)) ≡ take maxDepth (stepsIn (now (slot .entry)) ++ (stepOf step ∷ [])) ⌝ }
+    ensures { λ _. ⌜ (CanonicalStep (rowOf step) → Keeps CanonicalSteps (now (slot .entry)) (now (slot .exit))) ⌝ }
 {
     let mut row = [0u8; STEP];
     put_row(&mut row, step);
@@ -161,7 +163,7 @@ pub fn put_steps(out: &mut [u8], at: usize, slot: &[u8]) -> usize
 }
 
 fn no_steps() -> StepsRead
-    ensures { λ r. ⌜ stepsAnswer r ≡ none ⌝ }
+    ensures { λ r. ⌜ StepsAre r none ⌝ }
 {
     StepsRead {
         ok: false,
@@ -171,7 +173,7 @@ fn no_steps() -> StepsRead
 
 // One to six steps behind a `$`, in any spelling, that are the whole text.
 fn read_all(s: &[u8]) -> StepsRead
-    ensures { λ r. ⌜ stepsAnswer r ≡ readPath readStep (now (s .entry)) ⌝ }
+    ensures { λ r. ⌜ StepsAre r (readPath readStep (now (s .entry))) ⌝ }
 {
     if !is_at(s, 0, b'$') {
         return no_steps();
@@ -200,7 +202,7 @@ fn read_all(s: &[u8]) -> StepsRead
 
 // A policy path that is not too long in the standard spelling.
 pub fn read_steps(s: &[u8]) -> StepsRead
-    ensures { λ r. ⌜ stepsAnswer r ≡ stepsOf (now (s .entry)) ⌝ }
+    ensures { λ r. ⌜ StepsAre r (stepsOf (now (s .entry))) ⌝ }
 {
     let path = read_all(s);
     if path.ok {

@@ -21,8 +21,9 @@ ghost use lib.ListN.{length, take};
 ghost use Rattle.rows.specs.Positions.{placed};
 ghost use Rattle.model.specs.Paths.{operatorText, readEither, inBrackets, readWildcard, readIdentifier, readEnvironment, readDotted, readList, readSelector, readStep};
 ghost use Rattle.lexical.specs.Classes.{textAnswer};
-ghost use Rattle.steps.specs.Steps.{operatorOf, namesIn, byKind, stepAnswer};
-ghost use Rattle.model.specs.Limits.{maxKey};
+ghost use Rattle.steps.specs.Steps.{operatorOf, namesIn, byKind, byteOf, rowOf, stepAnswer, HoldsNames, StepIs};
+ghost use Rattle.model.specs.Limits.{maxKey, maxListed};
+ghost use Rattle.layout.specs.Layout.{encodeKeys};
 
 // The names of a step: how many, and a row for each.
 pub const NAMES: usize = 1 + MAX_LISTED * KEY_ROW;
@@ -59,7 +60,7 @@ pub struct StepRead {
 
 // A slot of one name.
 pub fn one_name(name: &[u8]) -> [u8; NAMES]
-    ensures { λ r. ⌜ namesIn r ≡ take maxKey (now (name .entry)) ∷ [] ⌝ }
+    ensures { λ r. ⌜ HoldsNames r (take maxKey (now (name .entry)) ∷ []) ⌝ }
 {
     let mut names = [0u8; NAMES];
     push_key(&mut names, name, MAX_LISTED);
@@ -68,7 +69,7 @@ pub fn one_name(name: &[u8]) -> [u8; NAMES]
 
 // A step that was read up to `to`.
 fn found(to: usize, kind: Kind, names: [u8; NAMES]) -> StepRead
-    ensures { λ r. ⌜ stepAnswer r ≡ some (byKind kind (namesIn names), to) ⌝ }
+    ensures { λ r. ⌜ (stepAnswer r ≡ some (byKind kind (namesIn names), to)) × (rowOf (r .step) ≡ byteOf kind ∷ names) ⌝ }
 {
     let step = Step {
         kind: kind,
@@ -83,14 +84,14 @@ fn found(to: usize, kind: Kind, names: [u8; NAMES]) -> StepRead
 
 // A step of one name that was read up to `to`.
 fn found_one(to: usize, kind: Kind, name: &[u8]) -> StepRead
-    ensures { λ r. ⌜ stepAnswer r ≡ some (byKind kind (take maxKey (now (name .entry)) ∷ []), to) ⌝ }
+    ensures { λ r. ⌜ (stepAnswer r ≡ some (byKind kind (take maxKey (now (name .entry)) ∷ []), to)) × (rowOf (r .step) ≡ byteOf kind ∷ encodeKeys maxListed (take maxKey (now (name .entry)) ∷ [])) ⌝ }
 {
     let names = one_name(name);
     found(to, kind, names)
 }
 
 fn no_step() -> StepRead
-    ensures { λ r. ⌜ stepAnswer r ≡ none ⌝ }
+    ensures { λ r. ⌜ StepIs r none ⌝ }
 {
     let step = Step {
         kind: Kind::Wildcard,
@@ -106,7 +107,7 @@ fn no_step() -> StepRead
 // Any key.
 fn wildcard_at(s: &[u8], at: usize) -> StepRead
     requires { ⌜ at ≤ length (now s) ⌝ }
-    ensures { λ r. ⌜ stepAnswer r ≡ placed readWildcard (now (s .entry)) at ⌝ }
+    ensures { λ r. ⌜ StepIs r (placed readWildcard (now (s .entry)) at) ⌝ }
 {
     if is_at(s, at, b'*') {
         return found(at + 1, Kind::Wildcard, [0; NAMES]);
@@ -117,7 +118,7 @@ fn wildcard_at(s: &[u8], at: usize) -> StepRead
 // An identifier, no longer than a key, that begins with no digit.
 fn identifier_at(s: &[u8], at: usize) -> StepRead
     requires { ⌜ at ≤ length (now s) ⌝ }
-    ensures { λ r. ⌜ stepAnswer r ≡ placed readIdentifier (now (s .entry)) at ⌝ }
+    ensures { λ r. ⌜ StepIs r (placed readIdentifier (now (s .entry)) at) ⌝ }
 {
     let End::At(to) = scan(s, at, Class::Identifier, 1, MAX_KEY) else {
         return no_step();
@@ -131,7 +132,7 @@ fn identifier_at(s: &[u8], at: usize) -> StepRead
 // The word of an operator, and the plain name of an environment step behind it.
 fn environment_at(s: &[u8], at: usize, word: &[u8], operator: Operator) -> StepRead
     requires { ⌜ (at ≤ length (now s)) × (now word ≡ operatorText (operatorOf operator)) ⌝ }
-    ensures { λ r. ⌜ stepAnswer r ≡ placed (readEnvironment (operatorOf operator)) (now (s .entry)) at ⌝ }
+    ensures { λ r. ⌜ StepIs r (placed (readEnvironment (operatorOf operator)) (now (s .entry)) at) ⌝ }
 {
     if !starts(s, at, word) {
         return no_step();
@@ -157,7 +158,7 @@ fn either_at(s: &[u8], at: usize) -> End
 // One to four names with commas between.
 fn list_at(s: &[u8], at: usize) -> StepRead
     requires { ⌜ at ≤ length (now s) ⌝ }
-    ensures { λ r. ⌜ stepAnswer r ≡ placed readList (now (s .entry)) at ⌝ }
+    ensures { λ r. ⌜ StepIs r (placed readList (now (s .entry)) at) ⌝ }
 {
     let mut names = [0u8; NAMES];
     let mut from = at;
@@ -181,7 +182,7 @@ fn list_at(s: &[u8], at: usize) -> StepRead
 // What a step has between brackets.
 fn selector_at(s: &[u8], at: usize) -> StepRead
     requires { ⌜ at ≤ length (now s) ⌝ }
-    ensures { λ r. ⌜ stepAnswer r ≡ placed readSelector (now (s .entry)) at ⌝ }
+    ensures { λ r. ⌜ StepIs r (placed readSelector (now (s .entry)) at) ⌝ }
 {
     let any = wildcard_at(s, at);
     if any.ok {
@@ -201,7 +202,7 @@ fn selector_at(s: &[u8], at: usize) -> StepRead
 // A wildcard or an identifier behind a dot.
 fn dotted_at(s: &[u8], at: usize) -> StepRead
     requires { ⌜ at ≤ length (now s) ⌝ }
-    ensures { λ r. ⌜ stepAnswer r ≡ placed readDotted (now (s .entry)) at ⌝ }
+    ensures { λ r. ⌜ StepIs r (placed readDotted (now (s .entry)) at) ⌝ }
 {
     if !is_at(s, at, b'.') {
         return no_step();
@@ -217,7 +218,7 @@ fn dotted_at(s: &[u8], at: usize) -> StepRead
 // A step in brackets.
 fn bracketed_at(s: &[u8], at: usize) -> StepRead
     requires { ⌜ at ≤ length (now s) ⌝ }
-    ensures { λ r. ⌜ stepAnswer r ≡ placed (inBrackets readSelector) (now (s .entry)) at ⌝ }
+    ensures { λ r. ⌜ StepIs r (placed (inBrackets readSelector) (now (s .entry)) at) ⌝ }
 {
     if !is_at(s, at, b'[') {
         return no_step();
@@ -235,7 +236,7 @@ fn bracketed_at(s: &[u8], at: usize) -> StepRead
 // A step in any spelling.
 pub fn step_at(s: &[u8], at: usize) -> StepRead
     requires { ⌜ at ≤ length (now s) ⌝ }
-    ensures { λ r. ⌜ stepAnswer r ≡ placed readStep (now (s .entry)) at ⌝ }
+    ensures { λ r. ⌜ StepIs r (placed readStep (now (s .entry)) at) ⌝ }
 {
     let dotted = dotted_at(s, at);
     if dotted.ok {

@@ -8,7 +8,8 @@ use native.Mathlib.Numerals.{add-one}
 use native.Mathlib.Omega.{arith}
 use lib.ListN.{length, getD, getElem?, take, drop}
 use lib.Seq.{take-take}
-use Rattle.layout.specs.Layout.{inUse, nameRow, nameIn}
+use Rattle.layout.specs.Layout.{inUse, table, nameRow, nameIn}
+use Rattle.rows.proofs.Rows.{rows-take}
 use Rattle.rows.proofs.Parts.{part-at}
 use Rattle.model.specs.Base.{Bytes, if_then_else_, firstFrom, _==_}
 use Rattle.model.specs.Limits.{maxUsers}
@@ -22,6 +23,11 @@ elem-left [] zero = refl
 elem-left [] (suc i) = refl
 elem-left (x ∷ xs) zero = refl
 elem-left (x ∷ xs) (suc i) = elem-left xs i
+
+-- the first bytes of the tables are the users'
+pub users-first : (s : Bytes) → usersIn (take usersBytes s) ≡ usersIn s
+unfolding usersIn table
+users-first s = rw (rows-take userRow maxUsers usersBytes s (omega arith))
 
 -- m rows were counted
 module _ (s : Bytes) {m : ℕ} (counted : m ≡ length (inUse userRow maxUsers s)) (i : ℕ) where

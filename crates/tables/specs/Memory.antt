@@ -1,15 +1,16 @@
 -- What the bytes of the tables mean, whatever they are.
-use Prim.Native.Nat.{ℕ, _+_, _*_}
+use Prim.Native.Nat.{ℕ, _+_, _*_, _/_, _%_}
+use mathlib.Core.Path.{_≡_}
 use mathlib.Core.Option.{Option, none, some}
-use mathlib.Core.List.{List}
+use mathlib.Core.List.{List, [], _∷_, _++_}
 use lib.Dec.{eqb}
 use lib.ListN.{getD, take, drop}
-use Rattle.layout.specs.Layout.{table, nameRow, nameIn}
+use Rattle.layout.specs.Layout.{table, nameRow, nameIn, encodeName, encodeTable, Canonical, CanonicalName, CanonicalTable}
 use Rattle.model.specs.Base.{Bytes, if_then_else_}
 use Rattle.model.specs.Limits.{maxUsers, maxRules}
 use Rattle.model.specs.Tables.{User, Access, READ, WRITE, Rule, Tables}
-use Rattle.steps.specs.Steps.{stepsSlot, stepsIn}
-use Rattle.steps.specs.Environments.{bindingsBytes, bindingsIn}
+use Rattle.steps.specs.Steps.{stepsSlot, stepsIn, encodeSteps}
+use Rattle.steps.specs.Environments.{bindingsBytes, bindingsIn, encodeBindings, CanonicalBindings}
 use Rattle.tables.specs.declared.memory.UserAt.{UserAt}
 use Rattle.tables.specs.declared.memory.UserAt.the-variants.{At, Unknown}
 
@@ -88,3 +89,35 @@ tablesIn s = record { users = usersIn s; policy = policyIn (drop usersBytes s) }
 abbrev pub userAnswer : Option (ℕ × User) → UserAt
 userAnswer none = Unknown
 userAnswer (some t) = At (t .0)
+
+-- ── Every byte ──
+-- a quota: how many beside whole 256, and how many 256
+unfoldable pub encodeQuota : ℕ → Bytes
+encodeQuota q = q % 256 ∷ q / 256 ∷ []
+
+unfoldable pub encodeUser : User → Bytes
+encodeUser u =
+    encodeName nameRow (u .name) ++ encodeName nameRow (u .role) ++ encodeName nameRow (u .key) ++ encodeQuota (u .quota) ++ encodeBindings (u .environment)
+
+unfoldable pub encodeRule : Rule → Bytes
+encodeRule r = encodeName nameRow (r .role) ++ accessByte (r .access) ∷ encodeSteps (r .path)
+
+unfoldable pub encodeTables : Tables → Bytes
+encodeTables t = encodeTable encodeUser userRow maxUsers (t .users) ++ encodeTable encodeRule ruleRow maxRules (t .policy)
+
+-- each part of a user's row is written as its meaning is
+pub record CanonicalUser (row : Bytes) : Type 0 where
+  pub name : CanonicalName nameRow (take nameRow row)
+  pub role : CanonicalName nameRow (take nameRow (drop roleAt row))
+  pub key : CanonicalName nameRow (take nameRow (drop keyAt row))
+  pub quota : take 2 (drop quotaAt row) ≡ encodeQuota (userIn row .quota)
+  pub environment : CanonicalBindings (drop linesAt row)
+
+abbrev pub CanonicalUsers : Bytes → Type 0
+CanonicalUsers s = CanonicalTable CanonicalUser userRow maxUsers s
+
+abbrev pub CanonicalPolicy : Bytes → Type 0
+CanonicalPolicy s = CanonicalTable (Canonical encodeRule ruleIn) ruleRow maxRules s
+
+abbrev pub CanonicalTables : Bytes → Type 0
+CanonicalTables s = CanonicalUsers (take usersBytes s) × CanonicalPolicy (drop usersBytes s)

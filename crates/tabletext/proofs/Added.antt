@@ -19,7 +19,7 @@ use Rattle.model.proofs.Spelling.{Named, name-named, key-named}
 use Rattle.layout.specs.Layout.{inUse}
 use Rattle.steps.specs.Steps.{stepsIn, stepsAnswer}
 use Rattle.steps.specs.declared.policy.StepsRead.{StepsRead}
-use Rattle.tables.specs.Memory.{userRow, ruleRow, userIn, usersIn, accessIn, ruleIn, policyIn}
+use Rattle.tables.specs.Memory.{userRow, ruleRow, userIn, usersIn, accessIn, accessByte, ruleIn, policyIn}
 use Rattle.layout.proofs.Used.{length-table}
 use Rattle.tabletext.specs.declared.row.RowRead.the-variants.{Done, Refused}
 use Rattle.tabletext.specs.declared.row.AccessRead.{AccessRead}
@@ -34,10 +34,10 @@ failed {b = b} h e = sym h ∙ not-true b e
 pub passed : {a b : Bool} → b ≡ a → not b ≡ false → a ≡ true
 passed {b = b} h e = sym h ∙ not-false b e
 
--- ── A line's outcome, and what the code says of it ──
-pub refuses : {A : Type 0} (a : A) {x : Result ℕ A} {e : ℕ} → x ≡ refused e → (Refused e ≡ rowAnswer x) × (a ≡ keptOr a x)
+-- ── A line's outcome, and what the code says of it: where it is refused, what was so stays so ──
+pub refuses : {A : Type 0} (a : A) {x : Result ℕ A} {e : ℕ} {P : Type 0} → x ≡ refused e → ((Refused e ≡ rowAnswer x) × (a ≡ keptOr a x)) × (P → P)
 unfolding keptOr
-refuses a h = rw h (refl, refl)
+refuses a h = (rw h (refl, refl), λ p. p)
 
 -- ── Names: none is empty, and none is cut ──
 pub plain-named : (n : Bytes) → isPlain n ≡ true → Named maxName n
@@ -150,13 +150,13 @@ module _ {m n : Bytes} (is : m ≡ n) {r : AccessRead} (h : r ≡ accessAnswer (
       go none h = refl
       go (some a) h = let z : _≡_ {A = ℕ} 0 1 = cc in absurd (omega arith)
 
-  pub access-known : {b : ℕ} → r ≡ Is b → accessOf n ≡ some (accessIn b)
+  pub access-known : {b : ℕ} → r ≡ Is b → (accessOf n ≡ some (accessIn b)) × (b ≡ accessByte (accessIn b))
   access-known {b} e = rw (← is) (go (accessOf m) h)
     where
-      go : (o : Option Access) → r ≡ accessAnswer o → o ≡ some (accessIn b)
+      go : (o : Option Access) → r ≡ accessAnswer o → (o ≡ some (accessIn b)) × (b ≡ accessByte (accessIn b))
       go none h = let z : _≡_ {A = ℕ} 0 1 = cc in absurd (omega arith)
-      go (some READ) h = let z : 0 ≡ b = cc in rw (← z)
-      go (some WRITE) h = let z : 1 ≡ b = cc in rw (← z)
+      go (some READ) h = let z : 0 ≡ b = cc in rw (← z) (refl, refl)
+      go (some WRITE) h = let z : 1 ≡ b = cc in rw (← z) (refl, refl)
 
 -- and of a path
 module _ (r : StepsRead) {m n : Bytes} (is : m ≡ n) (h : stepsAnswer r ≡ stepsOf m) where

@@ -2,21 +2,19 @@
 use Prim.Native.Nat.{ℕ, _-_, _≤_}
 use mathlib.Core.Path.{_≡_, refl, ap, _∙_}
 use mathlib.Core.List.{List, _++_}
-use native.Mathlib.Omega.{arith}
 use lib.ListN.{length, take, drop}
 use lib.Seq.{take-at, drop-at, length-take-le}
 use Rattle.rows.specs.Rows.{replaced}
-use Rattle.layout.specs.Layout.{table}
-use Rattle.rows.proofs.Rows.{rows-take}
+use Rattle.layout.specs.Layout.{Keeps}
 use Rattle.rows.proofs.Parts.{tail-part, tail-replaced}
 use Rattle.model.specs.Base.{Bytes}
 use Rattle.model.specs.Refusals.{Result, refused, done, _>>=_}
 use Rattle.model.specs.Table.{Table}
 use Rattle.model.specs.Tables.{User, Rule, Tables}
-use Rattle.tables.specs.Memory.{userRow, usersBytes, usersIn, policyIn, tablesIn}
+use Rattle.tables.specs.Memory.{usersBytes, usersIn, policyIn, tablesIn}
+use Rattle.tables.proofs.Users.{users-first}
 use Rattle.tabletext.specs.declared.row.RowRead.{RowRead}
 use Rattle.tabletext.specs.Reading.{rowAnswer, keptOr, inUsers, inPolicy}
-use Rattle.model.specs.Limits.{maxUsers}
 
 -- ── A result with what was read put into a whole ──
 module _ {A B : Type 0} (f : A → B) where
@@ -31,10 +29,6 @@ module _ {A B : Type 0} (f : A → B) where
   kept-in a (done b) = refl
 
 -- ── The first 19104 bytes are the users', the rest is the policy's ──
-users-first : (s : Bytes) → usersIn (take usersBytes s) ≡ usersIn s
-unfolding usersIn table
-users-first s = rw (rows-take userRow maxUsers usersBytes s (omega arith))
-
 tables-joined : (us rs : Bytes) → length us ≡ usersBytes → tablesIn (us ++ rs) ≡ record { users = usersIn us; policy = policyIn rs }
 unfolding tablesIn
 tables-joined us rs l = rw (← users-first (us ++ rs), take-at us rs usersBytes l, drop-at us rs usersBytes l)
@@ -68,3 +62,16 @@ module _ (val : Bytes → Bytes) (s part : Bytes) {r : RowRead} where
       let users = ap beside (users-first s) in
       let policy = rw (tail-part usersBytes s) at k in
       ((rw (tail-part usersBytes s) at a) ∙ answer-in whole q, put ∙ joined ∙ users ∙ ap whole policy ∙ kept-in whole (policyIn (drop usersBytes s)) q)
+
+-- ── What holds of the first n bytes, and what of the rest: it stays so where other bytes came back in the place of either ──
+module _ (P Q : Bytes → Type 0) (n : ℕ) (s part : Bytes) where
+  abbrev Both : Bytes → Type 0
+  Both t = P (take n t) × Q (drop n t)
+
+  pub first-kept : length part ≡ n → Keeps P (take n s) part → Both s → Both (part ++ drop n s)
+  first-kept l kept h = rw (take-at part (drop n s) n l, drop-at part (drop n s) n l) (kept (h .0), h .1)
+
+  pub rest-kept : n ≤ length s → Keeps Q (take (length s - n) (drop n s)) part → Both s → Both (replaced n (length s - n) part s)
+  rest-kept l kept h =
+      let long = length-take-le n s l in
+      rw (tail-replaced n s part, take-at (take n s) part n long, drop-at (take n s) part n long) (h .0, kept (rw (tail-part n s) (h .1)))

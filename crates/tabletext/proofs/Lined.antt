@@ -19,9 +19,8 @@ use Rattle.lexical.specs.Classes.{isNot}
 use Rattle.lines.proofs.Lines.{line-ended, line-broken, lines-over}
 use Rattle.tabletext.specs.declared.row.RowRead.{RowRead}
 use Rattle.tabletext.specs.declared.row.RowRead.the-variants as row-read
-use Rattle.tabletext.specs.declared.read.TableRead.{TableRead}
 use Rattle.tabletext.specs.declared.read.TableRead.the-variants as table-read
-use Rattle.tabletext.specs.Reading.{rowAnswer, keptOr, tableAnswer, ifDone, rowsAsFar, linesAsFar, tablesAsFar}
+use Rattle.tabletext.specs.Reading.{rowAnswer, keptOr, ifDone, rowsAsFar, linesAsFar, tablesAsFar, Answered}
 
 -- ── A head has the columns cs from the column j on ──
 abbrev pub hasFrom : List Bytes → List Bytes → ℕ → Bool
@@ -63,10 +62,7 @@ module _ {A : Type 0} where
   answer-done (refused d) a h = let z : _≡_ {A = ℕ} 0 1 = cc in absurd (omega arith)
   answer-done (done b) a h = refl
 
--- ── A table's text: the answer r, and what the lines before a refusal made of what there was ──
-abbrev pub Answered : {A : Type 0} → Table A → A → Bytes → TableRead → A → Type 0
-Answered t a₀ s r a = (r ≡ tableAnswer (readTable t a₀ s)) × (a ≡ tablesAsFar t a₀ s)
-
+-- ── A table's text ──
 -- the line n stands at the position `at`, and the lines before it made a of what there was
 pub record Left {A : Type 0} (t : Table A) (a₀ : A) (s : Bytes) (hs : List Bytes) (n at : ℕ) (a : A) : Type 0 where
   pub answer : readTable t a₀ s ≡ readRows t hs n a (lines (drop at s))

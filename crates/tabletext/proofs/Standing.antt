@@ -11,18 +11,19 @@ use lib.Seq.{take-add, take-all, take-take, take-append-le, drop-drop, drop-at, 
 use Rattle.rows.specs.Rows.{rows, upTo, replaced}
 use Rattle.rows.proofs.Rows.{drop-take, row-at}
 use Rattle.layout.proofs.Changed.{used-set, table-set}
-use Rattle.layout.proofs.Used.{table-fit, length-table}
+use Rattle.layout.proofs.Used.{used-at, table-fit, length-table}
+use Rattle.layout.proofs.Canonical.{canonical-set}
 use Rattle.rows.proofs.Parts.{length-part}
 use Rattle.model.specs.Base.{Bytes, firstFrom}
 use Rattle.model.specs.Limits.{maxUsers, maxBindings}
 use Rattle.model.specs.Tables.{Binding, User, userAt, userNamed, bound}
-use Rattle.model.proofs.Lists.{by-cases, none-some, elem-below}
+use Rattle.model.proofs.Lists.{All, by-cases, none-some, elem-below}
 use Rattle.model.proofs.Reading.{some-same}
-use Rattle.layout.specs.Layout.{inUse, isEmpty, nameRow, nameIn}
-use Rattle.steps.specs.Environments.{bindingRow, bindingsBytes, bindingIn, bindingsIn}
+use Rattle.layout.specs.Layout.{inUse, isEmpty, nameRow, nameIn, Keeps}
+use Rattle.steps.specs.Environments.{bindingRow, bindingsBytes, bindingIn, bindingsIn, CanonicalBindings}
 use Rattle.tables.specs.declared.memory.UserAt.{UserAt}
 use Rattle.tables.specs.declared.memory.UserAt.the-variants.{At, Unknown}
-use Rattle.tables.specs.Memory.{userRow, usersBytes, roleAt, keyAt, quotaAt, linesAt, userIn, usersIn, userAnswer}
+use Rattle.tables.specs.Memory.{userRow, usersBytes, roleAt, keyAt, quotaAt, linesAt, userIn, usersIn, userAnswer, CanonicalUser, CanonicalUsers}
 use Rattle.tables.proofs.Users.{user-some}
 
 -- ── What the answer of a search says ──
@@ -44,6 +45,10 @@ module _ (us : List User) {m n : Bytes} (is : m ≡ n) {r : UserAt} (h : r ≡ u
 
 -- ── The row of a user: what stands before the lines, and the lines ──
 module _ (h : Bytes) (long : length h ≡ linesAt) where
+  -- a part of what stands before the lines
+  front-part : (a k : ℕ) → a + k ≤ linesAt → (ls : Bytes) → take k (drop a (h ++ ls)) ≡ take k (drop a h)
+  front-part a k inside ls = rw (drop-append-le a h ls (omega arith)) (take-append-le k (drop a h) ls (rw length-drop (omega arith)))
+
   user-parts : (ls : Bytes) → userIn (h ++ ls) ≡ record {
     name = nameIn (take nameRow h);
     role = nameIn (take nameRow (drop roleAt h));
@@ -53,11 +58,19 @@ module _ (h : Bytes) (long : length h ≡ linesAt) where
   }
   unfolding userIn
   user-parts ls =
-      let role = take-append-le nameRow (drop roleAt h) ls (rw length-drop (omega arith)) in
-      let key = take-append-le nameRow (drop keyAt h) ls (rw length-drop (omega arith)) in
       let low = List·getD-append h ls 0 quotaAt (omega arith) in
       let high = List·getD-append h ls 0 (quotaAt + 1) (omega arith) in
-      rw (take-append-le nameRow h ls (omega arith), drop-append-le roleAt h ls (omega arith), role, drop-append-le keyAt h ls (omega arith), key, low, high, drop-at h ls linesAt long)
+      rw (front-part 0 nameRow (omega arith) ls, front-part roleAt nameRow (omega arith) ls, front-part keyAt nameRow (omega arith) ls, low, high, drop-at h ls linesAt long)
+
+  -- with other lines that are written as their meaning is, so is the row
+  user-kept : (ls ms : Bytes) → Keeps CanonicalBindings ls ms → CanonicalUser (h ++ ls) → CanonicalUser (h ++ ms)
+  user-kept ls ms lines was = record {
+    name = rw (front-part 0 nameRow (omega arith) ms) (rw (front-part 0 nameRow (omega arith) ls) at (was .name));
+    role = rw (front-part roleAt nameRow (omega arith) ms) (rw (front-part roleAt nameRow (omega arith) ls) at (was .role));
+    key = rw (front-part keyAt nameRow (omega arith) ms) (rw (front-part keyAt nameRow (omega arith) ls) at (was .key));
+    quota = rw (front-part quotaAt 2 (omega arith) ms, user-parts ms) (rw (front-part quotaAt 2 (omega arith) ls, user-parts ls) at (was .quota));
+    environment = rw (drop-at h ms linesAt long) (lines (rw (drop-at h ls linesAt long) at (was .environment)));
+  }
 
   -- with one line more it is the row of the user so bound
   user-bound : (ls ms : Bytes) (b : Binding) → bindingsIn ms ≡ bindingsIn ls ++ b ∷ [] → userIn (h ++ ms) ≡ bound (userIn (h ++ ls)) b
@@ -106,6 +119,12 @@ kept-at stop i [] z h = absurd (omega arith)
 kept-at stop zero (x ∷ xs) z h = by-cases (stop x) (λ e. absurd (omega (arith, rw e at h))) (λ e. e)
 kept-at stop (suc i) (x ∷ xs) z h = by-cases (stop x) (λ e. absurd (omega (arith, rw e at h))) (λ e. kept-at stop i xs z (le-of-suc-le-suc (rw e at h)))
 
+-- what holds of every element holds of the one at i
+all-at : {A : Type 0} (P : A → Type 0) (xs : List A) (i : ℕ) (z : A) → i < length xs → All P xs → P (getD xs i z)
+all-at P [] i z b h = absurd (omega arith)
+all-at P (x ∷ xs) zero z b h = h .0
+all-at P (x ∷ xs) (suc i) z b h = all-at P xs i z (omega arith) (h .1)
+
 -- the user of the name n stands at i
 pub record Stands (s n : Bytes) (i : ℕ) : Type 0 where
   pub user : User
@@ -149,18 +168,41 @@ module _ {s n : Bytes} {i : ℕ} (u : Stands s n i) (size : length s ≡ usersBy
   unfolding bindingsIn
   lines-counted h = rw (lines-are, length-table bindingIn bindingRow maxBindings (linesOf s i)) h
 
-  -- other lines came back: where there is room, those that there were and the line b
-  pub lines-joined : {m : ℕ} (ls : Bytes) (b : Binding) → length ls ≡ bindingsBytes → m ≡ length (u .user .environment) → m < maxBindings
-      → bindingsIn ls ≡ take maxBindings (bindingsIn (linesOf s i) ++ b ∷ [])
-      → usersIn (replaced (i * userRow + linesAt) (i * userRow + linesAt + bindingsBytes - (i * userRow + linesAt)) ls s) ≡ set (usersIn s) i (bound (u .user) b)
-  unfolding usersIn
-  lines-joined ls b long counted room e =
-      let row = take linesAt (rowAt s i) ++ ls in
-      let l : length row ≡ userRow = rw (length-append, front, long) in
-      let below : i < maxUsers = omega (arith, u .inside) in
-      let full = kept-at isEmpty i (rows userRow maxUsers s) [] (rw length-table at (u .below)) in
-      let kept : isEmpty row ≡ false = rw (same-empty (take linesAt (rowAt s i)) front ls (linesOf s i), ← row-split s i, ← row-at userRow i maxUsers s [] below) full in
-      let more = e ∙ one-more maxBindings (bindingsIn (linesOf s i)) b (counted ∙ ap length lines-are) room in
-      let joined = user-bound (take linesAt (rowAt s i)) front (linesOf s i) ls b more in
-      let used = used-set userRow maxUsers i row s (omega arith, omega arith) l kept (rw length-table at (u .below)) in
-      rw (row-back s i ls, table-set userIn userRow maxUsers s (replaced (i * userRow) userRow row s) row i used, joined, ← row-split s i, ← u .is)
+  -- ── Other lines came back ──
+  module _ (ls : Bytes) (long : length ls ≡ bindingsBytes) where
+    abbrev back : Bytes
+    back = take linesAt (rowAt s i) ++ ls
+
+    back-long : length back ≡ userRow
+    back-long = rw (length-append, front, long)
+
+    below : i < length (inUse userRow maxUsers s)
+    unfolding usersIn
+    below = rw length-table at (u .below)
+
+    -- the row is in use as it was
+    back-kept : isEmpty back ≡ false
+    back-kept =
+        let full = kept-at isEmpty i (rows userRow maxUsers s) [] below in
+        rw (same-empty (take linesAt (rowAt s i)) front ls (linesOf s i), ← row-split s i, ← row-at userRow i maxUsers s [] (omega (arith, u .inside))) full
+
+    back-used : inUse userRow maxUsers (replaced (i * userRow) userRow back s) ≡ set (inUse userRow maxUsers s) i back
+    back-used = used-set userRow maxUsers i back s (omega arith, omega arith) back-long back-kept below
+
+    -- where there is room: those that there were and the line b
+    pub lines-joined : {m : ℕ} (b : Binding) → m ≡ length (u .user .environment) → m < maxBindings
+        → bindingsIn ls ≡ take maxBindings (bindingsIn (linesOf s i) ++ b ∷ [])
+        → usersIn (replaced (i * userRow + linesAt) (i * userRow + linesAt + bindingsBytes - (i * userRow + linesAt)) ls s) ≡ set (usersIn s) i (bound (u .user) b)
+    unfolding usersIn
+    lines-joined b counted room e =
+        let more = e ∙ one-more maxBindings (bindingsIn (linesOf s i)) b (counted ∙ ap length lines-are) room in
+        let joined = user-bound (take linesAt (rowAt s i)) front (linesOf s i) ls b more in
+        rw (row-back s i ls, table-set userIn userRow maxUsers s (replaced (i * userRow) userRow back s) back i back-used, joined, ← row-split s i, ← u .is)
+
+    -- where they are written as their meaning is, so are the users
+    pub lines-kept : Keeps CanonicalBindings (linesOf s i) ls
+        → Keeps CanonicalUsers s (replaced (i * userRow + linesAt) (i * userRow + linesAt + bindingsBytes - (i * userRow + linesAt)) ls s)
+    lines-kept lines h =
+        let was : CanonicalUser (rowAt s i) = rw (used-at userRow maxUsers s i [] below) at (all-at CanonicalUser (inUse userRow maxUsers s) i [] below (h .1)) in
+        let is = user-kept (take linesAt (rowAt s i)) front (linesOf s i) ls lines (rw (row-split s i) at was) in
+        rw (row-back s i ls) (canonical-set CanonicalUser userRow maxUsers s back (omega arith, omega arith) back-long back-kept is h i below)

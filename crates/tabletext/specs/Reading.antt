@@ -5,7 +5,7 @@ use mathlib.Core.Option.{Option, none, some}
 use mathlib.Core.List.{List, [], _∷_}
 use Rattle.model.specs.Base.{Bytes, if_then_else_}
 use Rattle.model.specs.Refusals.{Result, refused, done, _>>=_}
-use Rattle.model.specs.Table.{Table, Line, ended, broken, lines, split, under, isHead, readRow}
+use Rattle.model.specs.Table.{Table, Line, ended, broken, lines, split, under, isHead, readRow, readTable}
 use Rattle.model.specs.Tables.{User, Access, Rule, Tables, usersTable, environmentsTable, policyTable}
 use Rattle.tables.specs.Memory.{accessByte}
 use Rattle.tabletext.specs.declared.row.RowRead.{RowRead}
@@ -77,3 +77,7 @@ module _ {A : Type 0} (t : Table A) where
 
   unfoldable pub tablesAsFar : A → Bytes → A
   tablesAsFar a s = linesAsFar a (lines s)
+
+-- a table's text: the answer r, and what the lines before a refusal made of what there was
+abbrev pub Answered : {A : Type 0} → Table A → A → Bytes → TableRead → A → Type 0
+Answered t a₀ s r a = (r ≡ tableAnswer (readTable t a₀ s)) × (a ≡ tablesAsFar t a₀ s)

@@ -15,9 +15,10 @@ ghost use Prim.Native.Nat.{_≤_};
 ghost use lib.ListN.{length};
 ghost use Rattle.model.specs.Base.{all, among};
 ghost use Rattle.model.specs.Limits.{maxText};
-ghost use Rattle.model.specs.Table.{split, sameLength, isHead, readRow, readTable, ended};
-ghost use Rattle.tables.specs.Memory.{tablesBytes, tablesIn};
-ghost use Rattle.tabletext.specs.Reading.{valuesIn, Adds, tableOf, tableAnswer, tablesAsFar};
+ghost use Rattle.model.specs.Table.{split, sameLength, isHead, readRow, ended};
+ghost use Rattle.layout.specs.Layout.{Keeps};
+ghost use Rattle.tables.specs.Memory.{tablesBytes, tablesIn, CanonicalTables};
+ghost use Rattle.tabletext.specs.Reading.{valuesIn, Adds, tableOf, Answered};
 
 pub enum Table {
     Users,
@@ -67,6 +68,7 @@ fn add_row(t: Table, tables: &mut [u8], head: &[u8], line: &[u8]) -> RowRead
     requires { ⌜ (length (now tables) ≡ tablesBytes) × (length (now head) ≤ maxText) ⌝ }
     ensures { λ r. ⌜ Adds (tableOf t .row (valuesIn (now (head .entry)) (now (line .entry))))
         (tablesIn (now (tables .entry))) r (tablesIn (now (tables .exit))) ⌝ }
+    ensures { λ _. ⌜ Keeps CanonicalTables (now (tables .entry)) (now (tables .exit)) ⌝ }
 {
     match t {
         Table::Users => add_user(&mut tables[..POLICY], head, line),
@@ -80,6 +82,7 @@ fn read_row(t: Table, tables: &mut [u8; TABLES], head: &[u8], line: &[u8]) -> Ro
     requires { ⌜ (length (now head) ≤ maxText) × (length (now line) ≤ maxText) ⌝ }
     ensures { λ r. ⌜ Adds (λ m. readRow (tableOf t) (split (now (head .entry))) m (ended (now (line .entry))))
         (tablesIn (now (tables .entry))) r (tablesIn (now (tables .exit))) ⌝ }
+    ensures { λ _. ⌜ Keeps CanonicalTables (now (tables .entry)) (now (tables .exit)) ⌝ }
 {
     if count(line) != count(head) {
         return RowRead::Refused(2);
@@ -90,8 +93,8 @@ fn read_row(t: Table, tables: &mut [u8; TABLES], head: &[u8], line: &[u8]) -> Ro
 // A table's text into the tables: what the lines before a refusal added stays.
 pub fn read_table(t: Table, tables: &mut [u8; TABLES], s: &[u8]) -> TableRead
     requires { ⌜ length (now s) ≤ maxText ⌝ }
-    ensures { λ r. ⌜ r ≡ tableAnswer (readTable (tableOf t) (tablesIn (now (tables .entry))) (now (s .entry))) ⌝ }
-    ensures { λ r. ⌜ tablesIn (now (tables .exit)) ≡ tablesAsFar (tableOf t) (tablesIn (now (tables .entry))) (now (s .entry)) ⌝ }
+    ensures { λ r. ⌜ Answered (tableOf t) (tablesIn (now (tables .entry))) (now (s .entry)) r (tablesIn (now (tables .exit))) ⌝ }
+    ensures { λ _. ⌜ Keeps CanonicalTables (now (tables .entry)) (now (tables .exit)) ⌝ }
 {
     let end = until(s, 0, b'\n');
     if end == s.len() {

@@ -31,8 +31,9 @@ ghost use lib.ListN.{length};
 ghost use Rattle.model.specs.Base.{any};
 ghost use Rattle.model.specs.Limits.{maxText};
 ghost use Rattle.model.specs.Tables.{usersTable, environmentsTable, policyTable, sameBinding, accessOf};
+ghost use Rattle.layout.specs.Layout.{Keeps};
 ghost use Rattle.steps.specs.Environments.{bindingsBytes, bindingsIn};
-ghost use Rattle.tables.specs.Memory.{usersBytes, policyBytes, usersIn, policyIn};
+ghost use Rattle.tables.specs.Memory.{usersBytes, policyBytes, usersIn, policyIn, CanonicalUsers, CanonicalPolicy};
 ghost use Rattle.tabletext.specs.Reading.{accessAnswer, valuesIn, Adds};
 
 pub enum RowRead {
@@ -50,6 +51,7 @@ pub fn add_user(users: &mut [u8], head: &[u8], line: &[u8]) -> RowRead
     requires { ⌜ (length (now users) ≡ usersBytes) × (length (now head) ≤ maxText) ⌝ }
     ensures { λ r. ⌜ Adds (usersTable .row (valuesIn (now (head .entry)) (now (line .entry))))
         (usersIn (now (users .entry))) r (usersIn (now (users .exit))) ⌝ }
+    ensures { λ _. ⌜ Keeps CanonicalUsers (now (users .entry)) (now (users .exit)) ⌝ }
 {
     let name = value_under(head, line, b"user");
     let role = value_under(head, line, b"role");
@@ -103,6 +105,7 @@ pub fn add_binding(users: &mut [u8], head: &[u8], line: &[u8]) -> RowRead
     requires { ⌜ (length (now users) ≡ usersBytes) × (length (now head) ≤ maxText) ⌝ }
     ensures { λ r. ⌜ Adds (environmentsTable .row (valuesIn (now (head .entry)) (now (line .entry))))
         (usersIn (now (users .entry))) r (usersIn (now (users .exit))) ⌝ }
+    ensures { λ _. ⌜ Keeps CanonicalUsers (now (users .entry)) (now (users .exit)) ⌝ }
 {
     let user = value_under(head, line, b"user");
     let name = value_under(head, line, b"name");
@@ -149,6 +152,7 @@ pub fn add_rule(policy: &mut [u8], head: &[u8], line: &[u8]) -> RowRead
     requires { ⌜ (length (now policy) ≡ policyBytes) × (length (now head) ≤ maxText) ⌝ }
     ensures { λ r. ⌜ Adds (policyTable .row (valuesIn (now (head .entry)) (now (line .entry))))
         (policyIn (now (policy .entry))) r (policyIn (now (policy .exit))) ⌝ }
+    ensures { λ _. ⌜ Keeps CanonicalPolicy (now (policy .entry)) (now (policy .exit)) ⌝ }
 {
     let role = value_under(head, line, b"role");
     if !is_name(role) {

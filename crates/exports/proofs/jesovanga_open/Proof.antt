@@ -1,9 +1,8 @@
 -- What is answered is read off the opening, in either case.
 use mathlib.Core.Path.{sym, _∙_}
 use borrow.Author.Needs.{needs}
-use Rattle.exports.specs.Numbers.{KeptUnless0, WipedIf0}
-use Rattle.exports.proofs.Numbered.{done-as, refused-as, kept-unless}
-use Rattle.exports.proofs.Accepted.{refused-wiped}
+use Rattle.exports.proofs.Numbered.{done-as, refused-as}
+use Rattle.exports.proofs.Accepted.{zero-accepted}
 use Rattle.exports.proofs.jesovanga_open.Statement.{statement}
 use Rattle.exports.proofs.jesovanga_open.Tie as tie
 
@@ -17,19 +16,16 @@ enum-known-number : tie.Need-enum-known-number
 enum-known-number c = search needs
 
 returns : tie.Need-returns
-unfolding KeptUnless0 WipedIf0
 returns c =
     let o = c .before .before .«open» .ensures in
     let (n, t, l) = done-as _ (sym (c .enum-told .given .1) ∙ o .answered) in
-    record { number = n; source = t; line = l; state = o .state; kept = tt; wiped = rw (c .enum-told .given .1) at (o .wiped) }
+    record { number = n; source = t; line = l; state = o .state; bytes = o .bytes; accepted = zero-accepted _ n }
 
 returns-2 : tie.Need-returns-2
 returns-2 c =
     let o = c .before .before .before .«open» .ensures in
-    let is = c .before .number .given .1 in
-    let answered = sym is ∙ o .answered in
-    let (n, t, l) = refused-as _ _ _ _ answered in
-    record { number = n; source = t; line = l; state = o .state; kept = kept-unless _ _ _ (rw is at (o .kept)); wiped = refused-wiped _ _ _ answered }
+    let (n, t, l) = refused-as _ _ _ _ (sym (c .before .number .given .1) ∙ o .answered) in
+    record { number = n; source = t; line = l; state = o .state; bytes = o .bytes; accepted = zero-accepted _ n }
 
 pub jesovanga-open-spec : {M : Type 1} → statement M
 jesovanga-open-spec =

@@ -8,16 +8,19 @@ use native.Mathlib.Omega.{arith}
 use lib.ListN.{length, take, drop}
 use Rattle.rows.specs.Positions.{Reads, placed}
 use Rattle.model.specs.Base.{Bytes}
+use Rattle.model.specs.Limits.{maxDepth}
 use Rattle.model.specs.RecordText.{Node, Members, noMembers, member}
 use Rattle.values.proofs.Values.{told, value-inside}
 use Rattle.paths.specs.Layout.{pathIn}
-use Rattle.record.specs.Slots.{fieldsIn}
+use Rattle.layout.specs.Layout.{Keeps, CanonicalKeys}
+use Rattle.paths.proofs.PathBytes.{keys-encoded}
+use Rattle.record.specs.Slots.{fieldsIn, CanonicalFields}
 use Rattle.reader.specs.Tokens.{readToken, mapped}
 use Rattle.loader.specs.Loaded.{loaded, loadAnswer}
 use Rattle.reader.proofs.Spaced.{token-moves, open-stands, close-stands, comma-stands, no-open, no-close, no-comma, key-bad, MemberStands, member-stands}
 use Rattle.reader.proofs.Mapped.{mapped-bad, mapped-reads}
 use Rattle.reader.proofs.Objects.{readNode, leaves-node, leaves-object, Left, object-none, object-unopened, left-start, left-no-member, left-no-value, left-again, left-unclosed, left-last}
-use Rattle.loader.proofs.Loading.{nodeLoaded, Child, child-path, child-length, leaf-loaded, object-loaded, none-loaded, member-loaded}
+use Rattle.loader.proofs.Loading.{nodeLoaded, Child, child-path, child-length, leaf-valid, leaf-loaded, object-loaded, none-loaded, member-loaded}
 use borrow.Author.Needs.{needs}
 use borrow.Fn.Kinds.{In}
 use borrow.Fn.PlainCycle.{Measures, is, falls, and}
@@ -37,7 +40,7 @@ abbrev μ-load-object : Measures 3 kinds.ps ℕ
 
 abbrev Inv-loop : lts.InvT-loop
 Inv-loop table₀ s at depth path «open» child₀ i₀ table child i =
-    (before : Members) × Left s at depth before i × (fieldsIn table ≡ loaded (pathIn path) (fieldsIn table₀) before)
+    (before : Members) × Left s at depth before i × (fieldsIn table ≡ loaded (pathIn path) (fieldsIn table₀) before) × (CanonicalKeys maxDepth path → Keeps CanonicalFields table₀ table)
 
 abbrev μ-loop : lts.MeasureT-loop
 μ-loop table₀ s at depth path «open» child₀ i₀ table child i = length s - i
@@ -54,7 +57,7 @@ module _ (t : ℕ) where
       (token-at-reads.Asked, token-at-reads.Learnt, member-at-reads.Asked, member-at-reads.Learnt, put-child-reads.Asked, put-child-reads.Learnt, leaf-at-reads.Asked, leaf-at-reads.Learnt, store-value-reads.Asked, store-value-reads.Learnt, asked-below, load-object.Post)
 
   returns : lts.Need-returns claims asked load-object.Post Inv-loop μ-loop
-  returns c = object-none _ _ _ _ (c .if1 .taken)
+  returns c = (object-none _ _ _ _ (c .if1 .taken), λ path fields. fields)
 
   token-at-requires : lts.Need-token-at-requires claims asked load-object.Post Inv-loop μ-loop
   token-at-requires c κs = c .before .before .pre .1 .0
@@ -63,12 +66,12 @@ module _ (t : ℕ) where
   enum-known-open c = search needs
 
   returns-2 : lts.Need-returns-2 claims asked load-object.Post Inv-loop μ-loop
-  returns-2 c = object-unopened _ _ _ _ (no-open _ _ (c .before .token-at .result) (c .before .token-at .ensures) (c .match .keys2))
+  returns-2 c = (object-unopened _ _ _ _ (no-open _ _ (c .before .token-at .result) (c .before .token-at .ensures) (c .match .keys2)), λ path fields. fields)
 
   loop-holds : lts.Need-loop-holds claims asked load-object.Post Inv-loop μ-loop
   loop-holds c =
       let r = open-stands _ _ _ (c .before .before .before .token-at .ensures) (c .before .before .before .before .before .before .pre .1 .0) _ (c .before .«open» .given .1) in
-      (noMembers, left-start _ _ _ (c .before .before .before .before .if1 .left) _ r, none-loaded _ _)
+      (noMembers, left-start _ _ _ (c .before .before .before .before .if1 .left) _ r, none-loaded _ _, λ path fields. fields)
 
   member-at-requires : lts.Need-member-at-requires claims asked load-object.Post Inv-loop μ-loop
   member-at-requires c κs = c .loop .inv .1 .to
@@ -80,7 +83,9 @@ module _ (t : ℕ) where
   enum-told c = search needs
 
   returns-3 : lts.Need-returns-3 claims asked load-object.Post Inv-loop μ-loop
-  returns-3 c = left-no-member _ _ _ _ _ (c .before .before .before .loop .inv .1) _ (key-bad _ _ _ _ (c .before .before .member-at .ensures .0) (c .enum-told .given .1))
+  returns-3 c =
+      let inv = c .before .before .before .loop .inv in
+      (left-no-member _ _ _ _ _ (inv .1) _ (key-bad _ _ _ _ (c .before .before .member-at .ensures .0) (c .enum-told .given .1)), inv .3)
 
   -- ── Behind a key and its colon: the text, the key, where what it holds begins, and what was known before ──
   abbrev Member : Type 0
@@ -135,7 +140,7 @@ module _ (t : ℕ) where
   enum-known-leaf c = search needs
 
   slice-aggregate-store-value : lts.Need-slice-aggregate-store-value claims asked load-object.Post Inv-loop μ-loop
-  slice-aggregate-store-value c = sym (c .before .before .before .before .before .before .put-child .ensures .1)
+  slice-aggregate-store-value c = sym (c .before .before .before .before .before .before .put-child .ensures .1 .0)
 
   store-value-requires : lts.Need-store-value-requires claims asked load-object.Post Inv-loop μ-loop
   store-value-requires c κs = (
@@ -165,8 +170,21 @@ module _ (t : ℕ) where
       let l = c .before .leaf-at .ensures .0 in
       let p = child-stands (c .before .before) in
       ⊎-elim
-      (λ w. ap₂ loadAnswer (ap fieldsIn (w .6) ∙ w .5 .ensures) (w .7) ∙ leaf-loaded p _ _ _ _ _ l (stands (c .before .before .before .before .before) .reads .to) _ _ (w .1 .given .1))
-      (λ w. ap₂ loadAnswer (ap fieldsIn (w .5)) (w .6) ∙ w .4 .ensures ∙ object-loaded p _ _ _ _ _ l (w .1 .given .1))
+      (λ w. ap₂ loadAnswer (ap fieldsIn (w .6) ∙ w .5 .ensures .0) (w .7) ∙ leaf-loaded p _ _ _ _ _ l (stands (c .before .before .before .before .before) .reads .to) _ _ (w .1 .given .1))
+      (λ w. ap₂ loadAnswer (ap fieldsIn (w .5)) (w .6) ∙ w .4 .ensures .0 ∙ object-loaded p _ _ _ _ _ l (w .1 .given .1))
+      (c .match3 .came)
+
+  -- with a path written as its keys are, the table stays written as its fields are
+  stays : (c : lts.At-match3-came claims asked load-object.Post Inv-loop μ-loop)
+      → let k = c .before .before .before .before .before in
+      CanonicalKeys maxDepth (start k .args .path .now) → Keeps CanonicalFields (start k .args .table .now) (c .match3 .table)
+  stays c path fields =
+      let k = c .before .before .before .before .before in
+      let child = c .before .before .put-child .ensures .1 .1 path in
+      let before = head k .loop .inv .3 path fields in
+      ⊎-elim
+      (λ w. rw (w .6) (w .5 .ensures .1 (keys-encoded _ child, leaf-valid _ _ _ (c .before .leaf-at .ensures .0) (stands k .reads .to) _ _ (w .1 .given .1)) before))
+      (λ w. rw (w .5) (w .4 .ensures .1 child before))
       (c .match3 .came)
 
   enum-known-got : lts.Need-enum-known-got claims asked load-object.Post Inv-loop μ-loop
@@ -178,8 +196,8 @@ module _ (t : ℕ) where
   returns-4 : lts.Need-returns-4 claims asked load-object.Post Inv-loop μ-loop
   returns-4 c =
       let k = c .before .before .before .before .before .before .before in
-      left-no-value _ _ _ _ _ (head k .loop .inv .1) _ _ (stands k .reads) _
-      (mapped-bad _ (readNode _) _ _ (told (loadAnswer _) (loads (c .before .before)) (c .enum-told3 .given .1)))
+      let none = mapped-bad _ (readNode _) _ _ (told (loadAnswer _) (loads (c .before .before)) (c .enum-told3 .given .1)) in
+      (left-no-value _ _ _ _ _ (head k .loop .inv .1) _ _ (stands k .reads) _ none, stays (c .before .before))
 
   -- what the key holds ends where the call says, and the table has the fields of one member more
   node-stands : (c : lts.After-known-told4 claims asked load-object.Post Inv-loop μ-loop)
@@ -208,9 +226,9 @@ module _ (t : ℕ) where
       let n = node-stands (c .before .before .before) in
       let k = c .before .before .before .before .before .before .before .before .before .before .before in
       let token = c .before .before .token-at2 in
-      left-unclosed _ _ _ _ _ (head k .loop .inv .1) _ _ (stands k .reads) _ _ (n .1) _
-      (no-comma _ _ (token .result) (token .ensures) (c .before .match5 .keys2))
-      (no-close _ _ (token .result) (token .ensures) (c .match6 .keys2))
+      let last = no-comma _ _ (token .result) (token .ensures) (c .before .match5 .keys2) in
+      let unclosed = no-close _ _ (token .result) (token .ensures) (c .match6 .keys2) in
+      (left-unclosed _ _ _ _ _ (head k .loop .inv .1) _ _ (stands k .reads) _ _ (n .1) _ last unclosed, stays (c .before .before .before .before .before .before))
 
   returns-6 : lts.Need-returns-6 claims asked load-object.Post Inv-loop μ-loop
   returns-6 c =
@@ -218,7 +236,8 @@ module _ (t : ℕ) where
       let k = c .before .before .before .before .before .before .before .before .before .before .before .before .before in
       let token = c .before .before .before .before .token-at2 in
       let last = no-comma _ _ (token .result) (token .ensures) (c .before .before .before .match5 .keys2) in
-      rw (n .2) (left-last _ _ _ _ _ (head k .loop .inv .1) _ _ (stands k .reads) _ _ (n .1) _ last _ (close-stands _ _ _ (token .ensures) (n .1 .to) _ (c .before .token2 .given .1)))
+      let closed = close-stands _ _ _ (token .ensures) (n .1 .to) _ (c .before .token2 .given .1) in
+      (rw (n .2) (left-last _ _ _ _ _ (head k .loop .inv .1) _ _ (stands k .reads) _ _ (n .1) _ last _ closed), stays (c .before .before .before .before .before .before .before .before))
 
   -- a comma stands where `token_at` says
   comma : (c : lts.After-known-told5 claims asked load-object.Post Inv-loop μ-loop)
@@ -234,7 +253,7 @@ module _ (t : ℕ) where
   loop-again c =
       let n = node-stands (c .before .before .before .before) in
       let k = c .before .before .before .before .before .before .before .before .before .before .before .before in
-      (_, left-again _ _ _ _ _ (head k .loop .inv .1) _ _ (stands k .reads) _ _ (n .1) _ (comma c), n .2)
+      (_, left-again _ _ _ _ _ (head k .loop .inv .1) _ _ (stands k .reads) _ _ (n .1) _ (comma c), n .2, stays (c .before .before .before .before .before .before .before))
 
 pub +load-object-spec : {M : Type 1} → statement M
 +load-object-spec = close μ-load-object λ t. lts.spec (claims t)

@@ -3,11 +3,13 @@ use mathlib.Core.Path.{_∙_}
 use mathlib.Core.List.{[]}
 use Rattle.rows.specs.Positions.{Reads}
 use Rattle.paths.specs.Layout.{pathIn}
-use Rattle.layout.specs.Layout.{counted}
+use Rattle.model.specs.Limits.{maxDepth}
+use Rattle.layout.specs.Layout.{counted, keyRow, CanonicalName}
+use Rattle.layout.proofs.Canonical.{canonical-uncounted}
 use Rattle.reader.specs.Tokens.{readToken}
 use Rattle.reader.proofs.Spaced.{open-stands, close-stands, no-open, no-close}
 use Rattle.reader.proofs.Tops.{top-unopened, top-empty, top-object}
-use Rattle.loader.proofs.Loading.{none-loaded, emptied}
+use Rattle.loader.proofs.Loading.{none-loaded, emptied, emptied-zeros}
 use borrow.Author.Needs.{needs}
 use Rattle.loader.proofs.load_top.Statement.{statement}
 use Rattle.loader.proofs.load_top.Tie as tie
@@ -22,7 +24,7 @@ enum-known-open : tie.Need-enum-known-open
 enum-known-open c = search needs
 
 returns : tie.Need-returns
-returns c = top-unopened _ _ _ (no-open _ _ (c .before .token-at .result) (c .before .token-at .ensures) (c .match .keys2))
+returns c = (top-unopened _ _ _ (no-open _ _ (c .before .token-at .result) (c .before .token-at .ensures) (c .match .keys2)), emptied-zeros _)
 
 -- the brace stands where `token_at` says
 opened : (c : tie.After-known-told)
@@ -40,7 +42,7 @@ returns-2 c =
     let o = c .before .before .before .before in
     let none = emptied (o .before .before .before .before .before .args .table .now) ∙ none-loaded [] [] in
     let closed = close-stands _ _ _ (c .before .before .before .token-at2 .ensures) (opened o .to) _ (c .before .e .given .1) in
-    rw none (top-empty _ _ _ _ (opened o) _ closed)
+    (rw none (top-empty _ _ _ _ (opened o) _ closed), emptied-zeros _)
 
 load-object-requires : tie.Need-load-object-requires
 unfolding pathIn counted
@@ -52,7 +54,8 @@ returns-3 c =
     let o = c .before .before .before .before .before in
     let none = emptied (o .before .before .before .before .before .args .table .now) in
     let not-closed = no-close _ _ (c .before .before .before .before .token-at2 .result) (c .before .before .before .before .token-at2 .ensures) (c .before .before .before .match2 .keys2) in
-    rw none at (c .load-object .ensures) ∙ top-object _ _ _ _ (opened o) not-closed
+    let (fields, keeps) = c .load-object .ensures in
+    (rw none at fields ∙ top-object _ _ _ _ (opened o) not-closed, λ zeros. keeps (canonical-uncounted (CanonicalName keyRow) keyRow maxDepth) (emptied-zeros _ zeros))
 
 pub load-top-spec : {M : Type 1} → statement M
 load-top-spec =

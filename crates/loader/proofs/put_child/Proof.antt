@@ -1,7 +1,9 @@
 -- The path is copied, and the key is pushed behind its keys.
 use mathlib.Core.Path.{_≡_, _∙_}
+use mathlib.Core.List.{append-nil}
+use native.Mathlib.Omega.{arith}
 use lib.ListN.{length}
-use Rattle.loader.proofs.Loading.{copied-path}
+use Rattle.rows.proofs.Positions.{over}
 use borrow.Author.Needs.{needs}
 use Rattle.loader.proofs.put_child.Statement.{statement}
 use Rattle.loader.proofs.put_child.Tie as tie
@@ -18,8 +20,10 @@ unfolding pathIn
 returns c =
     let a = c .before .before .before .before .before .before .args in
     let l : length (a .path .now) ≡ pathSlot = search needs in
-    let same = copied-path (a .path .now) _ _ l (c .before .before .copy .ensures) in
-    (c .push-key .ensures ∙ rw same, search needs)
+    let m : length (a .child .now) ≡ pathSlot = search needs in
+    let same = rw (over (a .child .now) (length (a .path .now)) (omega arith), append-nil (a .path .now)) at (c .before .before .copy .ensures) in
+    let (keys, keeps) = c .push-key .ensures in
+    (keys ∙ rw same, (search needs, λ h. keeps (rw same h)))
 
 pub put-child-spec : {M : Type 1} → statement M
 put-child-spec = tie.close (tie.spec copy-requires push-key-requires returns)

@@ -3,6 +3,7 @@ use mathlib.Core.Path.{refl, sym}
 use Rattle.rows.proofs.Positions.{run-within}
 use Rattle.values.proofs.Values.{told}
 use Rattle.reader.specs.Summaries.{readAnswer}
+use Rattle.record.proofs.Canonical.{none-canonical}
 use Rattle.loader.proofs.Loading.{refused-fields, many-fields, few-fields}
 use borrow.Author.Needs.{needs}
 use Rattle.loader.proofs.read_record.Statement.{statement}
@@ -25,21 +26,21 @@ returns c =
     let i = c .before .before .before in
     let k = i .before .before in
     let is = told readAnswer (k .before .before .read-summary .ensures) (k .read .given .1) in
-    let fields = few-fields _ _ is (i .if1 .taken) _ (c .before .before .run .ensures) _ (c .load-top .result) (c .load-top .ensures) in
-    (sym is, rw fields refl)
+    let fields = few-fields _ _ is (i .if1 .taken) _ (c .before .before .run .ensures) _ (c .load-top .result) (c .load-top .ensures .0) in
+    (sym is, (rw fields refl, c .load-top .ensures .1))
 
 returns-2 : tie.Need-returns-2
 returns-2 c =
     let k = c .before .before in
     let is = told readAnswer (k .before .before .read-summary .ensures) (k .read .given .1) in
     let fields = many-fields _ _ is (c .if1 .left) in
-    (sym is, rw fields refl)
+    (sym is, (rw fields refl, λ zeros. rw zeros none-canonical))
 
 returns-3 : tie.Need-returns-3
 returns-3 c =
     let read = c .before .read-summary in
     let fields = refused-fields _ (read .result) (read .ensures) (c .match .keys2) in
-    (read .ensures, rw fields refl)
+    (read .ensures, (rw fields refl, λ zeros. rw zeros none-canonical))
 
 pub read-record-spec : {M : Type 1} → statement M
 read-record-spec =

@@ -32,7 +32,7 @@ returns-2 c =
     let l = c .before .before in
     let login = l .login-line .ensures in
     let reads = is-some (told (parsedAnswer _ []) (login [] .asks) (c .enum-told2 .given .1)) in
-    (record { asks = login _ .asks ∙ first-reads _ readLogin _ reads ∙ by-readers (l .before); stands = login _ .stands }, slot-same (l .login-line .result) (l .before .before .before .args .path .now))
+    (record { asks = login _ .asks ∙ first-reads _ readLogin _ reads ∙ by-readers (l .before); stands = login _ .stands }, slot-same _ _ (l .before .before .before .args .path .now) (l .login-line .result) (λ p. login p .asks))
 
 get-line-requires : tie.Need-get-line-requires
 get-line-requires c κs = search needs
@@ -50,7 +50,7 @@ returns-3 c =
     let get = g .get-line .ensures in
     let no-login = told (parsedAnswer _ []) (l .login-line .ensures [] .asks) (g .before .enum-told .given .1) in
     let reads = is-some (told (parsedAnswer _ []) (get [] .asks) (c .enum-told4 .given .1)) in
-    (record { asks = get _ .asks ∙ first-reads _ readGet _ reads ∙ first-fails _ readLogin _ no-login ∙ by-readers (l .before); stands = get _ .stands }, slot-same (g .get-line .result) (l .before .before .before .args .path .now))
+    (record { asks = get _ .asks ∙ first-reads _ readGet _ reads ∙ first-fails _ readLogin _ no-login ∙ by-readers (l .before); stands = get _ .stands }, slot-same _ _ (l .before .before .before .args .path .now) (g .get-line .result) (λ p. get p .asks))
 
 push-line-requires : tie.Need-push-line-requires
 push-line-requires c κs = search needs

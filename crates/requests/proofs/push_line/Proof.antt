@@ -11,6 +11,7 @@ use Rattle.model.specs.Limits.{maxSession}
 use Rattle.model.specs.Values.{Value, valueOf}
 use Rattle.model.specs.Requests.{readPush}
 use Rattle.paths.specs.Layout.{pathIn}
+use Rattle.paths.proofs.PathBytes.{keys-encoded}
 use Rattle.lexical.specs.Numbers.{numberAnswer}
 use Rattle.lexical.proofs.Decimals.{number-some}
 use Rattle.values.proofs.Values.{told, value-inside}
@@ -64,7 +65,7 @@ by-value : (c : tie.Else3) {v : Option Value}
 by-value c v =
     let r = c .before .before in
     let n = r .before .before in
-    let path = path-told (r .read-path .result) (r .read-path .ensures) (not-false _ (c .if3 .left)) in
+    let path = path-told (r .read-path .result) (r .read-path .ensures .0) (not-false _ (c .if3 .left)) in
     ends (n .before .before .before .before .before) .read (session n) path v
 
 slice-aggregate-behind : tie.Need-slice-aggregate-behind
@@ -142,7 +143,7 @@ unfolding pushOf _>>=_
 returns-5 c =
     let r = c .before .before in
     let n = r .before .before in
-    let path = path-told (r .read-path .result) (r .read-path .ensures) (not-true _ (c .if3 .taken)) in
+    let path = path-told (r .read-path .result) (r .read-path .ensures .0) (not-true _ (c .if3 .taken)) in
     (record { asks = ends (n .before .before .before .before .before) .read (session n) path refl; stands = tt }, refl)
 
 add-value-at : tie.Need-add-value-at
@@ -192,10 +193,10 @@ returns-8 c =
     let is = i .before .before .value .given .1 in
     let slot = r .read-path .result .slot in
     let copied = copy-whole slot _ _ (c .copy .ensures) (omega (arith, slice-aggregate-copy (c .before))) in
-    let path = path-told (r .read-path .result) (r .read-path .ensures) (not-false _ (v .before .if3 .left)) in
+    let path = path-told (r .read-path .result) (r .read-path .ensures .0) (not-false _ (v .before .if3 .left)) in
     let value = whole-is _ _ _ (v .value-at .ensures .0) (omega arith) _ _ is (omega (arith, i .if4 .left)) in
     let inside = value-inside _ _ (v .value-at .ensures .1) _ _ is in
-    (rw copied (record { asks = by-value (v .before) value; stands = (inside, push-stands _ _ _ _ _ _ e path value) }), tt)
+    (rw copied (record { asks = by-value (v .before) value; stands = (inside, push-stands _ _ _ _ _ _ e path value) }), rw copied (keys-encoded slot (r .read-path .ensures .1)))
 
 pub push-line-spec : {M : Type 1} → statement M
 push-line-spec =

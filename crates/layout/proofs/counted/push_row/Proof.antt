@@ -4,6 +4,7 @@ use native.Mathlib.Omega.{arith}
 use lib.ListN.{length, length-take, length-drop}
 use Rattle.layout.proofs.Changed.{copied-in, room-behind}
 use Rattle.layout.proofs.Counts.{rows-pushed, rows-filled}
+use Rattle.layout.proofs.Tight.{tight-counted}
 use borrow.Author.Needs.{needs}
 use Rattle.layout.proofs.counted.push_row.Statement.{statement}
 use Rattle.layout.proofs.counted.push_row.Tie as tie
@@ -51,8 +52,12 @@ returns c =
     let s = at .before .before .before .before .before in
     let a = s .args in
     let n = at .before .count in
-    rw (copied-in (n .result * a .size + 1) (a .row .now) (a .slot .now) _ (c .before .before .copy .ensures), s .pre .3)
-    (rows-pushed (a .size) (a .most) (a .slot .now) (a .row .now) (n .result) (n .ensures) (at .if1 .taken) (omega (arith, inside at, s .pre .2)) (s .pre .3))
+    let bytes = copied-in (n .result * a .size + 1) (a .row .now) (a .slot .now) _ (c .before .before .copy .ensures) in (
+      rw (bytes, s .pre .3)
+          (rows-pushed (a .size) (a .most) (a .slot .now) (a .row .now) (n .result) (n .ensures) (at .if1 .taken) (omega (arith, inside at, s .pre .2)) (s .pre .3)),
+      λ tight. rw (bytes, s .pre .3)
+          (tight-counted (a .size) (a .most) (a .slot .now) (a .row .now) (n .result) (n .ensures) (at .if1 .taken) (s .pre .0) (s .pre .3) tight),
+    )
 
 same-length-2 : tie.Need-same-length-2
 same-length-2 c = search needs
@@ -60,7 +65,7 @@ same-length-2 c = search needs
 returns-2 : tie.Need-returns-2
 returns-2 c =
     let a = c .before .before .before .before .before .args in
-    rows-filled (a .size) (a .most) (a .slot .now) (a .row .now) _ (c .before .count .ensures) (c .if1 .left)
+    (rows-filled (a .size) (a .most) (a .slot .now) (a .row .now) _ (c .before .count .ensures) (c .if1 .left), λ tight. tight)
 
 pub push-row-spec : {M : Type 1} → statement M
 push-row-spec =

@@ -5,7 +5,7 @@ use native.Mathlib.Nat.{mul-le-mul-right}
 use lib.ListN.{length-take}
 use borrow.Author.Needs.{needs}
 use Rattle.layout.proofs.Used.{counted-fit}
-use Rattle.layout.proofs.Wiped.{copied-wiped}
+use Rattle.layout.proofs.Tight.{copied-whole}
 use Rattle.layout.proofs.table.copy_rows.Statement.{statement}
 use Rattle.layout.proofs.table.copy_rows.Tie as tie
 
@@ -50,7 +50,7 @@ returns c =
     let copy = wipe .before .before .before .before in
     let count = copy .before .before .before in
     let s = count .before .before .before in
-    copied-wiped (s .args .size) (s .args .most) (s .args .from .now) (s .pre .0) (count .row-count .ensures)
+    copied-whole (s .args .size) (s .args .most) (s .args .from .now) (s .pre .0) (s .pre .2) (count .row-count .ensures)
     (s .args .to .now) _ _ (s .pre .1) (copy .copy .ensures) (wipe .wipe .ensures)
 
 pub copy-rows-spec : {M : Type 1} → statement M

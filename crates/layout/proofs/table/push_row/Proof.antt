@@ -4,6 +4,7 @@ use mathlib.Core.Path.{sym, _∙_}
 use native.Mathlib.Omega.{arith}
 use lib.ListN.{length, length-take, length-drop}
 use Rattle.layout.proofs.Changed.{copied-in, row-inside, used-pushed, used-full}
+use Rattle.layout.proofs.Tight.{tight-pushed}
 use borrow.Author.Needs.{needs}
 use Rattle.layout.proofs.table.push_row.Statement.{statement}
 use Rattle.layout.proofs.table.push_row.Tie as tie
@@ -50,8 +51,12 @@ returns c =
     let s = at .before .before .before .before .before in
     let a = s .args in
     let n = at .before .row-count in
-    rw (copied-in (n .result * a .size) (a .row .now) (put .put-byte .last .0) _ (copy .copy .ensures), s .pre .1)
-    (used-pushed (a .size) (a .most) (n .result) (a .t .now) (a .row .now) (n .ensures) (s .pre .0) (at .if1 .taken) (put .put-byte .ensures .1) (s .pre .1) (s .pre .2))
+    let bytes = copied-in (n .result * a .size) (a .row .now) (put .put-byte .last .0) _ (copy .copy .ensures) in (
+      rw (bytes, s .pre .1)
+          (used-pushed (a .size) (a .most) (n .result) (a .t .now) (a .row .now) (n .ensures) (s .pre .0) (at .if1 .taken) (put .put-byte .ensures .1) (s .pre .1) (s .pre .2)),
+      λ tight. rw (bytes, s .pre .1)
+          (tight-pushed (a .size) (a .most) (a .t .now) (s .pre .0) tight (n .result) (a .row .now) (n .ensures) (at .if1 .taken) (put .put-byte .ensures .1) (s .pre .1) (s .pre .2)),
+    )
 
 same-length-2 : tie.Need-same-length-2
 same-length-2 c = search needs
@@ -60,7 +65,7 @@ returns-2 : tie.Need-returns-2
 returns-2 c =
     let s = c .before .before .before .before .before in
     let a = s .args in
-    used-full (a .size) (a .most) _ (a .t .now) (a .row .now) (c .before .row-count .ensures) (s .pre .0) (c .if1 .left)
+    (used-full (a .size) (a .most) _ (a .t .now) (a .row .now) (c .before .row-count .ensures) (s .pre .0) (c .if1 .left), λ tight. tight)
 
 pub push-row-spec : {M : Type 1} → statement M
 push-row-spec =

@@ -50,7 +50,7 @@ loop-again c =
     let push = c .before .push-step in
     let k = c .before .before .before .before in
     let l = k .before .before .loop in
-    let turn = key-step-turn _ (l .i) (omega arith) (stepsIn (l .steps)) (stepsIn (push .last .0)) (l .inv .2) _ (k .key-at .ensures) _ (c .before .before .before .one-name .ensures) (push .ensures) in
+    let turn = key-step-turn _ (l .i) (omega arith) (stepsIn (l .steps)) (stepsIn (push .last .0)) (l .inv .2) _ (k .key-at .ensures) _ (c .before .before .before .one-name .ensures .0) (push .ensures .0) in
     (search needs, push .kept .0 ∙ l .inv .1, turn)
 
 returns : tie.Need-returns Inv-loop μ-loop

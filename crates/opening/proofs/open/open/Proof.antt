@@ -18,7 +18,7 @@ returns c =
 open-tables-requires : tie.Need-open-tables-requires
 open-tables-requires c κs =
     let (u, e, p, r) = lengths _ _ _ _ (c .before .before .too-long .ensures) (omega arith) in
-    (u, e, p)
+    ((u, e, p), refl)
 
 enum-told : tie.Need-enum-told
 enum-told c = search needs
@@ -33,11 +33,11 @@ returns-2 c =
     let a = t .before .before .before .before .before .args in
     let is = c .enum-told2 .given .1 in
     refusal _ (arrays (a .tables .now) (a .logins .now) (a .fields .now)) is
-    (tables-refused _ _ _ _ (t .too-long .ensures) (omega arith) _ (k .open-tables .ensures) is)
+    (tables-refused _ _ _ _ (t .too-long .ensures) (omega arith) _ (k .open-tables .ensures .0) is)
 
 open-record-requires : tie.Need-open-record-requires
 open-record-requires c κs =
-    lengths _ _ _ _ (c .before .before .before .before .before .before .before .too-long .ensures) (omega arith) .3
+    (lengths _ _ _ _ (c .before .before .before .before .before .before .before .too-long .ensures) (omega arith) .3, refl)
 
 enum-told-3 : tie.Need-enum-told-3
 enum-told-3 c = search needs
@@ -54,13 +54,13 @@ returns-3 c =
     let accepted = l .before .before .before .enum-told .given .1 in
     let is = c .enum-told4 .given .1 in
     refusal _ (arrays (a .tables .now) (a .logins .now) (a .fields .now)) is
-    (record-refused _ _ _ _ (t .too-long .ensures) (omega arith) _ (k .open-tables .ensures) accepted _ (l .open-record .ensures) is)
+    (record-refused _ _ _ _ (t .too-long .ensures) (omega arith) _ (k .open-tables .ensures .0) accepted _ (l .open-record .ensures .0) is)
 
 copy-tables-requires : tie.Need-copy-tables-requires
-copy-tables-requires c κs = search needs
+copy-tables-requires c κs = c .before .before .before .before .before .before .before .before .before .open-tables .ensures .1
 
 copy-fields-requires : tie.Need-copy-fields-requires
-copy-fields-requires c κs = search needs
+copy-fields-requires c κs = c .before .before .before .before .before .before .before .open-record .ensures .1
 
 returns-4 : tie.Need-returns-4
 returns-4 c =
@@ -69,10 +69,9 @@ returns-4 c =
     let k = l .before .before .before .before .before in
     let t = k .before .before .before in
     let accepted = l .before .before .before .enum-told .given .1 in
-    let done = opened-done _ _ _ _ (t .too-long .ensures) (omega arith) _ (k .open-tables .ensures) accepted _ (l .open-record .ensures) (kept .before .before .before .enum-told3 .given .1) in
-    let tables = kept .copy-tables .ensures in
-    let fields = c .before .copy-fields .ensures in
-    acceptance _ _ (kept .copy-tables .last .0) (c .before .copy-fields .last .0) (rw (← tables .0, ← fields .0) at done) (tables .1) (fields .1)
+    let done = opened-done _ _ _ _ (t .too-long .ensures) (omega arith) _ (k .open-tables .ensures .0) accepted _ (l .open-record .ensures .0) (kept .before .before .before .enum-told3 .given .1) in
+    rw (kept .copy-tables .ensures, c .before .copy-fields .ensures)
+    (acceptance _ _ _ _ done (k .open-tables .ensures .1) (l .open-record .ensures .1))
 
 pub open-spec : {M : Type 1} → statement M
 open-spec =

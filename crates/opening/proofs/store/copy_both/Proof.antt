@@ -1,8 +1,10 @@
 -- The users' rows into their part, and the policy's into the part behind it.
 use native.Mathlib.Omega.{arith}
-use lib.ListN.{length-take}
+use lib.ListN.{length-take, length-drop}
+use Rattle.tables.specs.Memory.{usersBytes}
+use Rattle.rows.proofs.Parts.{tail-part}
 use borrow.Author.Needs.{needs}
-use Rattle.opening.proofs.Stored.{tables-stored}
+use Rattle.opening.proofs.Stored.{both-stored}
 use Rattle.opening.proofs.store.copy_both.Statement.{statement}
 use Rattle.opening.proofs.store.copy_both.Tie as tie
 
@@ -12,8 +14,13 @@ slice-relend-prefix-copy-rows c = search needs
 slice-aggregate-copy-rows : tie.Need-slice-aggregate-copy-rows
 slice-aggregate-copy-rows c = simp length-take (omega arith)
 
+slice-aggregate-copy-rows-2 : tie.Need-slice-aggregate-copy-rows-2
+slice-aggregate-copy-rows-2 c = simp length-take (omega (arith, c .before .before .before .before .pre .1))
+
 copy-rows-requires : tie.Need-copy-rows-requires
-copy-rows-requires c κs = (search needs, simp length-take (omega arith))
+copy-rows-requires c κs =
+    let s = c .before .before .before .before in
+    ((omega arith, simp length-take (omega (arith, s .pre .1))), simp length-take (omega arith), s .pre .2 .0 .0)
 
 sub-copy-rows : tie.Need-sub-copy-rows
 sub-copy-rows c = search needs
@@ -34,7 +41,9 @@ part-copy-rows-end-2 : tie.Need-part-copy-rows-end-2
 part-copy-rows-end-2 c = search needs
 
 copy-rows-requires-2 : tie.Need-copy-rows-requires-2
-copy-rows-requires-2 c κs = search needs
+copy-rows-requires-2 c κs =
+    let s = c .before .before .before .before .before .before .before .before .before in
+    ((omega arith, simp (length-take, length-drop) (omega (arith, s .pre .1))), search needs, rw (tail-part usersBytes (s .args .from .now)) (s .pre .2 .1 .0))
 
 same-length : tie.Need-same-length
 same-length c = search needs
@@ -42,8 +51,8 @@ same-length c = search needs
 returns : tie.Need-returns
 returns c =
     let users = c .before .before .before .before .before .before .before in
-    let s = users .before .before .before .before in
-    tables-stored (s .args .from .now) (s .pre .1) (s .args .to .now) _ _ (users .copy-rows .ensures) (c .before .before .copy-rows2 .ensures)
+    let s = users .before .before .before .before .before in
+    both-stored usersBytes (s .args .from .now) (s .args .to .now) _ _ (omega (arith, s .pre .1)) (users .copy-rows .ensures) (c .before .before .copy-rows2 .ensures)
 
 pub copy-both-spec : {M : Type 1} → statement M
 copy-both-spec =
@@ -51,6 +60,7 @@ copy-both-spec =
     (tie.spec
     slice-relend-prefix-copy-rows
     slice-aggregate-copy-rows
+    slice-aggregate-copy-rows-2
     copy-rows-requires
     sub-copy-rows
     part-copy-rows-start

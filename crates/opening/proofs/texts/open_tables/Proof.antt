@@ -1,11 +1,26 @@
 -- Each return answers what `openTables` says, in its order: the first text that is refused, a conflict in the policy, and the tables that the memory holds.
-use Rattle.opening.proofs.TablesOpened.{users-refused, environments-refused, policy-refused, in-conflict, accepted}
+use mathlib.Core.Path.{_≡_}
+use Rattle.tables.specs.Memory.{tablesIn, CanonicalTables}
+use Rattle.tables.proofs.Encoded.{tables-none}
+use Rattle.opening.proofs.Zeros.{no-tables}
+use Rattle.opening.proofs.TablesOpened.{noTables, users-refused, environments-refused, policy-refused, in-conflict, accepted}
 use borrow.Author.Needs.{needs}
 use Rattle.opening.proofs.texts.open_tables.Statement.{statement}
 use Rattle.opening.proofs.texts.open_tables.Tie as tie
 
-clear-requires : tie.Need-clear-requires
-clear-requires c κs = search needs
+-- memory of zeros holds no tables, and is written as these are
+start : (c : tie.After-read-table) → tablesIn (c .before .before .before .before .before .args .tables .now) ≡ noTables
+start c = rw (c .before .before .before .before .before .pre .1) no-tables
+
+-- so it is written as it means after each text
+with-users : (c : tie.After-read-table) → CanonicalTables (c .read-table .last .1 .0)
+with-users c = c .read-table .ensures .1 (tables-none (c .before .before .before .before .before .pre .1))
+
+with-lines : (c : tie.After-read-table2) → CanonicalTables (c .read-table2 .last .1 .0)
+with-lines c = c .read-table2 .ensures .1 (with-users (c .before .before .before .before))
+
+with-policy : (c : tie.After-read-table3) → CanonicalTables (c .read-table3 .last .1 .0)
+with-policy c = c .read-table3 .ensures .1 (with-lines (c .before .before .before .before))
 
 read-table-requires : tie.Need-read-table-requires
 read-table-requires c κs = search needs
@@ -16,7 +31,7 @@ enum-known-e c = search needs
 returns : tie.Need-returns
 returns c =
     let first = c .before .before .before in
-    users-refused _ _ _ (first .before .before .clear .ensures) (first .read-table .ensures) (c .before .e .given .1)
+    (users-refused _ _ _ (start first) (first .read-table .ensures .0) (c .before .e .given .1), with-users first)
 
 enum-told : tie.Need-enum-told
 enum-told c = search needs
@@ -32,7 +47,7 @@ returns-2 c =
     let second = c .before .before .before in
     let told-1 = second .before .before in
     let first = told-1 .before .before in
-    environments-refused _ _ _ (first .before .before .clear .ensures) (first .read-table .ensures) (told-1 .enum-told .given .1) (second .read-table2 .ensures) (c .before .e2 .given .1)
+    (environments-refused _ _ _ (start first) (first .read-table .ensures .0) (told-1 .enum-told .given .1) (second .read-table2 .ensures .0) (c .before .e2 .given .1), with-lines second)
 
 enum-told-2 : tie.Need-enum-told-2
 enum-told-2 c = search needs
@@ -50,7 +65,7 @@ returns-3 c =
     let second = told-2 .before .before in
     let told-1 = second .before .before in
     let first = told-1 .before .before in
-    policy-refused _ _ _ (first .before .before .clear .ensures) (first .read-table .ensures) (told-1 .enum-told .given .1) (second .read-table2 .ensures) (told-2 .enum-told2 .given .1) _ (third .read-table3 .ensures) (c .before .e3 .given .1)
+    (policy-refused _ _ _ (start first) (first .read-table .ensures .0) (told-1 .enum-told .given .1) (second .read-table2 .ensures .0) (told-2 .enum-told2 .given .1) _ (third .read-table3 .ensures .0) (c .before .e3 .given .1), with-policy third)
 
 enum-told-3 : tie.Need-enum-told-3
 enum-told-3 c = search needs
@@ -66,7 +81,7 @@ returns-4 c =
     let second = told-2 .before .before in
     let told-1 = second .before .before in
     let first = told-1 .before .before in
-    in-conflict _ _ _ (first .before .before .clear .ensures) (first .read-table .ensures) (told-1 .enum-told .given .1) (second .read-table2 .ensures) (told-2 .enum-told2 .given .1) _ (third .read-table3 .ensures) (told-3 .enum-told3 .given .1) (c .before .conflict-in .ensures) (c .if1 .taken)
+    (in-conflict _ _ _ (start first) (first .read-table .ensures .0) (told-1 .enum-told .given .1) (second .read-table2 .ensures .0) (told-2 .enum-told2 .given .1) _ (third .read-table3 .ensures .0) (told-3 .enum-told3 .given .1) (c .before .conflict-in .ensures) (c .if1 .taken), with-policy third)
 
 returns-5 : tie.Need-returns-5
 returns-5 c =
@@ -76,13 +91,12 @@ returns-5 c =
     let second = told-2 .before .before in
     let told-1 = second .before .before in
     let first = told-1 .before .before in
-    accepted _ _ _ (first .before .before .clear .ensures) (first .read-table .ensures) (told-1 .enum-told .given .1) (second .read-table2 .ensures) (told-2 .enum-told2 .given .1) _ (third .read-table3 .ensures) (told-3 .enum-told3 .given .1) (c .before .conflict-in .ensures) (c .if1 .left)
+    (accepted _ _ _ (start first) (first .read-table .ensures .0) (told-1 .enum-told .given .1) (second .read-table2 .ensures .0) (told-2 .enum-told2 .given .1) _ (third .read-table3 .ensures .0) (told-3 .enum-told3 .given .1) (c .before .conflict-in .ensures) (c .if1 .left), with-policy third)
 
 pub open-tables-spec : {M : Type 1} → statement M
 open-tables-spec =
     tie.close
     (tie.spec
-    clear-requires
     read-table-requires
     enum-known-e
     returns

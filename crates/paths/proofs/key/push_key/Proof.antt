@@ -2,9 +2,10 @@
 use mathlib.Core.Path.{refl, _∙_}
 use lib.ListN.{replicate}
 use Rattle.model.specs.Limits.{maxKey}
-use Rattle.layout.specs.Layout.{nameIn, keyRow}
+use Rattle.layout.specs.Layout.{nameIn, keyRow, CanonicalName}
 use Rattle.layout.proofs.Counts.{counted-pushed}
 use Rattle.layout.proofs.Named.{named}
+use Rattle.layout.proofs.Canonical.{name-canonical, canonical-counted}
 use borrow.Author.Needs.{needs}
 use Rattle.paths.proofs.key.push_key.Statement.{statement}
 use Rattle.paths.proofs.key.push_key.Tie as tie
@@ -30,7 +31,10 @@ returns c =
     let put = push .before .before .before .before in
     let s = put .before .before .before .before in
     let key = named maxKey (s .args .key .now) (replicate keyRow 0) refl (put .put-name .ensures) in
-    counted-pushed nameIn keyRow _ (s .args .slot .now) _ _ (push .push-row .ensures) ∙ rw (key .is)
+    let is = name-canonical maxKey (s .args .key .now) (replicate keyRow 0) refl (put .put-name .ensures) in (
+      counted-pushed nameIn keyRow _ (s .args .slot .now) _ _ (push .push-row .ensures .0) ∙ rw (key .is),
+      canonical-counted (CanonicalName keyRow) keyRow (s .args .most) is (push .push-row .ensures .0) (push .push-row .ensures .1),
+    )
 
 pub push-key-spec : {M : Type 1} → statement M
 push-key-spec =

@@ -1,26 +1,25 @@
 -- The path's bytes are copied, the value's text is written behind the byte that says its length, as far as there is room for it.
+use mathlib.Core.Path.{_≡_, ap}
+use native.Mathlib.Omega.{arith}
+use lib.ListN.{length}
 use borrow.Author.Needs.{needs}
+use Rattle.record.specs.Slots.{slotBytes}
 use Rattle.record.proofs.Slots.{filled}
 use Rattle.record.proofs.slot.fill.Statement.{statement}
 use Rattle.record.proofs.slot.fill.Tie as tie
 
-sub-copy : tie.Need-sub-copy
-sub-copy c = search needs
-
-part-copy-start : tie.Need-part-copy-start
-part-copy-start c = search needs
-
-part-copy-end : tie.Need-part-copy-end
-part-copy-end c = search needs
+-- as long as the zeros are
+long : (s : tie.Start) → length (s .args .slot .now) ≡ slotBytes
+long s = ap length (s .pre .0)
 
 copy-requires : tie.Need-copy-requires
-copy-requires c κs = search needs
+copy-requires c κs = let l = long (c .before .before .before .before) in search needs
 
 sub-put-value : tie.Need-sub-put-value
-sub-put-value c = search needs
+sub-put-value c = omega (arith, long (c .before .before .before .before .before .before .before))
 
 part-put-value-start : tie.Need-part-put-value-start
-part-put-value-start c = search needs
+part-put-value-start c = let l = long (c .before .before .before .before .before .before .before) in search needs
 
 part-put-value-end : tie.Need-part-put-value-end
 part-put-value-end c = search needs
@@ -32,28 +31,24 @@ length-byte-requires : tie.Need-length-byte-requires
 length-byte-requires c κs = search needs
 
 slice-write-slot : tie.Need-slice-write-slot
-slice-write-slot c = search needs
+slice-write-slot c = let l = long (c .before .before .before .before .before .before .before .before .before .before .before .before) in search needs
 
 same-length : tie.Need-same-length
 same-length c =
     let f = c .before .before .before .before .before .before .before in
-    let s = f .before .before .before .before .before .before in
-    filled (s .args .slot .now) (s .args .path .now) _ _ _ _ _ (s .pre .0) (s .pre .1) (f .copy .ensures) (c .before .before .before .put-value .ensures) (c .length-byte .ensures) .long
+    let s = f .before .before .before .before .before in
+    filled _ (s .args .path .now) _ _ _ _ _ (s .pre .0) (s .pre .1) (f .copy .ensures) (c .before .before .before .put-value .ensures) (c .length-byte .ensures) .long
 
 returns : tie.Need-returns
 returns c =
     let f = c .before .before .before .before .before .before .before in
-    let h = f .before .before .before .before .before .before .pre in
-    let r = filled _ _ _ _ _ _ _ (h .0) (h .1) (f .copy .ensures) (c .before .before .before .put-value .ensures) (c .length-byte .ensures) in
-    (r .field, r .empty)
+    let s = f .before .before .before .before .before in
+    filled _ (s .args .path .now) _ _ _ _ _ (s .pre .0) (s .pre .1) (f .copy .ensures) (c .before .before .before .put-value .ensures) (c .length-byte .ensures) .is
 
 pub fill-spec : {M : Type 1} → statement M
 fill-spec =
     tie.close
     (tie.spec
-    sub-copy
-    part-copy-start
-    part-copy-end
     copy-requires
     sub-put-value
     part-put-value-start

@@ -1,6 +1,6 @@
 -- A slot is filled with the path and the value, and stored.
 use mathlib.Core.Path.{_∙_}
-use Rattle.record.specs.Search.{storedIn, storedAt}
+use Rattle.record.proofs.Slots.{slot-stored, slot-canonical}
 use borrow.Author.Needs.{needs}
 use Rattle.record.proofs.slot.store_value.Statement.{statement}
 use Rattle.record.proofs.slot.store_value.Tie as tie
@@ -15,10 +15,12 @@ store-requires : tie.Need-store-requires
 store-requires c κs = search needs
 
 returns : tie.Need-returns
-unfolding storedIn storedAt
 returns c =
-    let f = c .before .before .before .before .fill .ensures in
-    c .store .ensures ∙ rw (f .0, f .1)
+    let f = c .before .before .before .before in
+    let long = f .before .before .before .before .pre .0 in
+    let slot = f .fill .ensures in
+    let (fields, keeps) = c .store .ensures in
+    (fields ∙ rw slot (slot-stored _ _ long _), λ proper. keeps (rw slot (slot-canonical _ _ proper long)))
 
 pub store-value-spec : {M : Type 1} → statement M
 store-value-spec = tie.close (tie.spec slice-aggregate-fill fill-requires store-requires returns)

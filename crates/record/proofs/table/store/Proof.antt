@@ -1,6 +1,7 @@
 -- An empty slot changes nothing; the field of another is stored where the search ends.
 use mathlib.Core.Path.{sym, _∙_}
 use Rattle.record.proofs.Stores.{none-stored}
+use Rattle.record.proofs.Canonical.{canonical-stored}
 use borrow.Author.Needs.{needs}
 use Rattle.record.proofs.table.store.Statement.{statement}
 use Rattle.record.proofs.table.store.Tie as tie
@@ -9,7 +10,7 @@ is-empty-requires : tie.Need-is-empty-requires
 is-empty-requires c κs = search needs
 
 returns : tie.Need-returns
-returns c = none-stored _ _ (sym (c .before .is-empty .ensures) ∙ c .if1 .taken)
+returns c = (none-stored _ _ (sym (c .before .is-empty .ensures) ∙ c .if1 .taken), λ is h. h)
 
 find-requires : tie.Need-find-requires
 find-requires c κs = search needs
@@ -21,7 +22,13 @@ store-at-requires c κs =
     (sym (i .before .is-empty .ensures) ∙ i .if1 .left, f .find .ensures)
 
 returns-2 : tie.Need-returns-2
-returns-2 c = search needs
+returns-2 c =
+    let f = c .before .before in
+    let i = f .before .before .before in
+    let s = i .before .before .before in
+    let kept = sym (i .before .is-empty .ensures) ∙ i .if1 .left in
+    let (fields, bytes) = c .store-at .ensures in
+    (fields, λ is h. rw bytes (canonical-stored (s .args .table .now) (s .args .slot .now) (search needs) kept is _ (f .find .ensures) h))
 
 pub store-spec : {M : Type 1} → statement M
 store-spec =

@@ -3,7 +3,7 @@ use mathlib.Core.Path.{_≡_, refl, ap, _∙_}
 use borrow.Author.Needs.{needs}
 use Rattle.requests.specs.declared.Ask.the-variants.{Get, Push}
 use Rattle.requests.specs.declared.Request.the-variants.{InSession}
-use Rattle.server.proofs.Pushed.{line-refused, asks, asked-stands, asked-short, line-decided, push-asked}
+use Rattle.server.proofs.Pushed.{line-refused, asks, asked-stands, asked-short, line-decided, push-asked, slot-asked}
 use Rattle.server.proofs.Replied.{left-refused}
 use Rattle.server.proofs.request.request.Statement.{statement}
 use Rattle.server.proofs.request.request.Tie as tie
@@ -56,12 +56,12 @@ push-requires : tie.Need-push-requires
 push-requires c κs =
     let a = c .before .before .before .before .before in
     let o = a .before .before .before .before .before .before in
-    let parsed = o .before .before .parse .ensures .0 in
+    let (parsed, slot) = o .before .before .parse .ensures in
     let is = o .asked .given .1 in
     let kind = asks-push a in
-    let (keyed, held) = push-asked _ _ (asks _ _ parsed is kind) in
+    let (keyed, valid) = push-asked _ _ (asks _ _ parsed is kind) in
     let (inside, stands) = asked-stands _ _ parsed is kind in
-    record { short = asked-short _ _ parsed is kind; inside = inside; stands = stands; keyed = keyed; held = held }
+    record { short = asked-short _ _ parsed is kind; inside = inside; stands = stands; keyed = keyed; exact = slot-asked _ _ is kind slot; valid = valid }
 
 returns-2 : tie.Need-returns-2
 returns-2 c =

@@ -2,7 +2,8 @@
 use mathlib.Core.Path.{ap, _∙_}
 use Rattle.model.specs.Limits.{maxDepth}
 use Rattle.layout.proofs.Counts.{counted-pushed}
-use Rattle.steps.specs.Steps.{stepRow, stepIn, stepsIn}
+use Rattle.layout.proofs.Canonical.{canonical-counted}
+use Rattle.steps.specs.Steps.{stepRow, stepIn, stepsIn, CanonicalStep}
 use Rattle.steps.proofs.StepRows.{step-written}
 use borrow.Author.Needs.{needs}
 use Rattle.steps.proofs.policy.push_step.Statement.{statement}
@@ -29,7 +30,10 @@ returns c =
     let push = c .before .before in
     let put = push .before .before .before .before in
     let s = put .before .before .before in
-    counted-pushed stepIn stepRow maxDepth (s .args .slot .now) _ _ (push .push-row .ensures) ∙ rw (ap stepIn (put .put-row .ensures) ∙ step-written (s .args .step))
+    let pushed = push .push-row .ensures in (
+      counted-pushed stepIn stepRow maxDepth (s .args .slot .now) _ _ (pushed .0) ∙ rw (ap stepIn (put .put-row .ensures) ∙ step-written (s .args .step)),
+      λ is. canonical-counted CanonicalStep stepRow maxDepth (rw (put .put-row .ensures) is) (pushed .0) (pushed .1),
+    )
 
 pub push-step-spec : {M : Type 1} → statement M
 push-step-spec =

@@ -25,18 +25,21 @@ put-steps-requires c κs = (omega (arith, slice-aggregate-put-steps-2 c), search
 returns : tie.Need-returns
 returns c =
     let k = c .before .before .before .before .before .before in
-    steps-fit _ _ (k .before .read-all .ensures) (k .if1 .taken) _ (c .before .before .put-steps .ensures .0 .0) (omega arith)
+    let read = k .before .read-all .ensures in
+    (steps-fit _ _ (read .0) (k .if1 .taken) _ (c .before .before .put-steps .ensures .0 .0) (omega arith), read .1)
 
 no-steps-requires : tie.Need-no-steps-requires
 no-steps-requires c κs = search needs
 
 returns-2 : tie.Need-returns-2
 returns-2 c =
-    let k = c .before .before .read-all in
-    c .no-steps .ensures ∙ ⊎-elim
-    (λ w. steps-long _ _ (k .ensures) (w .0 .taken) _ (w .4 .ensures .0 .0) (omega (arith, w .6 .left)))
-    (λ w. steps-none _ _ (k .ensures) (w .left))
-    (c .before .if1 .came)
+    let k = c .before .before .read-all in (
+      c .no-steps .ensures .0 ∙ ⊎-elim
+          (λ w. steps-long _ _ (k .ensures .0) (w .0 .taken) _ (w .4 .ensures .0 .0) (omega (arith, w .6 .left)))
+          (λ w. steps-none _ _ (k .ensures .0) (w .left))
+          (c .before .if1 .came),
+      c .no-steps .ensures .1,
+    )
 
 pub read-steps-spec : {M : Type 1} → statement M
 read-steps-spec =

@@ -20,7 +20,7 @@ no-step-requires : tie.Need-no-step-requires
 no-step-requires c κs = search needs
 
 returns : tie.Need-returns
-returns c = c .no-step .ensures ∙ bracketed-not _ _ (sym (c .before .before .is-at .ensures) ∙ not-true _ (c .before .if1 .taken))
+returns c = (c .no-step .ensures .0 ∙ bracketed-not _ _ (sym (c .before .before .is-at .ensures) ∙ not-true _ (c .before .if1 .taken)), c .no-step .ensures .1)
 
 -- the opening bracket stands there
 opens : (c : tie.Else1) → let a = c .before .before .before .args in isSome (after (0x5B ∷ []) (drop (a .at) (a .s .now))) ≡ true
@@ -47,18 +47,20 @@ returns-2 c =
     let k = c .before .before in
     let r = k .before .before in
     let ok = k .before .if2 .taken in
-    rw ok (bracketed-is _ _ (opens (r .before)) (r .selector-at .result) (r .selector-at .ensures) ok (sym (k .is-at2 .ensures) ∙ c .before .if3 .taken))
+    (rw ok (bracketed-is _ _ (opens (r .before)) (r .selector-at .result) (r .selector-at .ensures .0) ok (sym (k .is-at2 .ensures) ∙ c .before .if3 .taken)), r .selector-at .ensures .1)
 
 no-step-requires-2 : tie.Need-no-step-requires-2
 no-step-requires-2 c κs = search needs
 
 returns-3 : tie.Need-returns-3
 returns-3 c =
-    let r = c .before .before in
-    c .no-step2 .ensures ∙ ⊎-elim
-    (λ w. bracketed-unclosed _ _ (opens (r .before)) (r .selector-at .result) (r .selector-at .ensures) (w .0 .taken) (sym (w .1 .ensures) ∙ w .2 .left))
-    (λ w. bracketed-empty _ _ (opens (r .before)) (r .selector-at .result) (r .selector-at .ensures) (w .left))
-    (c .before .if2 .came)
+    let r = c .before .before in (
+      c .no-step2 .ensures .0 ∙ ⊎-elim
+          (λ w. bracketed-unclosed _ _ (opens (r .before)) (r .selector-at .result) (r .selector-at .ensures .0) (w .0 .taken) (sym (w .1 .ensures) ∙ w .2 .left))
+          (λ w. bracketed-empty _ _ (opens (r .before)) (r .selector-at .result) (r .selector-at .ensures .0) (w .left))
+          (c .before .if2 .came),
+      c .no-step2 .ensures .1,
+    )
 
 pub bracketed-at-spec : {M : Type 1} → statement M
 bracketed-at-spec =

@@ -18,7 +18,7 @@ no-step-requires : tie.Need-no-step-requires
 no-step-requires c κs = search needs
 
 returns : tie.Need-returns
-returns c = c .no-step .ensures ∙ dotted-not _ _ (sym (c .before .before .is-at .ensures) ∙ not-true _ (c .before .if1 .taken))
+returns c = (c .no-step .ensures .0 ∙ dotted-not _ _ (sym (c .before .before .is-at .ensures) ∙ not-true _ (c .before .if1 .taken)), c .no-step .ensures .1)
 
 -- the dot stands there
 opens : (c : tie.Else1) → let a = c .before .before .before .args in isSome (after (0x2E ∷ []) (drop (a .at) (a .s .now))) ≡ true
@@ -33,7 +33,7 @@ wildcard-at-requires c κs = byte-stands _ _ _ (opens c) .0
 returns-2 : tie.Need-returns-2
 returns-2 c =
     let w = c .before in
-    first-reads _ _ _ _ (w .wildcard-at .ensures) _ (c .if2 .taken) ∙ dotted-then _ _ (search needs) (opens (w .before))
+    (first-reads _ _ _ _ (w .wildcard-at .ensures .0) _ (c .if2 .taken) ∙ dotted-then _ _ (search needs) (opens (w .before)), w .wildcard-at .ensures .1)
 
 identifier-at-requires : tie.Need-identifier-at-requires
 identifier-at-requires c κs = wildcard-at-requires (c .before .before) κs
@@ -41,7 +41,7 @@ identifier-at-requires c κs = wildcard-at-requires (c .before .before) κs
 returns-3 : tie.Need-returns-3
 returns-3 c =
     let w = c .before .before in
-    c .identifier-at .ensures ∙ first-none _ _ _ _ (w .wildcard-at .ensures) _ (c .before .if2 .left) ∙ dotted-then _ _ (search needs) (opens (w .before))
+    (c .identifier-at .ensures .0 ∙ first-none _ _ _ _ (w .wildcard-at .ensures .0) _ (c .before .if2 .left) ∙ dotted-then _ _ (search needs) (opens (w .before)), c .identifier-at .ensures .1)
 
 pub dotted-at-spec : {M : Type 1} → statement M
 dotted-at-spec =

@@ -8,6 +8,8 @@ use Rattle.model.specs.Base.{after, isSome}
 use Rattle.lexical.proofs.Slices.{after-at}
 use Rattle.lexical.proofs.Between.{scan-within}
 use Rattle.steps.proofs.StepReaders.{environment-not, environment-misfit, environment-is}
+use Rattle.steps.specs.declared.step.Kind.the-variants.{Environment}
+use Rattle.steps.proofs.StepBytes.{one-canonical}
 use borrow.Author.Tests.{not-true, not-false}
 use borrow.Author.Needs.{needs}
 use Rattle.steps.proofs.step.environment_at.Statement.{statement}
@@ -23,7 +25,7 @@ no-step-requires c κs = search needs
 returns : tie.Need-returns
 returns c =
     let p = c .before .before .before .before .before .pre in
-    c .no-step .ensures ∙ environment-not _ _ (p .1) _ _ (sym (c .before .before .starts .ensures) ∙ not-true _ (c .before .if1 .taken))
+    (c .no-step .ensures .0 ∙ environment-not _ _ (p .1) _ _ (sym (c .before .before .starts .ensures) ∙ not-true _ (c .before .if1 .taken)), c .no-step .ensures .1)
 
 -- the word stands there
 opens : (c : tie.Else1) → let a = c .before .before .before .before .args in isSome (after (a .word .now) (drop (a .at) (a .s .now))) ≡ true
@@ -47,9 +49,11 @@ no-step-requires-2 c κs = search needs
 returns-2 : tie.Need-returns-2
 returns-2 c =
     let x = c .before .before .before in
-    let p = x .before .before .before .before .before .pre in
-    c .no-step2 .ensures
-    ∙ environment-misfit _ _ (p .1) _ _ (p .0) (opens (x .before)) _ (x .scan .ensures) (c .before .enum-told .given .1)
+    let p = x .before .before .before .before .before .pre in (
+      c .no-step2 .ensures .0
+          ∙ environment-misfit _ _ (p .1) _ _ (p .0) (opens (x .before)) _ (x .scan .ensures) (c .before .enum-told .given .1),
+      c .no-step2 .ensures .1,
+    )
 
 -- one byte at least stands behind the word
 within : (c : tie.After-known-told)
@@ -77,9 +81,11 @@ returns-3 : tie.Need-returns-3
 returns-3 c =
     let k = c .before .before .before in
     let x = k .before .before in
-    let p = x .before .before .before .before .before .pre in
-    c .found-one .ensures
-    ∙ environment-is _ _ (p .1) _ _ (p .0) (opens (x .before)) _ (x .scan .ensures) _ (k .to .given .1)
+    let p = x .before .before .before .before .before .pre in (
+      c .found-one .ensures .0
+          ∙ environment-is _ _ (p .1) _ _ (p .0) (opens (x .before)) _ (x .scan .ensures) _ (k .to .given .1),
+      one-canonical (c .found-one .result) (Environment (x .before .before .before .before .before .args .operator)) tt _ _ (c .found-one .ensures .0) (c .found-one .ensures .1),
+    )
 
 pub environment-at-spec : {M : Type 1} → statement M
 environment-at-spec =

@@ -6,7 +6,7 @@ use Rattle.steps.proofs.step.found.Tie as tie
 
 returns : tie.Need-returns
 unfolding stepOf
-returns c = refl
+returns c = (refl, refl)
 
 pub found-spec : {M : Type 1} → statement M
 found-spec = tie.close (tie.spec returns)

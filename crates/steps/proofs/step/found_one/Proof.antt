@@ -11,7 +11,9 @@ found-requires : tie.Need-found-requires
 found-requires c κs = search needs
 
 returns : tie.Need-returns
-returns c = c .found .ensures ∙ rw (c .before .one-name .ensures)
+returns c =
+    let one = c .before .one-name .ensures in
+    (c .found .ensures .0 ∙ rw (one .0), c .found .ensures .1 ∙ rw (← one .1))
 
 pub found-one-spec : {M : Type 1} → statement M
 found-one-spec = tie.close (tie.spec one-name-requires found-requires returns)

@@ -5,6 +5,8 @@ use native.Mathlib.Omega.{arith}
 use lib.ListN.{length}
 use Rattle.lexical.proofs.Between.{scan-within}
 use Rattle.steps.proofs.StepReaders.{identifier-misfit, identifier-digit, identifier-is}
+use Rattle.steps.specs.declared.step.Kind.the-variants.{Names}
+use Rattle.steps.proofs.StepBytes.{one-canonical}
 use borrow.Author.Needs.{needs}
 use Rattle.steps.proofs.step.identifier_at.Statement.{statement}
 use Rattle.steps.proofs.step.identifier_at.Tie as tie
@@ -25,7 +27,7 @@ no-step-requires c κs = search needs
 returns : tie.Need-returns
 returns c =
     let x = c .before .before .before .scan in
-    c .no-step .ensures ∙ identifier-misfit _ _ (search needs) _ (x .ensures) (c .before .enum-told .given .1)
+    (c .no-step .ensures .0 ∙ identifier-misfit _ _ (search needs) _ (x .ensures) (c .before .enum-told .given .1), c .no-step .ensures .1)
 
 -- one byte at least stands from the position on
 within : (c : tie.After-known-told)
@@ -46,9 +48,11 @@ no-step-requires-2 c κs = search needs
 returns-2 : tie.Need-returns-2
 returns-2 c =
     let d = c .before .before in
-    let k = d .before .before .before in
-    c .no-step2 .ensures
-    ∙ identifier-digit _ _ (search needs) _ (k .before .before .scan .ensures) _ (k .to .given .1) (sym (d .is-digit .ensures) ∙ c .before .if1 .taken)
+    let k = d .before .before .before in (
+      c .no-step2 .ensures .0
+          ∙ identifier-digit _ _ (search needs) _ (k .before .before .scan .ensures) _ (k .to .given .1) (sym (d .is-digit .ensures) ∙ c .before .if1 .taken),
+      c .no-step2 .ensures .1,
+    )
 
 sub-found-one : tie.Need-sub-found-one
 sub-found-one c = omega (arith, within (c .before .before .before))
@@ -65,9 +69,11 @@ found-one-requires c κs = search needs
 returns-3 : tie.Need-returns-3
 returns-3 c =
     let d = c .before .before .before in
-    let k = d .before .before .before in
-    c .found-one .ensures
-    ∙ identifier-is _ _ (search needs) _ (k .before .before .scan .ensures) _ (k .to .given .1) (sym (d .is-digit .ensures) ∙ c .before .before .if1 .left)
+    let k = d .before .before .before in (
+      c .found-one .ensures .0
+          ∙ identifier-is _ _ (search needs) _ (k .before .before .scan .ensures) _ (k .to .given .1) (sym (d .is-digit .ensures) ∙ c .before .before .if1 .left),
+      one-canonical (c .found-one .result) Names tt _ _ (c .found-one .ensures .0) (c .found-one .ensures .1),
+    )
 
 pub identifier-at-spec : {M : Type 1} → statement M
 identifier-at-spec =

@@ -6,7 +6,9 @@ use lib.ListN.{length, drop}
 use native.Mathlib.Omega.{arith}
 use Rattle.model.specs.Limits.{maxListed}
 use Rattle.model.specs.Paths.{readNames}
-use Rattle.layout.specs.Layout.{counted}
+use Rattle.layout.specs.Layout.{counted, keyRow, CanonicalName, CanonicalKeys}
+use Rattle.layout.proofs.Canonical.{canonical-uncounted}
+use Rattle.steps.proofs.StepBytes.{list-canonical}
 use Rattle.steps.specs.Steps.{namesSlot, namesIn}
 use Rattle.steps.proofs.StepReaders.{NameStands, either-bad, either-at, names-bad, names-full, names-last, names-turn, list-none, list-is}
 use borrow.Author.Tests.{not-true, not-false}
@@ -18,13 +20,14 @@ abbrev Inv-loop : tie.InvT-loop
 Inv-loop s at names₀ from₀ n₀ names from n =
     (at ≤ from) × (from ≤ length s) × (length names ≡ namesSlot) × (n ≡ length (namesIn names))
     × (readNames maxListed [] (drop at s) ≡ readNames (maxListed - n) (namesIn names) (drop from s))
+    × CanonicalKeys maxListed names
 
 abbrev μ-loop : tie.MeasureT-loop
 μ-loop s at names₀ from₀ n₀ names from n = maxListed - n
 
 loop-holds : tie.Need-loop-holds Inv-loop μ-loop
 unfolding namesIn counted
-loop-holds c = (search needs, search needs, refl, refl, refl)
+loop-holds c = (search needs, search needs, refl, refl, refl, canonical-uncounted (CanonicalName keyRow) keyRow maxListed)
 
 either-at-requires : tie.Need-either-at-requires Inv-loop μ-loop
 either-at-requires c κs = search needs
@@ -42,7 +45,7 @@ returns : tie.Need-returns Inv-loop μ-loop
 returns c =
     let b = c .before .before .before in
     let no = either-bad _ _ _ (b .either-at .ensures) (c .before .enum-told .given .1) in
-    c .no-step .ensures ∙ list-none _ _ (b .before .before .loop .inv .4 ∙ names-bad _ _ _ no)
+    (c .no-step .ensures .0 ∙ list-none _ _ (b .before .before .loop .inv .4 ∙ names-bad _ _ _ no), c .no-step .ensures .1)
 
 -- a name stands where `either_at` says
 stands : (c : tie.After-known-told Inv-loop μ-loop)
@@ -85,8 +88,9 @@ returns-2 c =
     let t = k .before .before .before .before in
     let l = t .before .loop in
     let comma = sym (w .is-at .ensures) ∙ not-true _ (c .before .if1 .taken) in
-    let last = names-last _ _ _ (stands k) (namesIn (l .names)) _ (push .push-key .ensures) (l .n) (l .inv .3) (t .loop-test .taken) comma in
-    c .found .ensures ∙ list-is _ _ _ _ (omega (arith, stands k)) (stands k .reads .to) (l .inv .4 ∙ last)
+    let last = names-last _ _ _ (stands k) (namesIn (l .names)) _ (push .push-key .ensures .0) (l .n) (l .inv .3) (t .loop-test .taken) comma in
+    let is = list-canonical _ (push .push-key .ensures .1 (l .inv .5)) in
+    (c .found .ensures .0 ∙ list-is _ _ _ _ (omega (arith, stands k)) (stands k .reads .to) (l .inv .4 ∙ last), rw (c .found .ensures .1) is)
 
 add-from : tie.Need-add-from Inv-loop μ-loop
 add-from c = omega (arith, stands (c .before .before .before .before .before .before) .reads)
@@ -106,8 +110,8 @@ loop-again c =
     let t = k .before .before .before .before in
     let l = t .before .loop in
     let comma = sym (w .is-at .ensures) ∙ not-false _ (c .if1 .left) in
-    let turn = names-turn _ _ _ (stands k) (namesIn (l .names)) _ (push .push-key .ensures) (l .n) (l .inv .3) (t .loop-test .taken) comma in
-    (omega (arith, stands k), turn .0, push .push-key .kept .0 ∙ l .inv .2, turn .1, l .inv .4 ∙ turn .2)
+    let turn = names-turn _ _ _ (stands k) (namesIn (l .names)) _ (push .push-key .ensures .0) (l .n) (l .inv .3) (t .loop-test .taken) comma in
+    (omega (arith, stands k), turn .0, push .push-key .kept .0 ∙ l .inv .2, turn .1, l .inv .4 ∙ turn .2, push .push-key .ensures .1 (l .inv .5))
 
 no-step-requires-2 : tie.Need-no-step-requires-2 Inv-loop μ-loop
 no-step-requires-2 c κs = search needs
@@ -115,7 +119,7 @@ no-step-requires-2 c κs = search needs
 returns-3 : tie.Need-returns-3 Inv-loop μ-loop
 returns-3 c =
     let l = c .before .before .loop in
-    c .no-step2 .ensures ∙ list-none _ _ (l .inv .4 ∙ names-full (l .n) _ _ (omega arith))
+    (c .no-step2 .ensures .0 ∙ list-none _ _ (l .inv .4 ∙ names-full (l .n) _ _ (omega arith)), c .no-step2 .ensures .1)
 
 pub list-at-spec : {M : Type 1} → statement M
 list-at-spec =

@@ -1,5 +1,9 @@
 -- An empty slot has no names, and one is pushed.
-use Rattle.layout.specs.Layout.{counted}
+use mathlib.Core.Path.{ap, _∙_}
+use Rattle.model.specs.Limits.{maxListed}
+use Rattle.layout.specs.Layout.{counted, keyRow, CanonicalName, encodeKeys}
+use Rattle.layout.proofs.Canonical.{canonical-uncounted}
+use Rattle.steps.proofs.StepBytes.{names-encoded}
 use Rattle.steps.specs.Steps.{namesIn}
 use borrow.Author.Needs.{needs}
 use Rattle.steps.proofs.step.one_name.Statement.{statement}
@@ -13,7 +17,10 @@ push-key-requires c κs = search needs
 
 returns : tie.Need-returns
 unfolding namesIn counted
-returns c = c .before .push-key .ensures
+returns c =
+    let push = c .before .push-key .ensures in
+    let is = push .1 (canonical-uncounted (CanonicalName keyRow) keyRow maxListed) in
+    (push .0, names-encoded _ is ∙ ap (encodeKeys maxListed) (push .0))
 
 pub one-name-spec : {M : Type 1} → statement M
 one-name-spec = tie.close (tie.spec slice-aggregate-push-key push-key-requires returns)

@@ -15,7 +15,7 @@ unfolding readSelector
 returns c =
     let any = c .before .wildcard-at .ensures in
     let ok = c .if1 .taken in
-    first-reads _ _ _ _ (first-reads _ _ _ _ (first-reads _ _ _ _ any _ ok) _ ok) _ ok
+    (first-reads _ _ _ _ (first-reads _ _ _ _ (first-reads _ _ _ _ (any .0) _ ok) _ ok) _ ok, any .1)
 
 slice-aggregate-environment-at : tie.Need-slice-aggregate-environment-at
 slice-aggregate-environment-at c = search needs
@@ -30,8 +30,8 @@ returns-2 c =
     let e = c .before in
     let w = e .before .before in
     let ok = c .if2 .taken in
-    let equal = e .environment-at .ensures ∙ first-none _ _ _ _ (w .before .wildcard-at .ensures) _ (w .if1 .left) in
-    first-reads _ _ _ _ (first-reads _ _ _ _ equal _ ok) _ ok
+    let equal = e .environment-at .ensures .0 ∙ first-none _ _ _ _ (w .before .wildcard-at .ensures .0) _ (w .if1 .left) in
+    (first-reads _ _ _ _ (first-reads _ _ _ _ equal _ ok) _ ok, e .environment-at .ensures .1)
 
 slice-aggregate-environment-at-2 : tie.Need-slice-aggregate-environment-at-2
 slice-aggregate-environment-at-2 c = search needs
@@ -46,9 +46,9 @@ returns-3 c =
     let i = c .before in
     let e = i .before .before in
     let w = e .before .before .before in
-    let equal = e .before .environment-at .ensures ∙ first-none _ _ _ _ (w .before .wildcard-at .ensures) _ (w .if1 .left) in
-    let inside = i .environment-at2 .ensures ∙ first-none _ _ _ _ equal _ (e .if2 .left) in
-    first-reads _ _ _ _ inside _ (c .if3 .taken)
+    let equal = e .before .environment-at .ensures .0 ∙ first-none _ _ _ _ (w .before .wildcard-at .ensures .0) _ (w .if1 .left) in
+    let inside = i .environment-at2 .ensures .0 ∙ first-none _ _ _ _ equal _ (e .if2 .left) in
+    (first-reads _ _ _ _ inside _ (c .if3 .taken), i .environment-at2 .ensures .1)
 
 list-at-requires : tie.Need-list-at-requires
 list-at-requires c κs = search needs
@@ -59,9 +59,9 @@ returns-4 c =
     let i = c .before in
     let e = i .before .before .before in
     let w = e .before .before .before in
-    let equal = e .before .environment-at .ensures ∙ first-none _ _ _ _ (w .before .wildcard-at .ensures) _ (w .if1 .left) in
-    let inside = i .before .environment-at2 .ensures ∙ first-none _ _ _ _ equal _ (e .if2 .left) in
-    c .list-at .ensures ∙ first-none _ _ _ _ inside _ (i .if3 .left)
+    let equal = e .before .environment-at .ensures .0 ∙ first-none _ _ _ _ (w .before .wildcard-at .ensures .0) _ (w .if1 .left) in
+    let inside = i .before .environment-at2 .ensures .0 ∙ first-none _ _ _ _ equal _ (e .if2 .left) in
+    (c .list-at .ensures .0 ∙ first-none _ _ _ _ inside _ (i .if3 .left), c .list-at .ensures .1)
 
 pub selector-at-spec : {M : Type 1} → statement M
 selector-at-spec =

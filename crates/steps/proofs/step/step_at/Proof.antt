@@ -11,14 +11,15 @@ dotted-at-requires c κs = search needs
 
 returns : tie.Need-returns
 unfolding readStep
-returns c = first-reads _ _ _ _ (c .before .dotted-at .ensures) _ (c .if1 .taken)
+returns c = let r = c .before .dotted-at .ensures in (first-reads _ _ _ _ (r .0) _ (c .if1 .taken), r .1)
 
 bracketed-at-requires : tie.Need-bracketed-at-requires
 bracketed-at-requires c κs = search needs
 
 returns-2 : tie.Need-returns-2
 unfolding readStep
-returns-2 c = c .bracketed-at .ensures ∙ first-none _ _ _ _ (c .before .before .dotted-at .ensures) _ (c .before .if1 .left)
+returns-2 c =
+    (c .bracketed-at .ensures .0 ∙ first-none _ _ _ _ (c .before .before .dotted-at .ensures .0) _ (c .before .if1 .left), c .bracketed-at .ensures .1)
 
 pub step-at-spec : {M : Type 1} → statement M
 step-at-spec = tie.close (tie.spec dotted-at-requires returns bracketed-at-requires returns-2)

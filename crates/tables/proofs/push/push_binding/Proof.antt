@@ -1,8 +1,11 @@
 -- The line's row is written, and put behind those in use.
 use mathlib.Core.Path.{_∙_}
 use Rattle.model.specs.Limits.{maxBindings}
+use Rattle.layout.specs.Layout.{Canonical}
 use Rattle.layout.proofs.Changed.{table-pushed}
-use Rattle.steps.specs.Environments.{bindingRow, bindingIn, bindingsIn}
+use Rattle.layout.proofs.Canonical.{canonical-pushed}
+use Rattle.steps.specs.Environments.{bindingRow, bindingIn, bindingsIn, encodeBinding}
+use Rattle.tables.proofs.Pushed.{binding-read, binding-canonical, binding-full}
 use borrow.Author.Needs.{needs}
 use Rattle.tables.proofs.push.push_binding.Statement.{statement}
 use Rattle.tables.proofs.push.push_binding.Tie as tie
@@ -17,7 +20,10 @@ slice-aggregate-push-row : tie.Need-slice-aggregate-push-row
 slice-aggregate-push-row c = search needs
 
 push-row-requires : tie.Need-push-row-requires
-push-row-requires c κs = search needs
+push-row-requires c κs =
+    let put = c .before .before .before in
+    let s = put .before .before .before .before .before in
+    (search needs, search needs, rw (put .put-binding .ensures) (binding-full (s .args .name .now) (s .args .value .now) (s .pre .1)))
 
 same-length : tie.Need-same-length
 same-length c = search needs
@@ -25,10 +31,14 @@ same-length c = search needs
 returns : tie.Need-returns
 unfolding bindingsIn
 returns c =
-    let push = c .before .before in
-    let put = push .before .before .before .before in
-    let s = put .before .before .before .before .before in
-    table-pushed bindingIn bindingRow maxBindings (s .args .lines .now) _ _ (push .push-row .ensures) ∙ rw (put .put-binding .ensures .0)
+    let push = c .before .before .push-row in
+    let put = c .before .before .before .before .before .before in
+    let s = put .before .before .before .before .before .args in
+    let row = put .put-binding in
+    let is : Canonical encodeBinding bindingIn (row .last .0) = rw (row .ensures) (binding-canonical (s .name .now) (s .value .now)) in (
+      table-pushed bindingIn bindingRow maxBindings (s .lines .now) _ _ (push .ensures .0) ∙ rw (row .ensures, binding-read (s .name .now) (s .value .now)),
+      canonical-pushed (Canonical encodeBinding bindingIn) bindingRow maxBindings is (push .ensures .0) (push .ensures .1),
+    )
 
 pub push-binding-spec : {M : Type 1} → statement M
 push-binding-spec =

@@ -1,8 +1,11 @@
 -- The line's row is written, and put behind those in use.
 use mathlib.Core.Path.{_∙_}
 use Rattle.model.specs.Limits.{maxRules}
+use Rattle.layout.specs.Layout.{Canonical}
 use Rattle.layout.proofs.Changed.{table-pushed}
-use Rattle.tables.specs.Memory.{ruleRow, ruleIn, policyIn}
+use Rattle.layout.proofs.Canonical.{canonical-pushed}
+use Rattle.tables.specs.Memory.{ruleRow, ruleIn, policyIn, encodeRule}
+use Rattle.tables.proofs.Pushed.{rule-read, rule-canonical, rule-full}
 use borrow.Author.Needs.{needs}
 use Rattle.tables.proofs.push.push_rule.Statement.{statement}
 use Rattle.tables.proofs.push.push_rule.Tie as tie
@@ -17,7 +20,10 @@ slice-aggregate-push-row : tie.Need-slice-aggregate-push-row
 slice-aggregate-push-row c = search needs
 
 push-row-requires : tie.Need-push-row-requires
-push-row-requires c κs = search needs
+push-row-requires c κs =
+    let put = c .before .before .before in
+    let s = put .before .before .before .before .before in
+    (search needs, search needs, rw (put .put-rule .ensures) (rule-full (s .args .role .now) (s .args .access) (s .args .steps .now) (s .pre .1)))
 
 same-length : tie.Need-same-length
 same-length c = search needs
@@ -25,10 +31,15 @@ same-length c = search needs
 returns : tie.Need-returns
 unfolding policyIn
 returns c =
-    let push = c .before .before in
-    let put = push .before .before .before .before in
-    let s = put .before .before .before .before .before in
-    table-pushed ruleIn ruleRow maxRules (s .args .policy .now) _ _ (push .push-row .ensures) ∙ rw (put .put-rule .ensures .0)
+    let push = c .before .before .push-row in
+    let put = c .before .before .before .before .before .before in
+    let s = put .before .before .before .before .before .args in
+    let row = put .put-rule in (
+      table-pushed ruleIn ruleRow maxRules (s .policy .now) _ _ (push .ensures .0) ∙ rw (row .ensures, rule-read (s .role .now) (s .access) (s .steps .now)),
+      λ steps access.
+          let is : Canonical encodeRule ruleIn (row .last .0) = rw (row .ensures) (rule-canonical (s .role .now) (s .access) (s .steps .now) steps access) in
+          canonical-pushed (Canonical encodeRule ruleIn) ruleRow maxRules is (push .ensures .0) (push .ensures .1),
+    )
 
 pub push-rule-spec : {M : Type 1} → statement M
 push-rule-spec =

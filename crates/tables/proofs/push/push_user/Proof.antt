@@ -2,7 +2,9 @@
 use mathlib.Core.Path.{_∙_}
 use Rattle.model.specs.Limits.{maxUsers}
 use Rattle.layout.proofs.Changed.{table-pushed}
-use Rattle.tables.specs.Memory.{userRow, userIn, usersIn}
+use Rattle.layout.proofs.Canonical.{canonical-pushed}
+use Rattle.tables.specs.Memory.{userRow, userIn, usersIn, CanonicalUser}
+use Rattle.tables.proofs.Pushed.{user-read, user-canonical, user-full}
 use borrow.Author.Needs.{needs}
 use Rattle.tables.proofs.push.push_user.Statement.{statement}
 use Rattle.tables.proofs.push.push_user.Tie as tie
@@ -17,7 +19,11 @@ slice-aggregate-push-row : tie.Need-slice-aggregate-push-row
 slice-aggregate-push-row c = search needs
 
 push-row-requires : tie.Need-push-row-requires
-push-row-requires c κs = search needs
+push-row-requires c κs =
+    let put = c .before .before .before in
+    let s = put .before .before .before .before .before .before in
+    let a = s .args in
+    (search needs, search needs, rw (put .put-user .ensures) (user-full (a .name .now) (a .role .now) (a .key .now) (a .quota) (s .pre .1)))
 
 same-length : tie.Need-same-length
 same-length c = search needs
@@ -25,10 +31,14 @@ same-length c = search needs
 returns : tie.Need-returns
 unfolding usersIn
 returns c =
-    let push = c .before .before in
-    let put = push .before .before .before .before in
-    let s = put .before .before .before .before .before .before in
-    table-pushed userIn userRow maxUsers (s .args .users .now) _ _ (push .push-row .ensures) ∙ rw (put .put-user .ensures .0)
+    let push = c .before .before .push-row in
+    let put = c .before .before .before .before .before .before in
+    let s = put .before .before .before .before .before .before .args in
+    let row = put .put-user in
+    let is : CanonicalUser (row .last .0) = rw (row .ensures) (user-canonical (s .name .now) (s .role .now) (s .key .now) (s .quota)) in (
+      table-pushed userIn userRow maxUsers (s .users .now) _ _ (push .ensures .0) ∙ rw (row .ensures, user-read (s .name .now) (s .role .now) (s .key .now) (s .quota)),
+      canonical-pushed CanonicalUser userRow maxUsers is (push .ensures .0) (push .ensures .1),
+    )
 
 pub push-user-spec : {M : Type 1} → statement M
 push-user-spec =

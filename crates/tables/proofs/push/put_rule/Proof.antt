@@ -1,13 +1,9 @@
--- The access and the steps are written and then the role before them: each is read back, and the first byte is the length of a role that is not empty.
-use Rattle.buffers.proofs.Writers.{wrote-both}
-use Rattle.layout.proofs.Named.{named-part}
-use Rattle.tables.proofs.Pushed.{rule-put}
-use Rattle.model.specs.Limits.{maxName}
-use mathlib.Core.Path.{ap, _∙_}
-use lib.ListN.{length}
+-- The access and the steps, and then the role before them, are written into a row of zeros: nothing else is there.
+use mathlib.Core.Path.{ap}
 use native.Mathlib.Omega.{arith}
-use Rattle.rows.proofs.Writing.{length-written}
-use Rattle.tables.specs.Memory.{accessAt}
+use lib.ListN.{length}
+use Rattle.buffers.proofs.Writers.{wrote-both}
+use Rattle.tables.proofs.Pushed.{rule-put}
 use borrow.Author.Needs.{needs}
 use Rattle.tables.proofs.push.put_rule.Statement.{statement}
 use Rattle.tables.proofs.push.put_rule.Tie as tie
@@ -25,7 +21,7 @@ part-put-name-start : tie.Need-part-put-name-start
 part-put-name-start c = search needs
 
 part-put-name-end : tie.Need-part-put-name-end
-part-put-name-end c = search needs
+part-put-name-end c = omega (arith, ap length (c .before .before .before .before .before .before .before .before .before .before .before .pre .0))
 
 put-name-requires : tie.Need-put-name-requires
 put-name-requires c κs = search needs
@@ -35,12 +31,11 @@ same-length c = search needs
 
 returns : tie.Need-returns
 returns c =
-    let s = c .before .before .before .before .before .before .before .before .before .before .before .before .before .before .before in
-    let role = c .before .before .put-name in
-    let tail = wrote-both _ _ _ _ _ _ _ _ (c .before .before .before .before .before .before .before .before .before .before .put-byte .ensures) (c .before .before .before .before .before .before .put .ensures) in
-    let long = length-written accessAt _ (s .args .row .now) in
-    let n = named-part maxName 0 (s .args .role .now) (c .before .before .before .before .before .before .put .last .0) (omega (arith, s .pre .0, ap length (tail .1) ∙ long)) (role .ensures) in
-    rule-put (s .args .row .now) (s .args .access) (s .args .steps .now) (s .pre .0) (s .pre .2) (tail .1) n (s .pre .1)
+    let put = c .before .before .before .before .before .before in
+    let byte = put .before .before .before .before in
+    let s = byte .before .before .before .before .before in
+    let tail = wrote-both _ _ _ _ _ _ _ _ (byte .put-byte .ensures) (put .put .ensures) in
+    rule-put (s .args .role .now) (s .args .access) (s .args .steps .now) (s .pre .0) (s .pre .1) (tail .1) (c .before .before .put-name .ensures)
 
 pub put-rule-spec : {M : Type 1} → statement M
 put-rule-spec =

@@ -1,15 +1,9 @@
--- The quota, an empty first line, the key, the role and the name are written from the end of the row on, so that each leaves what is behind it: each is read back.
-use Rattle.buffers.proofs.Writers.{wrote-both}
-use Rattle.layout.proofs.Named.{named-part, length-named}
-use Rattle.tables.proofs.Pushed.{user-put}
-use Rattle.model.specs.Limits.{maxName}
-use mathlib.Core.Path.{ap, _∙_}
+-- The quota, an empty first line, the key, the role and the name are written into a row of zeros, from its end on: nothing else is there.
+use mathlib.Core.Path.{ap}
 use native.Mathlib.Omega.{arith}
 use lib.ListN.{length}
-use Rattle.rows.specs.Rows.{replaced}
-use Rattle.layout.specs.Layout.{nameRow}
-use Rattle.rows.proofs.Writing.{length-written}
-use Rattle.tables.specs.Memory.{roleAt, keyAt, quotaAt}
+use Rattle.buffers.proofs.Writers.{wrote-both}
+use Rattle.tables.proofs.Pushed.{user-put}
 use borrow.Author.Needs.{needs}
 use Rattle.tables.proofs.push.put_user.Statement.{statement}
 use Rattle.tables.proofs.push.put_user.Tie as tie
@@ -26,9 +20,6 @@ cast-put-byte-2 c = search needs
 put-byte-requires-2 : tie.Need-put-byte-requires-2
 put-byte-requires-2 c κs = search needs
 
-put-byte-requires-3 : tie.Need-put-byte-requires-3
-put-byte-requires-3 c κs = search needs
-
 sub-put-name : tie.Need-sub-put-name
 sub-put-name c = search needs
 
@@ -36,7 +27,7 @@ part-put-name-start : tie.Need-part-put-name-start
 part-put-name-start c = search needs
 
 part-put-name-end : tie.Need-part-put-name-end
-part-put-name-end c = search needs
+part-put-name-end c = omega (arith, ap length (c .before .before .before .before .before .before .before .before .before .before .before .before .pre))
 
 put-name-requires : tie.Need-put-name-requires
 put-name-requires c κs = search needs
@@ -48,7 +39,7 @@ part-put-name-start-2 : tie.Need-part-put-name-start-2
 part-put-name-start-2 c = search needs
 
 part-put-name-end-2 : tie.Need-part-put-name-end-2
-part-put-name-end-2 c = search needs
+part-put-name-end-2 c = omega (arith, ap length (c .before .before .before .before .before .before .before .before .before .before .before .before .before .before .before .before .pre))
 
 put-name-requires-2 : tie.Need-put-name-requires-2
 put-name-requires-2 c κs = search needs
@@ -60,7 +51,7 @@ part-put-name-start-3 : tie.Need-part-put-name-start-3
 part-put-name-start-3 c = search needs
 
 part-put-name-end-3 : tie.Need-part-put-name-end-3
-part-put-name-end-3 c = search needs
+part-put-name-end-3 c = omega (arith, ap length (c .before .before .before .before .before .before .before .before .before .before .before .before .before .before .before .before .before .before .before .before .pre))
 
 put-name-requires-3 : tie.Need-put-name-requires-3
 put-name-requires-3 c κs = search needs
@@ -70,23 +61,14 @@ same-length c = search needs
 
 returns : tie.Need-returns
 returns c =
-    let bytes = c .before .before .before .before .before .before .before .before .before .before .before .before .before .before in
-    let s = bytes .before .before .before .before .before .before .before .before .before .before .before .before .before .before in
+    let high = c .before .before .before .before .before .before .before .before .before .before .before .before .before .before in
+    let low = high .before .before .before .before in
+    let s = low .before .before .before .before .before .before in
     let key = c .before .before .before .before .before .before .before .before .before .before .put-name in
     let role = c .before .before .before .before .before .before .put-name2 in
     let name = c .before .before .put-name3 in
-    let both = wrote-both _ _ _ _ _ _ _ _ (bytes .before .before .before .before .before .before .before .before .put-byte .ensures) (bytes .before .before .before .before .put-byte2 .ensures) in
-    let tail = wrote-both _ _ _ _ _ _ _ _ both (bytes .put-byte3 .ensures) in
-    let s₀ = bytes .put-byte3 .last .0 in
-    let s₁ = replaced keyAt nameRow (key .last .0) s₀ in
-    let s₂ = replaced roleAt nameRow (role .last .0) s₁ in
-    let long = ap length (tail .1) ∙ length-written quotaAt _ (s .args .row .now) in
-    let k = named-part maxName keyAt (s .args .key .now) s₀ (omega (arith, s .pre .0, long)) (key .ensures) in
-    let two = length-named maxName keyAt s₀ k (omega (arith, s .pre .0, long)) in
-    let r = named-part maxName roleAt (s .args .role .now) s₁ (omega (arith, s .pre .0, long, two)) (role .ensures) in
-    let three = length-named maxName roleAt s₁ r (omega (arith, s .pre .0, long, two)) in
-    let n = named-part maxName 0 (s .args .name .now) s₂ (omega (arith, s .pre .0, long, two, three)) (name .ensures) in
-    user-put (s .args .row .now) (s .args .quota) (s .pre .0) (tail .1) k r n (s .pre .1)
+    let quota = wrote-both _ _ _ _ _ _ _ _ (low .put-byte .ensures) (high .put-byte2 .ensures) in
+    user-put (s .args .name .now) (s .args .role .now) (s .args .key .now) (s .args .quota) (s .pre) (quota .1) (key .ensures) (role .ensures) (name .ensures)
 
 pub put-user-spec : {M : Type 1} → statement M
 put-user-spec =
@@ -96,7 +78,6 @@ put-user-spec =
     put-byte-requires
     cast-put-byte-2
     put-byte-requires-2
-    put-byte-requires-3
     sub-put-name
     part-put-name-start
     part-put-name-end

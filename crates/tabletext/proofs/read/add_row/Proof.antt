@@ -3,7 +3,8 @@ use mathlib.Core.Path.{sym, _∙_}
 use native.Mathlib.Omega.{arith}
 use lib.ListN.{length-take}
 use Rattle.model.specs.Tables.{usersTable, environmentsTable, policyTable}
-use Rattle.tabletext.proofs.Kept.{row-users, row-policy}
+use Rattle.tables.specs.Memory.{usersBytes, CanonicalUsers, CanonicalPolicy}
+use Rattle.tabletext.proofs.Kept.{row-users, row-policy, first-kept, rest-kept}
 use borrow.Author.Needs.{needs}
 use Rattle.tabletext.proofs.read.add_row.Statement.{statement}
 use Rattle.tabletext.proofs.read.add_row.Tie as tie
@@ -53,8 +54,10 @@ same-length c = search needs
 returns : tie.Need-returns
 returns c =
     let k = c .before .before in
-    rw (k .before .before .enum-told .given .1)
-    (row-users _ _ _ usersTable (k .add-user .kept .0 ∙ sym (slice-aggregate-add-user (k .before))) (k .add-user .ensures .0) (k .add-user .ensures .1))
+    let long = k .add-user .kept .0 ∙ sym (slice-aggregate-add-user (k .before)) in (
+      rw (k .before .before .enum-told .given .1) (row-users _ _ _ usersTable long (k .add-user .ensures .0 .0) (k .add-user .ensures .0 .1)),
+      first-kept CanonicalUsers CanonicalPolicy usersBytes (k .before .before .before .before .before .before .before .args .tables .now) _ long (k .add-user .ensures .1),
+    )
 
 same-length-2 : tie.Need-same-length-2
 same-length-2 c = search needs
@@ -62,17 +65,20 @@ same-length-2 c = search needs
 returns-2 : tie.Need-returns-2
 returns-2 c =
     let k = c .before .before in
-    rw (k .before .before .enum-told2 .given .1)
-    (row-users _ _ _ environmentsTable (k .add-binding .kept .0 ∙ sym (slice-aggregate-add-binding (k .before))) (k .add-binding .ensures .0) (k .add-binding .ensures .1))
+    let long = k .add-binding .kept .0 ∙ sym (slice-aggregate-add-binding (k .before)) in (
+      rw (k .before .before .enum-told2 .given .1) (row-users _ _ _ environmentsTable long (k .add-binding .ensures .0 .0) (k .add-binding .ensures .0 .1)),
+      first-kept CanonicalUsers CanonicalPolicy usersBytes (k .before .before .before .before .before .before .before .args .tables .now) _ long (k .add-binding .ensures .1),
+    )
 
 same-length-3 : tie.Need-same-length-3
 same-length-3 c = search needs
 
 returns-3 : tie.Need-returns-3
 returns-3 c =
-    let k = c .before .before in
-    rw (k .before .before .enum-told3 .given .1)
-    (row-policy _ _ _ policyTable (search needs) (k .add-rule .ensures .0) (k .add-rule .ensures .1))
+    let k = c .before .before in (
+      rw (k .before .before .enum-told3 .given .1) (row-policy _ _ _ policyTable (search needs) (k .add-rule .ensures .0 .0) (k .add-rule .ensures .0 .1)),
+      rest-kept CanonicalUsers CanonicalPolicy usersBytes (k .before .before .before .before .before .before .before .args .tables .now) _ (search needs) (k .add-rule .ensures .1),
+    )
 
 pub add-row-spec : {M : Type 1} → statement M
 add-row-spec =

@@ -14,7 +14,7 @@ count-requires-2 c κs = search needs
 
 returns : tie.Need-returns
 unfolding keptOr
-returns c = rw (row-short _ _ _ _ (c .before .before .count .ensures) (c .before .count2 .ensures) (c .if1 .taken)) (refl, refl)
+returns c = (rw (row-short _ _ _ _ (c .before .before .count .ensures) (c .before .count2 .ensures) (c .if1 .taken)) (refl, refl), λ h. h)
 
 add-row-requires : tie.Need-add-row-requires
 add-row-requires c κs = search needs
@@ -22,8 +22,7 @@ add-row-requires c κs = search needs
 returns-2 : tie.Need-returns-2
 returns-2 c =
     let k = c .before .before in
-    rw (row-whole _ _ _ _ (k .before .before .count .ensures) (k .before .count2 .ensures) (k .if1 .left))
-    (c .add-row .ensures)
+    (rw (row-whole _ _ _ _ (k .before .before .count .ensures) (k .before .count2 .ensures) (k .if1 .left)) (c .add-row .ensures .0), c .add-row .ensures .1)
 
 pub read-row-spec : {M : Type 1} → statement M
 read-row-spec =

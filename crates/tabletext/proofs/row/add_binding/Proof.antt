@@ -8,7 +8,7 @@ use Rattle.model.specs.Base.{Bytes, text, any}
 use Rattle.model.specs.Names.{isName, isPlain}
 use Rattle.model.specs.Table.{split, under}
 use Rattle.model.specs.Tables.{sameBinding}
-use Rattle.tabletext.proofs.Standing.{user-unknown, user-known, Stands, stands, lines-are, lines-long, lines-counted, lines-joined}
+use Rattle.tabletext.proofs.Standing.{user-unknown, user-known, Stands, stands, lines-are, lines-long, lines-counted, lines-joined, lines-kept}
 use Rattle.tabletext.proofs.Added.{passed, failed, refuses, plain-named, bindingNames, newBinding}
 use Rattle.tabletext.proofs.Added.{binding-unnamed, binding-lost, binding-doubled, binding-full, binding-added}
 use Rattle.tabletext.proofs.row.add_binding.Statement.{statement}
@@ -191,8 +191,11 @@ returns-7 c =
     let v = k .before .before .before .before .before .before .before .before .before .before .before in
     let put = c .before .before .push-binding in
     let count = lines-counted (found k) size (c .before .before .before .before .before .row-count .ensures) in
-    let joined = lines-joined (found k) size _ _ (put .kept .0 ∙ lines-long (found k) size) count (omega (arith, c .before .before .before .before .if5 .left)) (put .ensures) in
-    binding-added _ _ (names (k .before .before .before .before .before)) (found k .named) (new (c .before .before .before .before .before .before .before .before)) count (omega (arith, c .before .before .before .before .if5 .left)) (v .before .before .value-under2 .ensures) (v .value-under3 .ensures) joined
+    let long = put .kept .0 ∙ lines-long (found k) size in
+    let joined = lines-joined (found k) size _ long _ count (omega (arith, c .before .before .before .before .if5 .left)) (put .ensures .0) in (
+      binding-added _ _ (names (k .before .before .before .before .before)) (found k .named) (new (c .before .before .before .before .before .before .before .before)) count (omega (arith, c .before .before .before .before .if5 .left)) (v .before .before .value-under2 .ensures) (v .value-under3 .ensures) joined,
+      lines-kept (found k) size _ long (put .ensures .1),
+    )
 
 pub add-binding-spec : {M : Type 1} → statement M
 add-binding-spec =

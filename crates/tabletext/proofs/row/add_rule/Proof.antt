@@ -11,7 +11,7 @@ use Rattle.model.specs.Table.{split, under}
 use Rattle.model.specs.Tables.{accessOf}
 use Rattle.model.proofs.Spelling.{name-named}
 use Rattle.steps.specs.Steps.{stepsIn}
-use Rattle.tables.specs.Memory.{accessIn}
+use Rattle.tables.specs.Memory.{accessIn, accessByte}
 use Rattle.tabletext.proofs.Added.{passed, failed, refuses, access-unknown, access-known, path-unread, path-read, rules-counted}
 use Rattle.tabletext.proofs.Added.{rule-unnamed, rule-bad, rule-unread, rule-full, rule-added}
 use Rattle.tabletext.proofs.row.add_rule.Statement.{statement}
@@ -29,13 +29,13 @@ role : (c : tie.Else1) → isName (val (start c) (text "role")) ≡ true
 unfolding text
 role c = rw (← c .before .before .value-under .ensures) (passed (c .before .is-name .ensures) (c .if1 .left))
 
-access : (c : tie.After-known-told) → accessOf (val (start (c .before .before .before .before .before .before)) (text "access")) ≡ some (accessIn (c .before .b .given .0 .0))
+access : (c : tie.After-known-told) → let b = c .before .b .given .0 .0 in (accessOf (val (start (c .before .before .before .before .before .before)) (text "access")) ≡ some (accessIn b)) × (b ≡ accessByte (accessIn b))
 unfolding text
 access c = access-known (c .before .before .before .before .value-under2 .ensures) (c .before .before .before .access .ensures) (c .before .b .given .1)
 
 path : (c : tie.Else2) → stepsOf (val (start (c .before .before .before .before .before .before .before .before .before .before .before)) (text "path")) ≡ some (stepsIn (c .before .before .read-steps .result .slot))
 unfolding text
-path c = path-read (c .before .before .read-steps .result) (c .before .before .before .value-under3 .ensures) (c .before .before .read-steps .ensures) (c .if2 .left)
+path c = path-read (c .before .before .read-steps .result) (c .before .before .before .value-under3 .ensures) (c .before .before .read-steps .ensures .0) (c .if2 .left)
 
 slice-aggregate-value-under : tie.Need-slice-aggregate-value-under
 slice-aggregate-value-under c = search needs
@@ -86,8 +86,8 @@ returns-3 : tie.Need-returns-3
 unfolding text
 returns-3 c =
     let k = c .before .before .before .before .before in
-    let bad = path-unread (c .before .before .read-steps .result) (c .before .before .before .value-under3 .ensures) (c .before .before .read-steps .ensures) (c .if2 .taken) in
-    refuses _ (rule-unread _ _ (role (k .before .before .before .before .before .before)) (access k) bad)
+    let bad = path-unread (c .before .before .read-steps .result) (c .before .before .before .value-under3 .ensures) (c .before .before .read-steps .ensures .0) (c .if2 .taken) in
+    refuses _ (rule-unread _ _ (role (k .before .before .before .before .before .before)) (access k .0) bad)
 
 row-count-requires : tie.Need-row-count-requires
 row-count-requires c κs = search needs
@@ -98,7 +98,7 @@ same-length c = search needs
 returns-4 : tie.Need-returns-4
 returns-4 c =
     let k = c .before .before .before .before .before .before .before .before in
-    refuses _ (rule-full _ _ (role (k .before .before .before .before .before .before)) (access k) (path (c .before .before .before)) (rules-counted _ (c .before .row-count .ensures)) (omega (arith, c .if3 .taken)))
+    refuses _ (rule-full _ _ (role (k .before .before .before .before .before .before)) (access k .0) (path (c .before .before .before)) (rules-counted _ (c .before .row-count .ensures)) (omega (arith, c .if3 .taken)))
 
 slice-aggregate-push-rule : tie.Need-slice-aggregate-push-rule
 slice-aggregate-push-rule c = search needs
@@ -113,7 +113,11 @@ returns-5 : tie.Need-returns-5
 unfolding text
 returns-5 c =
     let k = c .before .before .before .before .before .before .before .before .before .before .before .before .before .before in
-    rule-added _ _ (role (k .before .before .before .before .before .before)) (access k) (path (c .before .before .before .before .before .before .before .before .before)) (rules-counted _ (c .before .before .before .before .before .before .before .row-count .ensures)) (omega (arith, c .before .before .before .before .before .before .if3 .left)) (k .before .before .before .before .before .before .before .before .value-under .ensures) (c .before .before .push-rule .ensures)
+    let steps = c .before .before .before .before .before .before .before .before .before in
+    let push = c .before .before .push-rule in (
+      rule-added _ _ (role (k .before .before .before .before .before .before)) (access k .0) (path steps) (rules-counted _ (c .before .before .before .before .before .before .before .row-count .ensures)) (omega (arith, c .before .before .before .before .before .before .if3 .left)) (k .before .before .before .before .before .before .before .before .value-under .ensures) (push .ensures .0),
+      push .ensures .1 (steps .before .before .read-steps .ensures .1) (access k .1),
+    )
 
 pub add-rule-spec : {M : Type 1} → statement M
 add-rule-spec =

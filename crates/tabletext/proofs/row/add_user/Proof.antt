@@ -176,8 +176,11 @@ returns-8 c =
     let n = c .before .before .before .before .before .before .before in
     let k = n .before .before .before .before in
     let v = k .before .before .before .before .before .before .before .before .before .before .before .before .before .before .before in
-    user-added _ _ (names (k .before .before .before .before .before .before .before .before .before)) (one-role (k .before .before .before .before .before .before)) (quota k) (new n) (users-counted _ (c .before .before .before .before .before .row-count .ensures)) (omega (arith, c .before .before .before .before .if5 .left))
-    (v .before .before .before .before .value-under .ensures) (v .before .before .value-under2 .ensures) (v .value-under3 .ensures) (c .before .before .push-user .ensures)
+    let push = c .before .before .push-user in (
+      user-added _ _ (names (k .before .before .before .before .before .before .before .before .before)) (one-role (k .before .before .before .before .before .before)) (quota k) (new n) (users-counted _ (c .before .before .before .before .before .row-count .ensures)) (omega (arith, c .before .before .before .before .if5 .left))
+          (v .before .before .before .before .value-under .ensures) (v .before .before .value-under2 .ensures) (v .value-under3 .ensures) (push .ensures .0),
+      push .ensures .1,
+    )
 
 pub add-user-spec : {M : Type 1} → statement M
 add-user-spec =
