@@ -47,7 +47,7 @@ fn fill(slot: &mut [u8], path: &[u8], v: Scalar, text: &[u8])
     requires { ⌜ (now slot ≡ replicate slotBytes 0) × (length (now path) ≡ pathSlot) × (length (now text) ≤ maxText) × scalars.InText v (now text) ⌝ }
     ensures { λ _. ⌜ now (slot .exit) ≡ slotOf (now (path .entry)) (scalars.valueIn (now (text .entry)) v) ⌝ }
 {
-    copy(slot, path);
+    copy(slot, &path[0..PATH]);
     let n = put_value(&mut slot[TEXT..], 0, v, text);
     slot[PATH] = length_byte(n);
 }

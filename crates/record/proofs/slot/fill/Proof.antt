@@ -1,7 +1,9 @@
 -- The path's bytes are copied, the value's text is written behind the byte that says its length, as far as there is room for it.
 use mathlib.Core.Path.{_≡_, ap}
 use native.Mathlib.Omega.{arith}
-use lib.ListN.{length}
+use lib.ListN.{length, take}
+use lib.Seq.{take-all}
+use Rattle.paths.specs.Layout.{pathSlot}
 use borrow.Author.Needs.{needs}
 use Rattle.record.specs.Slots.{slotBytes}
 use Rattle.record.proofs.Slots.{filled}
@@ -12,14 +14,27 @@ use Rattle.record.proofs.slot.fill.Tie as tie
 long : (s : tie.Start) → length (s .args .slot .now) ≡ slotBytes
 long s = ap length (s .pre .0)
 
+-- the path is as long as what is copied of it
+whole : (s : tie.Start) → take pathSlot (s .args .path .now) ≡ s .args .path .now
+whole s = take-all pathSlot (s .args .path .now) (omega (arith, s .pre .1))
+
+sub-copy : tie.Need-sub-copy
+sub-copy c = search needs
+
+part-copy-start : tie.Need-part-copy-start
+part-copy-start c = search needs
+
+part-copy-end : tie.Need-part-copy-end
+part-copy-end c = search needs
+
 copy-requires : tie.Need-copy-requires
-copy-requires c κs = let l = long (c .before .before .before .before) in search needs
+copy-requires c κs = let l = long (c .before .before .before .before .before) in search needs
 
 sub-put-value : tie.Need-sub-put-value
-sub-put-value c = omega (arith, long (c .before .before .before .before .before .before .before))
+sub-put-value c = omega (arith, long (c .before .before .before .before .before .before .before .before))
 
 part-put-value-start : tie.Need-part-put-value-start
-part-put-value-start c = let l = long (c .before .before .before .before .before .before .before) in search needs
+part-put-value-start c = let l = long (c .before .before .before .before .before .before .before .before) in search needs
 
 part-put-value-end : tie.Need-part-put-value-end
 part-put-value-end c = search needs
@@ -31,24 +46,27 @@ length-byte-requires : tie.Need-length-byte-requires
 length-byte-requires c κs = search needs
 
 slice-write-slot : tie.Need-slice-write-slot
-slice-write-slot c = let l = long (c .before .before .before .before .before .before .before .before .before .before .before .before) in search needs
+slice-write-slot c = let l = long (c .before .before .before .before .before .before .before .before .before .before .before .before .before) in search needs
 
 same-length : tie.Need-same-length
 same-length c =
     let f = c .before .before .before .before .before .before .before in
-    let s = f .before .before .before .before .before in
-    filled _ (s .args .path .now) _ _ _ _ _ (s .pre .0) (s .pre .1) (f .copy .ensures) (c .before .before .before .put-value .ensures) (c .length-byte .ensures) .long
+    let s = f .before .before .before .before .before .before in
+    filled _ (s .args .path .now) _ _ _ _ _ (s .pre .0) (s .pre .1) (rw (whole s) at (f .copy .ensures)) (c .before .before .before .put-value .ensures) (c .length-byte .ensures) .long
 
 returns : tie.Need-returns
 returns c =
     let f = c .before .before .before .before .before .before .before in
-    let s = f .before .before .before .before .before in
-    filled _ (s .args .path .now) _ _ _ _ _ (s .pre .0) (s .pre .1) (f .copy .ensures) (c .before .before .before .put-value .ensures) (c .length-byte .ensures) .is
+    let s = f .before .before .before .before .before .before in
+    filled _ (s .args .path .now) _ _ _ _ _ (s .pre .0) (s .pre .1) (rw (whole s) at (f .copy .ensures)) (c .before .before .before .put-value .ensures) (c .length-byte .ensures) .is
 
 pub fill-spec : {M : Type 1} → statement M
 fill-spec =
     tie.close
     (tie.spec
+    sub-copy
+    part-copy-start
+    part-copy-end
     copy-requires
     sub-put-value
     part-put-value-start
