@@ -3,7 +3,7 @@ use Prim.Native.Nat.{ℕ, _+_, _-_, _≤_, _<_}
 use mathlib.Core.Path.{_≡_, refl, sym, ap, _∙_}
 use mathlib.Core.Bool.{Bool, true, false, _&&_}
 use mathlib.Core.Option.{Option, none, some}
-use mathlib.Core.List.{[], _∷_, _++_, append-nil}
+use mathlib.Core.List.{[], _∷_, _++_}
 use native.Mathlib.Omega.{arith}
 use lib.ListN.{length, take, drop}
 use Rattle.rows.specs.Positions.{placed, runEnd}
@@ -156,7 +156,3 @@ module _ (s : Bytes) (at : ℕ) (r : ValueAt) (answer : valueAnswer s r ≡ plac
     pub whole-is : e ≡ length s → valueOf (drop at s) ≡ some (valueIn s v)
     unfolding valueOf _>>=_ _>>_ check _==_
     whole-is f = rw (value-reads s at r answer h v e i .is, over s e (omega arith))
-
--- ── A copy over as many bytes ──
-pub copy-whole : (a b c : Bytes) → c ≡ a ++ drop (length a) b → length b ≤ length a → c ≡ a
-copy-whole a b c e h = e ∙ rw (over b (length a) h, append-nil)

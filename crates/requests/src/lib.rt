@@ -1,5 +1,4 @@
 // A request line taken apart.
-use buffers::copy;
 use lexical::class::End;
 use lexical::class::is_name;
 use lexical::limits::MAX_LINE;
@@ -111,7 +110,7 @@ fn push_line(line: &[u8], path: &mut [u8; PATH]) -> Parsed
         return Parsed::Bad;
     }
     let slot = read.slot;
-    copy(path, &slot);
+    *path = slot;
     Parsed::Is(Request::InSession(session as u32, Ask::Push(at, value)))
 }
 

@@ -16,7 +16,7 @@ use Rattle.lexical.specs.Numbers.{numberAnswer}
 use Rattle.lexical.proofs.Decimals.{number-some}
 use Rattle.values.proofs.Values.{told, value-inside}
 use Rattle.requests.proofs.ByPositions.{word-ends, word-other, other-word, pushOf, PathEnds, session-last, session-ends, path-last, path-ends, push-stands}
-use Rattle.requests.proofs.ByPositions.{path-told, whole-bad, whole-more, whole-is, copy-whole}
+use Rattle.requests.proofs.ByPositions.{path-told, whole-bad, whole-more, whole-is}
 use Rattle.requests.proofs.push_line.Statement.{statement}
 use Rattle.requests.proofs.push_line.Tie as tie
 
@@ -172,31 +172,24 @@ returns-7 c =
     let is = c .before .before .value .given .1 in
     (record { asks = by-value (v .before) (whole-more _ _ _ (v .value-at .ensures .0) (omega arith) _ _ is (λ at-end. omega (arith, c .if4 .taken))); stands = tt }, refl)
 
-slice-aggregate-copy : tie.Need-slice-aggregate-copy
-slice-aggregate-copy c = search needs
-
-copy-requires : tie.Need-copy-requires
-copy-requires c κs = omega (arith, slice-aggregate-copy c)
-
-cast-t31 : tie.Need-cast-t31
-cast-t31 c =
-    let n = c .before .before .before .before .before .before .before .before .before .before .before .before .before in
+cast-t26 : tie.Need-cast-t26
+cast-t26 c =
+    let n = c .before .before .before .before .before .before .before .before .before .before in
     record { fits = omega (arith, number-some _ _ _ (session n) .2) }
 
 returns-8 : tie.Need-returns-8
 unfolding pushOf _>>=_
 returns-8 c =
-    let i = c .before .before .before .before in
+    let i = c .before in
     let v = i .before .before .before .before in
     let r = v .before .before .before in
     let e = ends (r .before .before .before .before .before .before .before) in
     let is = i .before .before .value .given .1 in
     let slot = r .read-path .result .slot in
-    let copied = copy-whole slot _ _ (c .copy .ensures) (omega (arith, slice-aggregate-copy (c .before))) in
     let path = path-told (r .read-path .result) (r .read-path .ensures .0) (not-false _ (v .before .if3 .left)) in
     let value = whole-is _ _ _ (v .value-at .ensures .0) (omega arith) _ _ is (omega (arith, i .if4 .left)) in
     let inside = value-inside _ _ (v .value-at .ensures .1) _ _ is in
-    (rw copied (record { asks = by-value (v .before) value; stands = (inside, push-stands _ _ _ _ _ _ e path value) }), rw copied (keys-encoded slot (r .read-path .ensures .1)))
+    (record { asks = by-value (v .before) value; stands = (inside, push-stands _ _ _ _ _ _ e path value) }, keys-encoded slot (r .read-path .ensures .1))
 
 pub push-line-spec : {M : Type 1} → statement M
 push-line-spec =
@@ -230,7 +223,5 @@ push-line-spec =
     enum-told-3
     returns-6
     returns-7
-    slice-aggregate-copy
-    copy-requires
-    cast-t31
+    cast-t26
     returns-8)
