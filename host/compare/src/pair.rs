@@ -105,6 +105,9 @@ impl Pair {
         let second = Answer::from(self.second.save(&mut buffer));
         same("answers", proved, second)?;
         same_items("buffer", self.watched.buffer(), &buffer)?;
+        if let Answer::Length(length) = proved {
+            self.watched.check_saved(&buffer[..length])?;
+        }
         self.tally.count_save(proved);
         Ok(proved)
     }

@@ -116,6 +116,17 @@ impl Watched {
         ensure(accepted && *fresh == self.lent.memory, "the same texts make other arrays of zeros")
     }
 
+    /// The fields' bytes are what the saved text, opened without tables, makes
+    /// of zeros, whatever pushes made them.
+    pub fn check_saved(&self, text: &[u8]) -> Checked<()> {
+        let heads = ["user;role;key;allowance\n", "user;name;value\n", "role;access;path\n"];
+        let [users, environments, policy] = heads.map(str::as_bytes);
+        let mut fresh = Box::<Memory>::default();
+        let accepted = fresh.open(users, environments, policy, text).is_ok();
+        let same = fresh.fields == self.lent.memory.fields;
+        ensure(accepted && same, "the saved text makes other fields of zeros")
+    }
+
     fn check_request(
         &self,
         line: &[u8],
