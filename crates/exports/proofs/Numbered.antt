@@ -6,7 +6,6 @@ use native.Mathlib.Omega.{arith}
 use Rattle.model.specs.Base.{Bytes}
 use Rattle.model.specs.Refusals.{Result, refused, done}
 use Rattle.model.specs.Opening.{State, Fault}
-use Rattle.opening.specs.declared.answer.Opening.{Opening}
 use Rattle.opening.specs.declared.answer.Opening.the-variants as opening
 use Rattle.opening.specs.Answers.{openingAnswer}
 use Rattle.model.specs.Serving.{Outcome}

@@ -46,7 +46,7 @@ pub record OpensAs (before : Arrays) (texts : Texts) (r inText inLine : ℕ) (af
   pub line : inLine ≡ faultLine (opened texts)
   pub state : stateOf after ≡ afterOpening (stateOf before) texts
   pub bytes : after ≡ arraysAfter before (opened texts)
-  pub accepted : r ≡ 0 → (s : State) × (opened texts ≡ done s)
+  pub zero-done : r ≡ 0 → (s : State) × (opened texts ≡ done s)
 
 -- a kind and a number are those of an outcome, and so is what was left
 pub record Tells (o : Outcome) (kind r : ℕ) (after : State) (buffer : Bytes) (list : List ℕ) : Type 0 where

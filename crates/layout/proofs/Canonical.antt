@@ -5,13 +5,13 @@ use mathlib.Core.Bool.{false}
 use mathlib.Core.List.{List, [], _∷_, _++_, map}
 use native.Mathlib.Nat.{zero-add, zero-min}
 use native.Mathlib.Omega.{arith}
-use lib.ListN.{length, getD, take, drop, set, replicate, length-take, length-map, length-replicate}
+use lib.ListN.{length, take, drop, length-take, length-map, length-replicate}
 use lib.Seq.{take-all}
 use Rattle.rows.specs.Rows.{replaced, written}
 use Rattle.rows.proofs.Writing.{written-clipped}
-use Rattle.model.specs.Base.{Bytes, joined}
-use Rattle.model.proofs.Lists.{All, all-append, all-take, all-set}
-use Rattle.layout.specs.Layout.{isEmpty, inUse, table, Holds, insertedRow, countedRows, counted, nameIn}
+use Rattle.model.specs.Base.{Bytes, joined, All}
+use Rattle.model.proofs.Lists.{all-append, all-take, all-set}
+use Rattle.layout.specs.Layout.{isEmpty, inUse, table, Holds, insertedRow, countedRows, counted}
 use Rattle.layout.specs.Layout.{padded, encodeName, encodeCounted, encodeTable, Canonical, CanonicalName, Keeps, Tight, TightCounted, CanonicalTable, CanonicalCounted}
 use Rattle.layout.proofs.Used.{used-none}
 use Rattle.layout.proofs.Changed.{used-set, inserted-used}

@@ -1,14 +1,14 @@
 -- Which rows are in use where one is written behind the last, over another or before another.
 use Prim.Native.Nat.{ℕ, suc, _+_, _*_, _-_, _≤_, _<_, min}
 use mathlib.Core.Path.{_≡_, refl, sym, ap, _∙_}
-use mathlib.Core.Bool.{Bool, false}
-use mathlib.Core.List.{List, [], _∷_, _++_, map, map-append, append-assoc}
+use mathlib.Core.Bool.{false}
+use mathlib.Core.List.{[], _∷_, _++_, map-append, append-assoc}
 use native.Mathlib.Nat.{suc-mul, mul-le-mul-left, mul-le-mul-right, mul-lt-mul-of-pos-right}
 use native.Mathlib.Numerals.{add-one}
 use native.Mathlib.Omega.{arith}
 use borrow.Author.Tests.{ltb-true, ltb-false}
 use lib.Dec.{ltb}
-use lib.ListN.{length, getD, take, drop, set, length-take, length-drop, length-append}
+use lib.ListN.{length, take, drop, set, length-take, length-drop, length-append}
 use lib.Seq.{take-all, take-at, take-take, take-append-add, drop-at, drop-drop, getD-set-same, length-take-le}
 use Rattle.rows.specs.Rows.{rows, upTo, insertAt, replaced, written}
 use Rattle.rows.specs.Moves.{movedLater}

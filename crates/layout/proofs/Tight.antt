@@ -2,14 +2,14 @@
 use Prim.Native.Nat.{ℕ, zero, suc, _+_, _*_, _-_, _≤_, _<_, min}
 use mathlib.Core.Path.{_≡_, refl, sym, ap, _∙_}
 use mathlib.Core.Bool.{false}
-use mathlib.Core.List.{List, [], _∷_, _++_, map, append-assoc, append-nil}
+use mathlib.Core.List.{[], _∷_, _++_, append-assoc, append-nil}
 use native.Mathlib.Nat.{zero-mul, suc-mul, sub-zero, suc-sub-suc, zero-sub, zero-min, add-comm, le-refl, mul-le-mul-right}
 use native.Mathlib.Numerals.{add-one}
 use native.Mathlib.Omega.{arith}
 use lib.Dec.{ltb}
 use borrow.Author.Tests.{ltb-true, ltb-false}
 use lib.ListN.{length, getD, take, drop, set, replicate, length-set, length-take, length-drop, length-append, length-replicate, replicate-append-replicate, take-append-drop, drop-of-length-le}
-use lib.Seq.{take-add, take-all, take-at, take-nil, drop-nil, drop-at, drop-drop, drop-append-le, length-take-le}
+use lib.Seq.{take-add, take-all, take-at, drop-at, drop-drop, drop-append-le, length-take-le}
 use Rattle.rows.specs.Rows.{rows, insertAt, replaced, written}
 use Rattle.rows.proofs.Rows.{drop-take, take-rows, upTo-prefix}
 use Rattle.rows.proofs.Parts.{tail-part, tail-replaced, after-replaced, length-replaced}

@@ -1,4 +1,4 @@
--- Rows of one size in memory, whatever the bytes are: which are in use, and what they mean.
+-- Rows of one size in memory, whatever the bytes are: which are in use, and what they mean; and the bytes that a meaning is written as.
 use Prim.Native.Nat.{ℕ, _+_, _*_, _-_, _≤_, _<_, min}
 use mathlib.Core.Bool.{Bool}
 use mathlib.Core.Path.{_≡_}
@@ -6,9 +6,8 @@ use mathlib.Core.List.{List, _∷_, _++_, map}
 use lib.Dec.{eqb}
 use lib.ListN.{length, getD, take, drop, replicate}
 use Rattle.rows.specs.Rows.{rows, upTo, replaced}
-use Rattle.model.specs.Base.{Bytes, joined}
+use Rattle.model.specs.Base.{Bytes, joined, All}
 use Rattle.model.specs.Limits.{maxName, maxKey}
-use Rattle.model.proofs.Lists.{All}
 
 -- ── Rows up to the first that is empty ──
 -- a row whose first byte is 0
@@ -98,7 +97,7 @@ Tight k n s = s ≡ padded (n * k) (joined (inUse k n s))
 abbrev pub TightCounted : ℕ → ℕ → Bytes → Type 0
 TightCounted k n s = let rs = countedRows k n s in s ≡ padded (1 + n * k) (length rs ∷ joined rs)
 
--- so written, each row too
+-- such a table, each row of which has P
 abbrev pub CanonicalTable : (Bytes → Type 0) → ℕ → ℕ → Bytes → Type 0
 CanonicalTable P k n s = Tight k n s × All P (inUse k n s)
 

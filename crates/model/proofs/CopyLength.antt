@@ -6,14 +6,14 @@ use mathlib.Core.List.{List, [], _∷_, map}
 use lib.ListN.{length, length-append}
 use native.Mathlib.Nat.{mul-suc}
 use native.Mathlib.Omega.{arith}
-use Rattle.model.specs.Base.{text, keep, joined, between}
+use Rattle.model.specs.Base.{text, keep, joined, between, All}
 use Rattle.model.specs.Limits.{maxName, maxKey, maxPathText, maxFields, maxCopy}
 use Rattle.model.specs.Fields.{Fields}
 use Rattle.model.specs.SavedText.{saved}
 use Rattle.model.specs.Tables.{Binding, User, Access, READ, WRITE, Rule, Tables, userAt}
 use Rattle.model.specs.Rights.{isFor}
 use Rattle.model.specs.Serving.{accessText, tableLine, ruleLine, bindingLine, copyOf}
-use Rattle.model.proofs.Lists.{All, all-imp, all-keep, all-elem, length-keep-le}
+use Rattle.model.proofs.Lists.{all-imp, all-keep, all-elem, length-keep-le}
 use Rattle.model.proofs.Spelling.{name-named, key-named, steps-length}
 use Rattle.model.proofs.SavedLength.{savedField}
 use Rattle.model.proofs.TablesRead.{ValidBinding, ValidUser, ValidRule, ValidTables}

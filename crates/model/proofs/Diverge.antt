@@ -4,9 +4,9 @@ use mathlib.Core.Path.{_≡_, refl, sym, _∙_}
 use mathlib.Core.List.{List, [], _∷_, _++_}
 use mathlib.Core.Bool.{Bool, true, false, not, _||_}
 use lib.ListN.{take}
-use Rattle.model.specs.Base.{Bytes, _==_}
+use Rattle.model.specs.Base.{Bytes, _==_, All}
 use Rattle.model.specs.Fields.{Keys, Field, Fields, orderPath, put}
-use Rattle.model.proofs.Lists.{by-cases, never, or-right, bytes-eq, bytes-refl, bytes-ne, All, all-append, all-take}
+use Rattle.model.proofs.Lists.{by-cases, never, or-right, bytes-eq, bytes-refl, bytes-ne, all-append, all-take}
 use Rattle.model.proofs.Order.{by-three, put-less, put-same, put-more, all-put}
 
 -- ── Each element with each later one ──

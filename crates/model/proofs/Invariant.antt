@@ -6,14 +6,14 @@ use mathlib.Core.List.{List, [], _∷_, map}
 use mathlib.Core.Bool.{false}
 use lib.ListN.{length, set, getD, getElem?, replicate, length-set}
 use native.Mathlib.Omega.{arith}
-use Rattle.model.specs.Base.{sum}
+use Rattle.model.specs.Base.{sum, All}
 use Rattle.model.specs.Limits.{maxFields, maxUsers, maxLogins}
 use Rattle.model.specs.Fields.{Field, holds, put, store}
 use Rattle.model.specs.Tables.{User, userAt}
 use Rattle.model.specs.Opening.{LoginState, State, emptyLogin, quotas}
 use Rattle.model.specs.Serving.{loginAt, Change, setsLogin, shows, stores, creating, apply, Act, unchanged, conclude, outcome}
 use Rattle.model.specs.Runs.{end}
-use Rattle.model.proofs.Lists.{by-cases, never, none-some, elem-below, All, all-set, all-getD}
+use Rattle.model.proofs.Lists.{by-cases, never, none-some, elem-below, all-set, all-getD}
 use Rattle.model.proofs.Order.{Sorted, sorted-put, one, absent, length-put, store-fits}
 use Rattle.model.proofs.Decisions.{LoginSet, Stored, Decided, DecidedBy, by-decision}
 

@@ -8,7 +8,7 @@ use lib.Dec.{eqb}
 use lib.ListN.{length, take, set, getD, getElem?, replicate}
 use native.Mathlib.Omega.{arith}
 use borrow.Author.Tests.{eq-eqb, eqb-true}
-use Rattle.model.specs.Base.{Bytes, any, all, keep, joined, range, _==_}
+use Rattle.model.specs.Base.{Bytes, any, all, All, keep, joined, range, _==_}
 use Rattle.model.specs.Refusals.{Result, refused, done, _>>=_, _>>_, refuse_if_, _or_}
 
 -- ── Tests ──
@@ -113,10 +113,6 @@ bytes-ne a b h e = never (sym (bytes-refl b) ∙ rw e at h)
 
 -- ── What holds of every element ──
 module _ {A : Type 0} where
-  abbrev pub All : (A → Type 0) → List A → Type 0
-  All P [] = Unit {0}
-  All P (x ∷ xs) = P x × All P xs
-
   pub all-imp : (P Q : A → Type 0) → ((x : A) → P x → Q x) → (xs : List A) → All P xs → All Q xs
   all-imp P Q f [] h = tt
   all-imp P Q f (x ∷ xs) h = (f x (h .0), all-imp P Q f xs (h .1))

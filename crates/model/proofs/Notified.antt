@@ -7,12 +7,12 @@ use lib.ListN.{length, take, length-map}
 use native.Mathlib.Nat.{le-trans}
 use native.Mathlib.Omega.{arith}
 use borrow.Author.Tests.{lt-ltb}
-use Rattle.model.specs.Base.{keep, range}
+use Rattle.model.specs.Base.{keep, range, All}
 use Rattle.model.specs.Limits.{perUser, listRoom, maxLogins}
 use Rattle.model.specs.Opening.{State}
 use Rattle.model.specs.Serving.{sessionNumber, loginAt, Change, setsLogin, shows, stores, receivers, notified, Act, unchanged, conclude, outcome}
 use Rattle.model.specs.Claims.{ascends}
-use Rattle.model.proofs.Lists.{by-cases, All, all-imp, keep-yes, keep-no, length-keep-le}
+use Rattle.model.proofs.Lists.{by-cases, all-imp, keep-yes, keep-no, length-keep-le}
 use Rattle.model.proofs.Decisions.{by-decision}
 use Rattle.model.proofs.Invariant.{Running, few-at}
 use Rattle.model.proofs.TwoRuns.{over-take}

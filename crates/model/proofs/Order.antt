@@ -7,10 +7,10 @@ use mathlib.Core.Bool.{Bool, true, false}
 use lib.ListN.{length, take}
 use lib.Seq.{take-all}
 use native.Mathlib.Omega.{arith}
-use Rattle.model.specs.Base.{keep, isSome}
+use Rattle.model.specs.Base.{keep, isSome, All}
 use Rattle.model.specs.Limits.{maxFields}
 use Rattle.model.specs.Fields.{Keys, Field, Fields, andThen, lex, orderKey, orderPath, byOrder, valueAt, holds, put, store}
-use Rattle.model.proofs.Lists.{by-cases, never, All, all-keep, keep-yes, keep-no}
+use Rattle.model.proofs.Lists.{by-cases, never, all-keep, keep-yes, keep-no}
 
 -- ── An order ──
 unfoldable pub swap : Ordering → Ordering

@@ -7,13 +7,13 @@ use lib.Dec.{leb}
 use lib.ListN.{length, length-append}
 use native.Mathlib.Omega.{arith}
 use borrow.Author.Tests.{leb-true}
-use Rattle.model.specs.Base.{Bytes, text, all, _==_, within}
+use Rattle.model.specs.Base.{Bytes, text, all, _==_, within, All}
 use Rattle.model.specs.Limits.{maxDepth, maxKey}
 use Rattle.model.specs.Names.{nameByte, isNameOf, isKey}
 use Rattle.model.specs.Values.{Value, validValue, quoted, valueText}
 use Rattle.model.specs.Fields.{Keys, Field, Fields}
 use Rattle.model.specs.SavedText.{descend, ascend, turn, savedBehind, saved}
-use Rattle.model.proofs.Lists.{by-cases, and-both, All}
+use Rattle.model.proofs.Lists.{by-cases, and-both}
 use Rattle.model.proofs.Valid.{Valid}
 use Rattle.model.proofs.OpenObjects.{Fits, valid-path}
 

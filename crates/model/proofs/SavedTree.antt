@@ -7,14 +7,14 @@ use mathlib.Core.Bool.{true, false}
 use lib.ListN.{length, length-append}
 use lib.Seq.{take-all}
 use native.Mathlib.Omega.{arith}
-use Rattle.model.specs.Base.{Bytes, text, among, _==_, _>>=_, within, isDigit}
+use Rattle.model.specs.Base.{Bytes, text, among, _==_, _>>=_, within, isDigit, All}
 use Rattle.model.specs.Limits.{maxDepth, maxFields}
 use Rattle.model.specs.Values.{Value, validValue, valueText}
 use Rattle.model.specs.Fields.{Keys, Field, Fields, andThen, lex, orderKey, orderPath, put, store, fieldOf}
 use Rattle.model.specs.RecordText.{Node, leaf, object, Members, noMembers, isBlank, asNode, treeOf}
 use Rattle.model.specs.RecordText.{keysIn, twiceIn, twice, countIn, count, storeNode, storeMembers, Opened}
 use Rattle.model.specs.SavedText.{descend, ascend, turn, savedBehind, saved}
-use Rattle.model.proofs.Lists.{by-cases, never, All, all-imp, false-any, bytes-eq, bytes-ne}
+use Rattle.model.proofs.Lists.{by-cases, never, all-imp, false-any, bytes-eq, bytes-ne}
 use Rattle.model.proofs.Order.{Before, Sorted, by-three, before-after, put-more, key-orders, lt-eq, lt-gt}
 use Rattle.model.proofs.Valid.{Valid}
 use Rattle.model.proofs.Diverge.{diverge, Diverging}

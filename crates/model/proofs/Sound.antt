@@ -7,7 +7,7 @@ use mathlib.Core.Bool.{Bool, true, false, not, _&&_}
 use lib.ListN.{length, replicate, length-replicate}
 use native.Mathlib.Omega.{arith}
 use borrow.Author.Tests.{not-false}
-use Rattle.model.specs.Base.{Bytes, any, among, isSome, _==_}
+use Rattle.model.specs.Base.{Bytes, any, among, isSome, _==_, All}
 use Rattle.model.specs.Limits.{maxUsers, maxLogins}
 use Rattle.model.specs.Fields.{Keys, Field, Fields, orderPath, valueAt, holds, put}
 use Rattle.model.specs.RecordText.{count}
@@ -19,7 +19,7 @@ use Rattle.model.specs.Opening.{LoginState, State, emptyLogin, emptyLogi
 use Rattle.model.specs.Requests.{Request, readLogin, readGet, readPush, readers, firstOf, requestOf, pushOf}
 use Rattle.model.specs.Serving.{Change, setsLogin, shows, stores, apply, Act, line, save, outcome}
 use Rattle.model.specs.Runs.{requestOfAct, eventIn, pushIn}
-use Rattle.model.proofs.Lists.{by-cases, never, none-some, and-both, or-neither, bytes-eq, bytes-refl, All, all-imp, all-replicate, any-true, any-false}
+use Rattle.model.proofs.Lists.{by-cases, never, none-some, and-both, or-neither, bytes-eq, bytes-refl, all-imp, all-replicate, any-true, any-false}
 use Rattle.model.proofs.Order.{Sorted, by-three, lt-eq, eq-gt, path-orders, put-same, put-more, all-put, value-less, value-same, value-more, behind-trans}
 use Rattle.model.proofs.Valid.{Valid}
 use Rattle.model.proofs.Diverge.{diverge, DivergesFrom, Diverging, diverging-put}

@@ -8,7 +8,7 @@ use lib.Dec.{leb, ltb}
 use lib.ListN.{length, length-set, length-append}
 use native.Mathlib.Omega.{arith}
 use borrow.Author.Tests.{ltb-false, leb-true, leb-false, lt-ltb, le-ltb, not-false}
-use Rattle.model.specs.Base.{Bytes, text, any, firstFrom, number, isDecimal, worth}
+use Rattle.model.specs.Base.{Bytes, text, any, firstFrom, number, isDecimal, worth, All}
 use Rattle.model.specs.Limits.{maxUsers, maxQuota, maxBindings, maxRules, maxText, maxFields}
 use Rattle.model.specs.Names.{isName, isKey, isPlain}
 use Rattle.model.specs.Fields.{Fields}
@@ -20,7 +20,7 @@ use Rattle.model.specs.Tables.{Binding, User, Rule, Tables, userNamed, u
 use Rattle.model.specs.Rights.{isWrite, conflict, conflictsWith}
 use Rattle.model.specs.Opening.{State, emptyLogins, Texts, fault, checkLength, from, conflictFrom, refuseAt, checkPolicy, openTables, quotas, openRecord, opened}
 use Rattle.model.specs.Claims.{withRecord}
-use Rattle.model.proofs.Lists.{by-cases, and-both, refused-done, done-same, none-some, if-done, or-done, bind-done, then-done, past-if, past-or, All, all-append, all-set, any-false, false-any}
+use Rattle.model.proofs.Lists.{by-cases, and-both, refused-done, done-same, none-some, if-done, or-done, bind-done, then-done, past-if, past-or, all-append, all-set, any-false, false-any}
 use Rattle.model.proofs.Diverge.{Pairs, pairs-last, pairs-all}
 use Rattle.model.proofs.Conflict.{conflict-flip, conflict-self}
 

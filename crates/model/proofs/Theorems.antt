@@ -9,7 +9,7 @@ use lib.ListN.{length, getD, replicate}
 use native.Mathlib.Omega.{arith}
 use native.Mathlib.Nat.{zero-add}
 use borrow.Author.Tests.{eqb-true, eq-eqb, le-ltb}
-use Rattle.model.specs.Base.{Bytes, keep, sum, range, _==_}
+use Rattle.model.specs.Base.{Bytes, keep, sum, range, _==_, All}
 use Rattle.model.specs.Limits.{maxFields, maxUsers, maxText, maxCopy, listRoom, perUser}
 use Rattle.model.specs.Fields.{Keys, Field, Fields, orderPath, byOrder, valueAt, fieldOf}
 use Rattle.model.specs.RecordText.{Members, treeOf, storeMembers}
@@ -24,7 +24,7 @@ use Rattle.model.specs.Runs.{end, only, seen, seenFields}
 use Rattle.model.specs.Program.{lineBytes, printRun, serveWith, serve}
 use Rattle.model.specs.Claims
 use Rattle.model.specs.Claims.{Reached, spelled, SameTables, isValid, isSorted, begins, noneBegins, withRecord, SavedFor, LongEnough, TwoRuns}
-use Rattle.model.proofs.Lists.{by-cases, never, both-and, none-some, All, true-all, all-every, all-getD, all-replicate, all-keep, all-imp, all-range, any-range, false-any, elem-below, keep-agree, map-agree, length-keep-le}
+use Rattle.model.proofs.Lists.{by-cases, never, both-and, none-some, true-all, all-every, all-getD, all-replicate, all-keep, all-imp, all-range, any-range, false-any, elem-below, keep-agree, map-agree, length-keep-le}
 use Rattle.model.proofs.Order.{path-orders, by-three, after-before, Before, Sorted, behind-trans, value-less, value-same, value-more, value-behind}
 use Rattle.model.proofs.Valid.{Valid}
 use Rattle.model.proofs.Reading.{some-same}

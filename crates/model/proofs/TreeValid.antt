@@ -8,13 +8,13 @@ use lib.ListN.{length, length-append}
 use native.Mathlib.Nat.{add-zero, zero-add, add-assoc}
 use native.Mathlib.Omega.{arith}
 use borrow.Author.Tests.{le-leb}
-use Rattle.model.specs.Base.{Bytes, any, among, isSome, _==_, _>>=_, _<|>_, within}
+use Rattle.model.specs.Base.{Bytes, any, among, isSome, _==_, _>>=_, _<|>_, within, All}
 use Rattle.model.specs.Limits.{maxFields, maxDepth}
 use Rattle.model.specs.Names.{isKey}
 use Rattle.model.specs.Values.{Value, validValue, readValue}
 use Rattle.model.specs.Fields.{Keys, validKeys, Field, Fields, orderPath, valueAt, holds, store, put, fieldOf}
 use Rattle.model.specs.RecordText.{skip, Node, leaf, object, Members, noMembers, member, readKey, readLeaf, readMore, readMembers, asNode, readObject, readEmpty, treeOf, keysIn, twiceIn, twice, countIn, count, storeNode, storeMembers}
-use Rattle.model.proofs.Lists.{never, or-neither, none-some, All, all-imp, all-append, all-take, true-all}
+use Rattle.model.proofs.Lists.{never, or-neither, none-some, all-imp, all-append, all-take, true-all}
 use Rattle.model.proofs.Order.{path-orders, by-three, Sorted, sorted-put, sorted-take, all-put, value-less, holds-more, one, absent, length-put, store-fits}
 use Rattle.model.proofs.Reading.{some-same, bind-some, check-some, either-some, after-cases}
 use Rattle.model.proofs.Valid.{Valid}

@@ -30,6 +30,11 @@ unfoldable pub all : {A : Type 0} → (A → Bool) → List A → Bool
 all p [] = true
 all p (x ∷ xs) = let r = all p xs in p x && r
 
+-- a property has every element
+abbrev pub All : {A : Type 0} → (A → Type 0) → List A → Type 0
+All P [] = Unit {0}
+All P (x ∷ xs) = P x × All P xs
+
 -- the elements that pass, in their order
 unfoldable pub keep : {A : Type 0} → (A → Bool) → List A → List A
 keep p [] = []

@@ -1,14 +1,12 @@
 -- Three tables' texts opened in one memory: the readings, one after the other, and a conflict decide, in the order of the definition.
-use Prim.Native.Nat.{ℕ, suc, _-_, _≤_, _<_}
+use Prim.Native.Nat.{ℕ, suc, _≤_}
 use mathlib.Core.Path.{_≡_, refl, sym, ap, _∙_}
 use mathlib.Core.Bool.{_&&_}
 use mathlib.Core.Option.{Option, none, some}
 use mathlib.Core.List.{List, [], _∷_, _++_}
 use native.Mathlib.Omega.{arith}
 use borrow.Author.Tests.{not-false}
-use lib.ListN.{length, getD, set, take, drop, length-set}
-use lib.Seq.{getD-drop, getD-set-same, getD-set-other}
-use Rattle.layout.proofs.Used.{table-none}
+use lib.ListN.{drop}
 use Rattle.model.specs.Base.{Bytes, any}
 use Rattle.model.specs.Refusals.{Result, refused, done, _>>=_, _>>_}
 use Rattle.model.specs.Table.{Table, Line, ended, broken, lines, split, inLine, isHead, readRow, readRows, readLines, readTable}
@@ -16,14 +14,13 @@ use Rattle.model.specs.Tables.{User, Rule, Tables}
 use Rattle.model.specs.Rights.{isWrite, conflictsWith}
 use Rattle.model.specs.Opening.{Fault, fault, from, conflictFrom, refuseAt, checkPolicy, openTables}
 use Rattle.model.proofs.Lists.{by-cases, refused-done, done-same, none-some, if-done}
-use Rattle.tables.specs.Memory.{userRow, usersBytes, ruleRow, tablesBytes, userIn, usersIn, ruleIn, policyIn, tablesIn}
+use Rattle.tables.specs.Memory.{usersBytes, policyIn, tablesIn}
 use Rattle.tables.specs.Grants.{lineNumber}
-use Rattle.tabletext.specs.Reading.{inUsers, inPolicy, tableOf, tableAnswer, ifDone, rowsAsFar, linesAsFar, tablesAsFar, Answered}
+use Rattle.tabletext.specs.Reading.{inUsers, inPolicy, tableOf, tableAnswer, ifDone, rowsAsFar, linesAsFar, tablesAsFar, ReadsTable}
 use Rattle.tabletext.specs.declared.read.Table.the-variants.{Users, Environments, Policy}
 use Rattle.tabletext.specs.declared.read.TableRead.{TableRead}
 use Rattle.tabletext.specs.declared.read.TableRead.the-variants as table-read
 use Rattle.opening.specs.Answers.{textsOf}
-use Rattle.model.specs.Limits.{maxUsers, maxRules}
 
 -- ── A text read to its end: what its lines added is what was read ──
 module _ {A : Type 0} (t : Table A) where
@@ -46,7 +43,7 @@ module _ {A : Type 0} (t : Table A) where
       rw (not-false (isHead t (split l)) head) (rows-far (split l) 2 a b ls rest)
 
   -- the result that an answer tells
-  module _ (a b : A) (s : Bytes) {r : TableRead} (answered : Answered t a s r b) where
+  module _ (a b : A) (s : Bytes) {r : TableRead} (answered : ReadsTable t a s r b) where
     read-done : r ≡ table-read.Done → readTable t a s ≡ done b
     unfolding readTable tablesAsFar
     read-done told = go (readTable t a s) refl (sym told ∙ answered .0)
@@ -157,7 +154,7 @@ module _ (users environments policy : Bytes) where
       table-in (λ rs. whole rs vs) _ _ refl (λ val rs. refl) 3 [] policy _ _ (λ rs. refl))))
 
   -- from no tables to the tables m₁ with the answer r₁: a refusal decides
-  module _ {m₀ : Tables} (start : m₀ ≡ noTables) {m₁ : Tables} {r₁ : TableRead} (first : Answered (tableOf Users) m₀ users r₁ m₁) where
+  module _ {m₀ : Tables} (start : m₀ ≡ noTables) {m₁ : Tables} {r₁ : TableRead} (first : ReadsTable (tableOf Users) m₀ users r₁ m₁) where
     started : opening ≡ (from 1 (readTable (tableOf Users) m₀ users) >>= withEnvironments)
     started = in-both m₀ start
 
@@ -171,7 +168,7 @@ module _ (users environments policy : Bytes) where
       users-done = started ∙ rw (read-done _ _ m₁ users first told₁)
 
       -- then to m₂ with the answer r₂
-      module _ {m₂ : Tables} {r₂ : TableRead} (second : Answered (tableOf Environments) m₁ environments r₂ m₂) where
+      module _ {m₂ : Tables} {r₂ : TableRead} (second : ReadsTable (tableOf Environments) m₁ environments r₂ m₂) where
         pub environments-refused : {e n : ℕ} → r₂ ≡ table-read.Refused e n → refused (fault e 2 n) ≡ opening
         unfolding withEnvironments from _>>=_
         environments-refused told = sym (users-done ∙ rw (read-refused _ m₁ m₂ environments second told))
@@ -182,7 +179,7 @@ module _ (users environments policy : Bytes) where
           environments-done = users-done ∙ rw (read-done _ m₁ m₂ environments second told₂)
 
           -- then to the tables in the bytes s with the answer r₃
-          module _ (s : Bytes) {r₃ : TableRead} (third : Answered (tableOf Policy) m₂ policy r₃ (tablesIn s)) where
+          module _ (s : Bytes) {r₃ : TableRead} (third : ReadsTable (tableOf Policy) m₂ policy r₃ (tablesIn s)) where
             pub policy-refused : {e n : ℕ} → r₃ ≡ table-read.Refused e n → refused (fault e 3 n) ≡ opening
             unfolding withPolicy from _>>=_
             policy-refused told = sym (environments-done ∙ rw (read-refused _ m₂ (tablesIn s) policy third told))

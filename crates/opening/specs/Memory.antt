@@ -24,6 +24,6 @@ stateIn tables logins fields = record { tables = tablesIn tables; loginStates = 
 abbrev pub stateOf : Arrays → State
 stateOf a = stateIn (a .tables) (a .logins) (a .fields)
 
--- the arrays of a state without logins: written as it is, byte for byte, with zeros wherever nothing is said
+-- the arrays of a state in which nobody has logged in yet: tables and fields byte for byte, with zeros wherever nothing is said
 unfoldable pub encodeOpened : State → Arrays
 encodeOpened s = arrays (encodeTables (s .tables)) (replicate loginNumbers 0) (encodeFields (s .fields))

@@ -4,7 +4,7 @@ use layout::name;
 use layout::name::KEY_ROW;
 ghost use mathlib.Core.Path.{_≡_};
 ghost use mathlib.Core.List.{[], _∷_, _++_};
-ghost use Prim.Native.Nat.{_+_, _*_, _≤_, _<_};
+ghost use Prim.Native.Nat.{_+_, _*_, _≤_};
 ghost use lib.ListN.{length, take, drop};
 ghost use Rattle.layout.specs.Layout.{keyRow, nameIn, counted, Keeps, CanonicalKeys};
 ghost use Rattle.model.specs.Limits.{maxKey, maxDepth};

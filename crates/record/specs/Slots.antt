@@ -1,4 +1,4 @@
--- What the bytes of a table of fields mean, whatever they are.
+-- What the bytes of a table of fields mean, whatever they are; and the bytes of fields.
 use Prim.Native.Nat.{ℕ, _+_, _*_, min}
 use mathlib.Core.Path.{_≡_}
 use mathlib.Core.Option.{Option, none, some}
@@ -10,7 +10,7 @@ use Rattle.model.specs.Base.{Bytes}
 use Rattle.model.specs.Limits.{maxString, maxFields}
 use Rattle.model.specs.Values.{Value, truth, readValue, valueText, validValue}
 use Rattle.model.specs.Fields.{Field, Fields, fieldOf}
-use Rattle.paths.specs.Layout.{pathSlot, pathIn, encodePath}
+use Rattle.paths.specs.Layout.{pathSlot, pathIn, encodePath, CanonicalPath}
 
 -- ── Sizes, in bytes ──
 -- room for the text of a value: the longest string in quotes
@@ -37,10 +37,11 @@ textIn s = take (min (getD s pathSlot 0) valueRoom) (drop (1 + pathSlot) s)
 unfoldable pub valueIn : Bytes → Value
 valueIn s = valueOr (readValue (textIn s))
 
--- what a slot holds of a value that was written into it: all of it, if its text has room
+-- as much of a value's text as a slot has room for
 abbrev pub heldText : Value → Bytes
 heldText v = take valueRoom (valueText v)
 
+-- what a slot holds of a value that was written into it: all of it, if its text has room
 unfoldable pub heldValue : Value → Value
 heldValue v = valueOr (readValue (heldText v))
 
@@ -75,4 +76,4 @@ slotOf path v = path ++ encodeName (1 + valueRoom) (heldText v)
 
 -- a path written as its keys are, and a value within its limits
 abbrev pub Proper : Bytes → Value → Type 0
-Proper path v = Canonical encodePath pathIn path × (validValue v ≡ true)
+Proper path v = CanonicalPath path × (validValue v ≡ true)

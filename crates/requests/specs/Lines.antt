@@ -11,8 +11,7 @@ use Rattle.model.specs.Paths.{keysText}
 use Rattle.model.specs.Requests as model
 use Rattle.lexical.specs.declared.class.End.{End}
 use Rattle.lexical.specs.declared.class.End.the-variants as end
-use Rattle.layout.specs.Layout.{Canonical}
-use Rattle.paths.specs.Layout.{pathIn, encodePath}
+use Rattle.paths.specs.Layout.{CanonicalPath}
 use Rattle.values.specs.Scalars.{valueIn, InText}
 use Rattle.requests.specs.declared.Ask.{Ask}
 use Rattle.requests.specs.declared.Ask.the-variants.{Get, Push}
@@ -73,5 +72,5 @@ pub record ReadsAs (read : Bytes → Option model.Request) (s : Bytes) (p : Keys
 abbrev pub SlotAfter : Parsed → Bytes → Bytes → Type 0
 SlotAfter (Is (Login from m)) before now = now ≡ before
 SlotAfter (Is (InSession n Get)) before now = now ≡ before
-SlotAfter (Is (InSession n (Push at v))) before now = Canonical encodePath pathIn now
+SlotAfter (Is (InSession n (Push at v))) before now = CanonicalPath now
 SlotAfter Bad before now = now ≡ before

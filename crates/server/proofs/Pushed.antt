@@ -12,21 +12,21 @@ use Rattle.model.specs.Base.{Bytes}
 use Rattle.model.specs.Limits.{maxUsers, maxDepth, maxLine, listRoom}
 use Rattle.model.specs.Values.{Value, truth, validValue}
 use Rattle.model.specs.Fields.{Keys, validKeys, fieldOf}
-use Rattle.model.specs.Refusals.{Result, refused, done, _>>_, refuse_if_}
+use Rattle.model.specs.Refusals.{Result, refused, _>>_, refuse_if_}
 use Rattle.model.specs.Tables.{userAt}
 use Rattle.model.specs.Opening.{State}
 use Rattle.model.specs.Requests as model
-use Rattle.model.specs.Serving.{Change, stores, decidePush, roomFor, decide, apply, notified, shown, answerOf, over, conclude, line, decideLine, decision}
+use Rattle.model.specs.Serving.{Change, decidePush, roomFor, decide, apply, notified, shown, answerOf, over, conclude, line, decideLine, decision}
 use Rattle.model.proofs.Lists.{and-both, elem-below}
 use Rattle.model.proofs.Reading.{check-some, within-bounds}
 use Rattle.model.proofs.Sound.{push-valid}
 use Rattle.model.proofs.Decisions.{decided}
-use Rattle.paths.specs.Layout.{pathIn, encodePath}
-use Rattle.layout.specs.Layout.{keyRow, nameIn, isEmpty, Canonical}
+use Rattle.paths.specs.Layout.{pathIn, CanonicalPath}
+use Rattle.layout.specs.Layout.{keyRow, nameIn, isEmpty}
 use Rattle.layout.proofs.Counts.{length-counted}
 use Rattle.tables.specs.Memory.{userRow, userIn, usersIn, tablesIn}
 use Rattle.layout.proofs.Used.{length-table, used-fit}
-use Rattle.record.specs.Slots.{fieldsIn, slotOf}
+use Rattle.record.specs.Slots.{fieldsIn, slotOf, Proper}
 use Rattle.record.specs.declared.table.Place.{Place}
 use Rattle.record.specs.Search.{placeIn, storedBytes, storedField, storedAt}
 use Rattle.record.proofs.Slots.{held-valid, slot-encoded}
@@ -84,7 +84,7 @@ push-asked s path {n} {v} h =
 
 -- and its slot has the bytes of its path
 pub slot-asked : (before path : Bytes) {r : Parsed} {asked : Request} {n at : ℕ} {v : Scalar} → r ≡ Is asked → asked ≡ InSession n (Push at v)
-    → SlotAfter r before path → Canonical encodePath pathIn path
+    → SlotAfter r before path → CanonicalPath path
 slot-asked before path is kind slot = rw (is, kind) at slot
 
 -- ── PUSH: the list's length decides first, then the ruling ──
@@ -126,12 +126,12 @@ module _ (tables : Bytes) (logins : List ℕ) (fields : Bytes) (n : ℕ) (path :
       pub push-done : (b : Bytes) (l : List ℕ) → listRoom ≤ length l → {told : ℕ} {l₁ : List ℕ} (logins₁ : List ℕ) (fields₁ : Bytes)
           → Listed tables logins i path l told l₁ → StateStored logins i (stateOf a) logins₁
           → (v : Value) → fieldsIn fields₁ ≡ storedAt path v (fieldsIn fields) → fields₁ ≡ storedBytes at (slotOf path v) fields
-          → isEmpty path ≡ false → Canonical encodePath pathIn path → validValue v ≡ true → (text : Bytes) (from : ℕ) → PushStands text p from v
+          → isEmpty path ≡ false → Proper path v → (text : Bytes) (from : ℕ) → PushStands text p from v
           → Leaves (pushing v (length l)) text (arrays tables logins fields) (lent b l) (Accepted told from) (arrays tables logins₁ fields₁) (lent b l₁)
       unfolding outcomeIn stateIn conclude answerOf apply shown notified over storedAt storedField
-      push-done b l h logins₁ fields₁ reached state v stored bytes keyed exact valid text from stands = rw (push-ruled is (length l) h v) (record {
-        is = rw (reached .listed, reached .counted, state .states, stored, keyed, held-valid v valid, receivers-of (stateIn tables logins fields) i p);
+      push-done b l h logins₁ fields₁ reached state v stored bytes keyed proper text from stands = rw (push-ruled is (length l) h v) (record {
+        is = rw (reached .listed, reached .counted, state .states, stored, keyed, held-valid v (proper .1), receivers-of (stateIn tables logins fields) i p);
         logins = state .numbers;
-        fields = bytes ∙ rw (push-place, slot-encoded path v (exact, valid));
+        fields = bytes ∙ rw (push-place, slot-encoded path v proper);
         position = stands;
       })

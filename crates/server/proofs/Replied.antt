@@ -15,7 +15,7 @@ use Rattle.model.specs.Fields.{Fields}
 use Rattle.model.specs.SavedText.{saved}
 use Rattle.model.specs.Refusals.{Result, refused, done, _>>=_, _>>_, refuse_if_}
 use Rattle.model.specs.Requests.{login, inSession, get}
-use Rattle.model.specs.Serving.{Change, setsLogin, shows, stores, loginAt, copyOf, readable, copyFor, asker}
+use Rattle.model.specs.Serving.{Change, shows, loginAt, copyOf, readable, copyFor}
 use Rattle.model.specs.Serving.{decideShow, decideLogin, decideGet, decideSave, roomFor, decide, decision, bufferOf, listOf}
 use Rattle.model.specs.Serving.{apply, notified, shown, answerOf, over, unchanged, conclude, save, outcome}
 use Rattle.model.proofs.Decisions.{login-change}

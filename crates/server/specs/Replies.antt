@@ -1,12 +1,12 @@
 -- Document 01's number and values for each reply, and what a request and a save leave.
 use Prim.Native.Nat.{ℕ, _≤_}
 use mathlib.Core.Path.{_≡_}
-use mathlib.Core.Bool.{true, false}
+use mathlib.Core.Bool.{false}
 use mathlib.Core.List.{List, []}
 use lib.ListN.{length}
 use Rattle.model.specs.Base.{Bytes}
 use Rattle.model.specs.Limits.{maxLine}
-use Rattle.model.specs.Values.{Value, validValue}
+use Rattle.model.specs.Values.{Value}
 use Rattle.model.specs.Fields.{Keys}
 use Rattle.model.specs.Refusals.{Result, refused, done}
 use Rattle.model.specs.Opening.{State}
@@ -14,8 +14,9 @@ use Rattle.model.specs.Requests as model
 use Rattle.model.specs.Serving.{Change, setsLogin, shows, stores, roomFor, decide, Answer, refusal, session, length-is, accepted, line, save, decision, Outcome, conclude, outcome}
 use Rattle.values.specs.declared.value.Scalar.{Scalar}
 use Rattle.values.specs.Scalars.{valueIn, InText}
-use Rattle.layout.specs.Layout.{isEmpty, Canonical}
-use Rattle.paths.specs.Layout.{pathIn, encodePath}
+use Rattle.layout.specs.Layout.{isEmpty}
+use Rattle.paths.specs.Layout.{pathIn}
+use Rattle.record.specs.Slots.{Proper}
 use Rattle.record.specs.Search.{storedField}
 use Rattle.sessions.specs.Logins.{numbersAfter}
 use Rattle.opening.specs.Memory.{Arrays, arrays, stateIn, stateOf}
@@ -101,14 +102,13 @@ GetServed a n before r after = (text : Bytes) (l : List ℕ) → Answered a text
 abbrev pub PushServed : Arrays → Bytes → ℕ → Keys → Value → List ℕ → Reply → Arrays → List ℕ → Type 0
 PushServed before text n p v given r after left = (b : Bytes) → Answered before text (model.inSession n (model.push p v)) (lent b given) r after (lent b left)
 
--- a path in its bytes and a value within its limits, both standing in the line from a position on
+-- a path in canonical bytes and a value within its limits, both standing in the line from a position on
 pub record Storable (path text : Bytes) (at : ℕ) (value : Scalar) : Type 0 where
   pub short : length text ≤ maxLine
   pub inside : InText value text
   pub stands : PushStands text (pathIn path) at (valueIn text value)
   pub keyed : isEmpty path ≡ false
-  pub exact : Canonical encodePath pathIn path
-  pub valid : validValue (valueIn text value) ≡ true
+  pub proper : Proper path (valueIn text value)
 
 -- a save, whatever the tables and the login states, at which it does not look
 abbrev pub Saved : Bytes → Bytes → Reply → Bytes → Type 0

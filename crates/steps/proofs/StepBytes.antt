@@ -2,14 +2,14 @@
 use Prim.Native.Nat.{ℕ}
 use mathlib.Core.Path.{_≡_, refl, sym, ap, _∙_}
 use mathlib.Core.Option.{some}
-use mathlib.Core.List.{List, [], _∷_}
+use mathlib.Core.List.{[], _∷_}
 use lib.ListN.{replicate}
 use Rattle.model.specs.Base.{Bytes, joined}
 use Rattle.model.specs.Limits.{maxListed}
 use Rattle.model.specs.Paths.{Step}
 use Rattle.model.proofs.Lists.{by-cases, none-some}
 use Rattle.model.proofs.Reading.{some-same}
-use Rattle.layout.specs.Layout.{keyRow, nameIn, counted, encodeName, encodeCounted, encodeKeys, CanonicalKeys}
+use Rattle.layout.specs.Layout.{keyRow, nameIn, encodeName, encodeCounted, encodeKeys, CanonicalKeys}
 use Rattle.layout.proofs.Canonical.{counted-encoded}
 use Rattle.steps.specs.declared.step.Operator.the-variants.{Equals, In}
 use Rattle.steps.specs.declared.step.Kind.{Kind}

@@ -1,4 +1,4 @@
--- What a user's environment lines in memory mean.
+-- What a user's environment lines in memory mean; and their bytes.
 use Prim.Native.Nat.{ℕ, _+_, _*_}
 use mathlib.Core.List.{List, _++_}
 use lib.ListN.{take, drop}

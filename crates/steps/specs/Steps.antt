@@ -1,4 +1,4 @@
--- What a step of the code means, and the answers of its readers.
+-- What a step of the code means, the bytes of steps, and the answers of their readers.
 use Prim.Native.Nat.{ℕ, _+_, _*_}
 use mathlib.Core.Path.{_≡_}
 use mathlib.Core.Option.{Option, none, some}
@@ -80,15 +80,16 @@ abbrev pub rowOf : code.Step → Bytes
 rowOf t = byteOf (t .kind) ∷ t .names
 
 -- ── Every byte ──
-abbrev pub operatorIn : paths.Operator → Operator
-operatorIn paths.equals = Equals
-operatorIn paths.isIn = In
+-- the code's operator for the model's
+abbrev pub operatorFor : paths.Operator → Operator
+operatorFor paths.equals = Equals
+operatorFor paths.isIn = In
 
 -- a step: the byte of its kind, and the names beside it
 unfoldable pub encodeStep : Step → Bytes
 encodeStep (names ns) = byteOf Names ∷ encodeKeys maxListed ns
 encodeStep wildcard = byteOf Wildcard ∷ encodeKeys maxListed []
-encodeStep (environment o n) = byteOf (Environment (operatorIn o)) ∷ encodeKeys maxListed (n ∷ [])
+encodeStep (environment o n) = byteOf (Environment (operatorFor o)) ∷ encodeKeys maxListed (n ∷ [])
 
 unfoldable pub encodeSteps : paths.Steps → Bytes
 encodeSteps ts = encodeCounted encodeStep stepRow maxDepth ts

@@ -13,7 +13,7 @@ use Rattle.rows.proofs.Rows.{rows-take}
 use Rattle.rows.proofs.Parts.{part-at}
 use Rattle.model.specs.Base.{Bytes, if_then_else_, firstFrom, _==_}
 use Rattle.model.specs.Limits.{maxUsers}
-use Rattle.model.specs.Tables.{User, userAt, userNamed}
+use Rattle.model.specs.Tables.{User, userAt}
 use Rattle.tables.specs.Memory.{userRow, usersBytes, quotaAt, userIn, usersIn}
 use Rattle.layout.proofs.Used.{used-fit, used-last, used-more, byte-empty, byte-full, row-left, rows-over}
 

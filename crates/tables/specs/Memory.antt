@@ -1,4 +1,4 @@
--- What the bytes of the tables mean, whatever they are.
+-- What the bytes of the tables mean, whatever they are; and the bytes of tables.
 use Prim.Native.Nat.{ℕ, _+_, _*_, _/_, _%_}
 use mathlib.Core.Path.{_≡_}
 use mathlib.Core.Option.{Option, none, some}

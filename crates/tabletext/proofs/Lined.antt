@@ -20,7 +20,7 @@ use Rattle.lines.proofs.Lines.{line-ended, line-broken, lines-over}
 use Rattle.tabletext.specs.declared.row.RowRead.{RowRead}
 use Rattle.tabletext.specs.declared.row.RowRead.the-variants as row-read
 use Rattle.tabletext.specs.declared.read.TableRead.the-variants as table-read
-use Rattle.tabletext.specs.Reading.{rowAnswer, keptOr, ifDone, rowsAsFar, linesAsFar, tablesAsFar, Answered}
+use Rattle.tabletext.specs.Reading.{rowAnswer, keptOr, ifDone, rowsAsFar, linesAsFar, tablesAsFar, ReadsTable}
 
 -- ── A head has the columns cs from the column j on ──
 abbrev pub hasFrom : List Bytes → List Bytes → ℕ → Bool
@@ -70,7 +70,7 @@ pub record Left {A : Type 0} (t : Table A) (a₀ : A) (s : Bytes) (hs : List Byt
 
 -- the head ends at e: the text is over there, or the head is another one, or it is the table's
 module _ {A : Type 0} (t : Table A) (a : A) (s : Bytes) (e : ℕ) (is : e ≡ runEnd (isNot 0x0A) s 0) where
-  pub head-broken : e ≡ length s → Answered t a s (table-read.Refused 1 0) a
+  pub head-broken : e ≡ length s → ReadsTable t a s (table-read.Refused 1 0) a
   unfolding readTable readLines tablesAsFar linesAsFar
   head-broken q =
       by-cases (ltb 0 (length s))
@@ -81,7 +81,7 @@ module _ {A : Type 0} (t : Table A) (a : A) (s : Bytes) (e : ℕ) (is : e ≡ ru
     head-ended : lines s ≡ ended (take e s) ∷ lines (drop (e + 1) s)
     head-ended = line-ended s 0 e is ends ∙ rw sub-zero
 
-    pub head-other : isHead t (split (take e s)) ≡ false → Answered t a s (table-read.Refused 1 0) a
+    pub head-other : isHead t (split (take e s)) ≡ false → ReadsTable t a s (table-read.Refused 1 0) a
     unfolding readTable readLines tablesAsFar linesAsFar _>>_ refuse_if_
     head-other f = rw (head-ended, f) (refl, refl)
 
@@ -91,19 +91,19 @@ module _ {A : Type 0} (t : Table A) (a : A) (s : Bytes) (e : ℕ) (is : e ≡ ru
 
 -- what is left at a line: nothing; a line that the text's end breaks; one that ends at e, with the answer r and with b after it
 module _ {A : Type 0} (t : Table A) (a₀ : A) (s : Bytes) (hs : List Bytes) (n at : ℕ) (a : A) (left : Left t a₀ s hs n at a) where
-  pub left-none : length s ≤ at → Answered t a₀ s table-read.Done a
+  pub left-none : length s ≤ at → ReadsTable t a₀ s table-read.Done a
   unfolding readRows rowsAsFar
   left-none h = rw (left .answer, left .added, lines-over s at h) (refl, refl)
 
   module _ (e : ℕ) (is : e ≡ runEnd (isNot 0x0A) s at) where
-    pub left-broken : at < length s → e ≡ length s → Answered t a₀ s (table-read.Refused 2 n) a
+    pub left-broken : at < length s → e ≡ length s → ReadsTable t a₀ s (table-read.Refused 2 n) a
     unfolding readRows rowsAsFar readRow inLine ifDone _>>=_
     left-broken p q = rw (left .answer, left .added, line-broken s at e is p q) (refl, refl)
 
     module _ (ends : e < length s) (r : RowRead) (b : A)
         (answer : r ≡ rowAnswer (readRow t hs a (ended (take (e - at) (drop at s)))))
         (kept : b ≡ keptOr a (readRow t hs a (ended (take (e - at) (drop at s))))) where
-      pub left-refused : (d : ℕ) → r ≡ row-read.Refused d → Answered t a₀ s (table-read.Refused d n) b
+      pub left-refused : (d : ℕ) → r ≡ row-read.Refused d → ReadsTable t a₀ s (table-read.Refused d n) b
       unfolding readRows rowsAsFar inLine ifDone keptOr _>>=_
       left-refused d told =
           let q = answer-refused (readRow t hs a (ended (take (e - at) (drop at s)))) d (sym told ∙ answer) in

@@ -14,10 +14,10 @@ use Rattle.layout.proofs.Changed.{used-set, table-set}
 use Rattle.layout.proofs.Used.{used-at, table-fit, length-table}
 use Rattle.layout.proofs.Canonical.{canonical-set}
 use Rattle.rows.proofs.Parts.{length-part}
-use Rattle.model.specs.Base.{Bytes, firstFrom}
+use Rattle.model.specs.Base.{Bytes, firstFrom, All}
 use Rattle.model.specs.Limits.{maxUsers, maxBindings}
 use Rattle.model.specs.Tables.{Binding, User, userAt, userNamed, bound}
-use Rattle.model.proofs.Lists.{All, by-cases, none-some, elem-below}
+use Rattle.model.proofs.Lists.{by-cases, none-some, elem-below}
 use Rattle.model.proofs.Reading.{some-same}
 use Rattle.layout.specs.Layout.{inUse, isEmpty, nameRow, nameIn, Keeps}
 use Rattle.steps.specs.Environments.{bindingRow, bindingsBytes, bindingIn, bindingsIn, CanonicalBindings}

@@ -79,5 +79,5 @@ module _ {A : Type 0} (t : Table A) where
   tablesAsFar a s = linesAsFar a (lines s)
 
 -- a table's text: the answer r, and what the lines before a refusal made of what there was
-abbrev pub Answered : {A : Type 0} → Table A → A → Bytes → TableRead → A → Type 0
-Answered t a₀ s r a = (r ≡ tableAnswer (readTable t a₀ s)) × (a ≡ tablesAsFar t a₀ s)
+abbrev pub ReadsTable : {A : Type 0} → Table A → A → Bytes → TableRead → A → Type 0
+ReadsTable t a₀ s r a = (r ≡ tableAnswer (readTable t a₀ s)) × (a ≡ tablesAsFar t a₀ s)

@@ -18,7 +18,7 @@ ghost use Rattle.model.specs.Limits.{maxText};
 ghost use Rattle.model.specs.Table.{split, sameLength, isHead, readRow, ended};
 ghost use Rattle.layout.specs.Layout.{Keeps};
 ghost use Rattle.tables.specs.Memory.{tablesBytes, tablesIn, CanonicalTables};
-ghost use Rattle.tabletext.specs.Reading.{valuesIn, Adds, tableOf, Answered};
+ghost use Rattle.tabletext.specs.Reading.{valuesIn, Adds, tableOf, ReadsTable};
 
 pub enum Table {
     Users,
@@ -93,7 +93,7 @@ fn read_row(t: Table, tables: &mut [u8; TABLES], head: &[u8], line: &[u8]) -> Ro
 // A table's text into the tables: what the lines before a refusal added stays.
 pub fn read_table(t: Table, tables: &mut [u8; TABLES], s: &[u8]) -> TableRead
     requires { ⌜ length (now s) ≤ maxText ⌝ }
-    ensures { λ r. ⌜ Answered (tableOf t) (tablesIn (now (tables .entry))) (now (s .entry)) r (tablesIn (now (tables .exit))) ⌝ }
+    ensures { λ r. ⌜ ReadsTable (tableOf t) (tablesIn (now (tables .entry))) (now (s .entry)) r (tablesIn (now (tables .exit))) ⌝ }
     ensures { λ _. ⌜ Keeps CanonicalTables (now (tables .entry)) (now (tables .exit)) ⌝ }
 {
     let end = until(s, 0, b'\n');

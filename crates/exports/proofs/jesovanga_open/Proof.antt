@@ -19,13 +19,13 @@ returns : tie.Need-returns
 returns c =
     let o = c .before .before .«open» .ensures in
     let (n, t, l) = done-as _ (sym (c .enum-told .given .1) ∙ o .answered) in
-    record { number = n; source = t; line = l; state = o .state; bytes = o .bytes; accepted = zero-accepted _ n }
+    record { number = n; source = t; line = l; state = o .state; bytes = o .bytes; zero-done = zero-accepted _ n }
 
 returns-2 : tie.Need-returns-2
 returns-2 c =
     let o = c .before .before .before .«open» .ensures in
     let (n, t, l) = refused-as _ _ _ _ (sym (c .before .number .given .1) ∙ o .answered) in
-    record { number = n; source = t; line = l; state = o .state; bytes = o .bytes; accepted = zero-accepted _ n }
+    record { number = n; source = t; line = l; state = o .state; bytes = o .bytes; zero-done = zero-accepted _ n }
 
 pub jesovanga-open-spec : {M : Type 1} → statement M
 jesovanga-open-spec =

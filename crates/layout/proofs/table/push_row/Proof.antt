@@ -1,6 +1,5 @@
 -- The row is written behind the last, and the row behind it is made empty; where there is no room, nothing is written.
 use Prim.Native.Nat.{_+_, _*_, _≤_}
-use mathlib.Core.Path.{sym, _∙_}
 use native.Mathlib.Omega.{arith}
 use lib.ListN.{length, length-take, length-drop}
 use Rattle.layout.proofs.Changed.{copied-in, row-inside, used-pushed, used-full}

@@ -62,7 +62,7 @@ returns-3 c b =
     let long = d .before .before .before .if1 .left in
     let given = d .before .before .before .before .before .before .pre in
     let (stored, bytes) = c .store-value-at .ensures in
-    push-done _ _ _ _ _ (d .decide .ensures) (r .ruling2 .given .1) b _ long _ _ (l .put-receivers .ensures) (p .put-state .ensures) _ stored bytes (given .keyed) (given .exact) (given .valid) _ _ (given .stands)
+    push-done _ _ _ _ _ (d .decide .ensures) (r .ruling2 .given .1) b _ long _ _ (l .put-receivers .ensures) (p .put-state .ensures) _ stored bytes (given .keyed) (given .proper) _ _ (given .stands)
 
 pub push-spec : {M : Type 1} → statement M
 push-spec =

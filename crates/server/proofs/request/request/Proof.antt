@@ -61,7 +61,7 @@ push-requires c κs =
     let kind = asks-push a in
     let (keyed, valid) = push-asked _ _ (asks _ _ parsed is kind) in
     let (inside, stands) = asked-stands _ _ parsed is kind in
-    record { short = asked-short _ _ parsed is kind; inside = inside; stands = stands; keyed = keyed; exact = slot-asked _ _ is kind slot; valid = valid }
+    record { short = asked-short _ _ parsed is kind; inside = inside; stands = stands; keyed = keyed; proper = (slot-asked _ _ is kind slot, valid) }
 
 returns-2 : tie.Need-returns-2
 returns-2 c =
