@@ -207,24 +207,24 @@ by-decision P s a f g = go (decision s a) refl
     go (refused e) h = f e
     go (done c) h = g c (decided-act s a c h)
 
--- ── What is lent has room ──
--- the list to a request that stores, the buffer to any other
-abbrev Lent : Option Field → ℕ → ℕ → ℕ → Type 0
-Lent none room buffer list = room ≤ buffer
-Lent (some f) room buffer list = room ≤ list
+-- ── There is room ──
+-- in the list for a request that stores, in the buffer for any other
+abbrev HasRoom : Option Field → ℕ → ℕ → ℕ → Type 0
+HasRoom none room buffer list = room ≤ buffer
+HasRoom (some f) room buffer list = room ≤ list
 
-lent : (q : Request) (b : Bytes) (l : List ℕ) → Lent (pushOf q) (roomFor q b l) (length b) (length l)
+has-room : (q : Request) (b : Bytes) (l : List ℕ) → HasRoom (pushOf q) (roomFor q b l) (length b) (length l)
 unfolding roomFor pushOf
-lent (login u k) b l = omega arith
-lent (inSession n get) b l = omega arith
-lent (inSession n (push p v)) b l = omega arith
+has-room (login u k) b l = omega arith
+has-room (inSession n get) b l = omega arith
+has-room (inSession n (push p v)) b l = omega arith
 
 module _ (s : State) (q : Request) (b : Bytes) (l : List ℕ) where
   pub shown-fits : (c : Change) → decide s q (roomFor q b l) ≡ done c → length (shown c) ≤ length b
   unfolding shown
   shown-fits (setsLogin i a) h = omega arith
-  shown-fits (shows t) h = let (quiet, fits) = known s q _ _ h in omega (arith, rw quiet at (lent q b l))
+  shown-fits (shows t) h = let (quiet, fits) = known s q _ _ h in omega (arith, rw quiet at (has-room q b l))
   shown-fits (stores i a f) h = omega arith
 
   pub told-fits : (i : ℕ) (a : LoginState) (f : Field) → decide s q (roomFor q b l) ≡ done (stores i a f) → listRoom ≤ length l
-  told-fits i a f h = let (stored, fits) = known s q _ _ h in omega (arith, rw (stored .pushed) at (lent q b l))
+  told-fits i a f h = let (stored, fits) = known s q _ _ h in omega (arith, rw (stored .pushed) at (has-room q b l))
