@@ -31,8 +31,8 @@ size_t jesovanga_open(uint8_t *tables, uint16_t *logins, uint8_t *fields,
                       const uint8_t *record, size_t record_length,
                       size_t *source, size_t *line);
 
-/* Answers one line, without its 0A. The number is the refusal's, the session's, the copy's length in the buffer, or how many
-   numbers the list received; *kind says which. A refusal changes nothing. */
+/* Answers one line, without its 0A. The number is the refusal's (11 to 18), the session's, the copy's length in the buffer, or how many
+   numbers the list received, which after a LOGOUT is 0; *kind says which. A refusal changes nothing. */
 size_t jesovanga_request(const uint8_t *tables, uint16_t *logins, uint8_t *fields,
                          const uint8_t *line, size_t line_length,
                          uint8_t *buffer, size_t buffer_length,

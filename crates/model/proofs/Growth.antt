@@ -1,6 +1,6 @@
 -- Condition 2, what is counted: fields held less fields loaded are the accepted pushes that named an absent field, and each user's counts are
 -- the user's own pushes and logins.
-use Prim.Native.Nat.{ℕ, suc, _+_, _*_, _<_}
+use Prim.Native.Nat.{ℕ, suc, _+_, _*_, _≤_, _<_}
 use mathlib.Core.Path.{_≡_, refl, sym, ap, _∙_}
 use mathlib.Core.Option.{Option, none, some}
 use mathlib.Core.List.{List, [], _∷_}
@@ -10,17 +10,18 @@ use lib.ListN.{length, set, getD}
 use lib.Seq.{getD-set-same, getD-set-other}
 use native.Mathlib.Omega.{arith}
 use borrow.Author.Tests.{eqb-true, eqb-false}
-use Rattle.model.specs.Base.{keep}
-use Rattle.model.specs.Limits.{perUser}
+use Rattle.model.specs.Base.{keep, isSome}
+use Rattle.model.specs.Limits.{perUser, maxLogins}
 use Rattle.model.specs.Fields.{Field}
 use Rattle.model.specs.Opening.{LoginState, State, emptyLogin}
-use Rattle.model.specs.Serving.{sessionNumber, loginAt, Change, setsLogin, shows, stores, apply, answerOf, refusal, session, Act, unchanged, conclude, outcome}
-use Rattle.model.specs.Runs.{Event, eventIn, events, end, ownerIn, pushIn, inSet, only, isAccepted, createsBy, creates, createdBy, givesSession, loginBy}
-use Rattle.model.proofs.Lists.{by-cases, never}
+use Rattle.model.specs.Requests.{Request}
+use Rattle.model.specs.Serving.{sessionNumber, indexIn, loginAt, Change, setsLogin, shows, stores, apply, answerOf, refusal, session, Act, unchanged, conclude, outcome}
+use Rattle.model.specs.Runs.{Event, eventIn, events, end, ownerIn, pushIn, inSet, only, isAccepted, createsBy, creates, createdBy, sessionIn, loginBy}
+use Rattle.model.proofs.Lists.{by-cases, none-some}
 use Rattle.model.proofs.Reading.{some-same}
 use Rattle.model.proofs.Order.{one, absent, length-put}
-use Rattle.model.proofs.Decisions.{LoginSet, Stored, Decided, by-decision}
-use Rattle.model.proofs.Invariant.{Running, login-set-place, counts-login, stored-place, created-is, logins-is, store-is-put, run-act}
+use Rattle.model.proofs.Decisions.{index-of, answers-session, ownerOf, fieldIn, LoginSet, Stored, Decided, by-decision}
+use Rattle.model.proofs.Invariant.{Running, login-set-place, login-set-few, stored-place, created-is, logins-is, store-is-put, run-act}
 
 -- ── One act ──
 -- a count of login states, once the one at an index was set: one more there if b
@@ -45,15 +46,15 @@ module _ {loaded : ℕ} {s : State} (r : Running loaded s) where
     loginsGrow = λ j. rw (and-false (inSet (only j) o)) (omega arith);
   }
 
-  grows-sets-login : {o : Option ℕ} {p : Option Field} {i : ℕ} {a : LoginState} → LoginSet s o p i a → Grows s (some i) false true (apply (setsLogin i a) s)
+  grows-sets-login : {q : Option Request} {i : ℕ} {a : LoginState} → LoginSet s q i a → Grows s (some i) false (a .isOpen) (apply (setsLogin i a) s)
   unfolding one inSet only apply loginAt
   grows-sets-login {i = i} {a = a} d = record {
     fieldsGrow = omega arith;
     createdGrow = counted (λ b. b .created) (s .loginStates) i a false (login-set-place r d) (omega (arith, d .sameCreated));
-    loginsGrow = counted (λ b. b .logins) (s .loginStates) i a true (login-set-place r d) (counts-login r d);
+    loginsGrow = counted (λ b. b .logins) (s .loginStates) i a (a .isOpen) (login-set-place r d) (d .counted);
   }
 
-  grows-stores : {o : Option ℕ} {p : Option Field} {i : ℕ} {a : LoginState} {f : Field} → Stored s o p i a f →
+  grows-stores : {q : Option Request} {i : ℕ} {a : LoginState} {f : Field} → Stored s q i a f →
       Grows s (some i) (absent (f .path) (s .fields)) false (apply (stores i a f) s)
   unfolding inSet only apply loginAt
   grows-stores {i = i} {a = a} {f = f} d = record {
@@ -62,22 +63,26 @@ module _ {loaded : ℕ} {s : State} (r : Running loaded s) where
     loginsGrow = counted (λ b. b .logins) (s .loginStates) i a false (stored-place r d) (unfold one in omega (arith, logins-is r d));
   }
 
-  grows-done : (o : Option ℕ) (p : Option Field) (c : Change) → Decided s o p c → Grows s o (createsBy s (answerOf c) p) (givesSession (answerOf c)) (apply c s)
-  unfolding createsBy answerOf givesSession
-  grows-done o p (setsLogin i a) d = rw (d .quiet, d .owned) (grows-sets-login d)
-  grows-done o p (shows t) d = unfold apply in (rw d (stays o))
-  grows-done o p (stores i a f) d = unfold isAccepted absent in (rw (d .pushed, d .owned) (grows-stores d))
+  counts-session : (i : ℕ) (a : LoginState) → isSome (sessionIn (answerOf (setsLogin i a))) ≡ a .isOpen
+  unfolding answerOf sessionIn isSome
+  counts-session i a = by-cases (a .isOpen) (λ e. rw e) (λ e. rw e)
+
+  grows-done : (q : Option Request) (c : Change) → Decided s q c → Grows s (ownerOf s q) (createsBy s (answerOf c) (fieldIn q)) (isSome (sessionIn (answerOf c))) (apply c s)
+  unfolding createsBy answerOf sessionIn isSome
+  grows-done q (setsLogin i a) d = rw (d .quiet, d .owned, counts-session i a) (grows-sets-login d)
+  grows-done q (shows t) d = unfold apply in (rw (d .quiet) (stays _))
+  grows-done q (stores i a f) d = unfold isAccepted absent in (rw (d .pushed, d .owned) (grows-stores d))
 
   refused-creates : (e : ℕ) (p : Option Field) → createsBy s (refusal e) p ≡ false
   unfolding createsBy isAccepted
   refused-creates e none = refl
   refused-creates e (some f) = refl
 
-  grows-act : (a : Act) → Grows s (ownerIn (eventIn s a)) (creates (eventIn s a)) (givesSession (outcome s a .answer)) (outcome s a .state)
-  unfolding creates conclude unchanged
-  grows-act a = by-decision (λ x. Grows s (ownerIn (eventIn s a)) (createsBy s (x .answer) (pushIn (eventIn s a))) (givesSession (x .answer)) (x .state)) s a
-      (λ e. rw (refused-creates e _) (unfold givesSession in (stays _)))
-      (grows-done _ _)
+  grows-act : (a : Act) → Grows s (ownerIn (eventIn s a)) (creates (eventIn s a)) (isSome (sessionIn (outcome s a .answer))) (outcome s a .state)
+  unfolding creates ownerIn pushIn conclude unchanged
+  grows-act a = by-decision (λ x. Grows s (ownerIn (eventIn s a)) (createsBy s (x .answer) (pushIn (eventIn s a))) (isSome (sessionIn (x .answer))) (x .state)) s a
+      (λ e. rw (refused-creates e _) (unfold sessionIn isSome in (stays _)))
+      (grows-done _)
 
 -- ── A run ──
 length-keep : {A : Type 0} (f : A → Bool) (x : A) (xs : List A) → length (keep f (x ∷ xs)) ≡ one (f x) + length (keep f xs)
@@ -109,20 +114,26 @@ logins-grow i = run-counts _ (λ s. loginAt s i .logins) (loginBy i) (λ s a r. 
 
 -- ── The session number ──
 module _ {loaded : ℕ} {s : State} (r : Running loaded s) (n : ℕ) where
-  -- a login is of the user whose index the number has
-  abbrev Numbered : Option ℕ → Type 0
-  Numbered o = (i : ℕ) × (o ≡ some i) × (n ≡ perUser * i + suc (loginAt s i .logins))
+  -- a login is of the user whose index the number has, and the rest is the count with it
+  pub record Numbered (o : Option ℕ) : Type 0 where
+    pub owned : o ≡ some (indexIn n)
+    pub number : n ≡ perUser * indexIn n + suc (loginAt s (indexIn n) .logins)
+    pub few : suc (loginAt s (indexIn n) .logins) ≤ maxLogins
 
-  numbered : (o : Option ℕ) (p : Option Field) (c : Change) → Decided s o p c → answerOf c ≡ session n → Numbered o
-  unfolding answerOf givesSession sessionNumber
-  numbered o p (setsLogin i a) d h =
-      let x : perUser * i + a .logins ≡ n = cc in
-      (i, d .owned, omega (arith, counts-login r d))
-  numbered o p (shows t) d h = never (sym (ap givesSession h))
-  numbered o p (stores i a f) d h = never (sym (ap givesSession h))
+  numbered : (q : Option Request) (c : Change) → Decided s q c → answerOf c ≡ session n → Numbered (ownerOf s q)
+  unfolding answerOf sessionIn sessionNumber one
+  numbered q (setsLogin i a) d h = answers-session i a n h λ e number.
+      let index : indexIn n ≡ i = rw (← number) (index-of i a (login-set-few r d)) in
+      record {
+        owned = rw index (d .owned);
+        number = rw index (omega (arith, rw e at (d .counted)));
+        few = rw index (omega (arith, rw e at (d .counted), login-set-few r d));
+      }
+  numbered q (shows t) d h = none-some (ap sessionIn h)
+  numbered q (stores i a f) d h = none-some (ap sessionIn h)
 
   pub login-number : (a : Act) → outcome s a .answer ≡ session n → Numbered (ownerIn (eventIn s a))
-  unfolding conclude unchanged givesSession
+  unfolding ownerIn conclude unchanged sessionIn
   login-number a = by-decision (λ x. x .answer ≡ session n → Numbered (ownerIn (eventIn s a))) s a
-      (λ e h. never (sym (ap givesSession h)))
-      (numbered _ _)
+      (λ e h. none-some (ap sessionIn h))
+      (numbered _)

@@ -11,9 +11,10 @@ use Rattle.model.specs.Limits.{maxFields, maxUsers, maxLogins}
 use Rattle.model.specs.Fields.{Field, holds, put, store}
 use Rattle.model.specs.Tables.{User, userAt}
 use Rattle.model.specs.Opening.{LoginState, State, emptyLogin, quotas}
+use Rattle.model.specs.Requests.{Request}
 use Rattle.model.specs.Serving.{loginAt, Change, setsLogin, shows, stores, creating, apply, Act, unchanged, conclude, outcome}
 use Rattle.model.specs.Runs.{end}
-use Rattle.model.proofs.Lists.{by-cases, never, none-some, elem-below, all-set, all-getD}
+use Rattle.model.proofs.Lists.{by-cases, none-some, elem-below, all-set, all-getD}
 use Rattle.model.proofs.Order.{Sorted, sorted-put, one, absent, length-put, store-fits}
 use Rattle.model.proofs.Decisions.{LoginSet, Stored, Decided, DecidedBy, by-decision}
 
@@ -80,14 +81,9 @@ total-empty zero = refl
 total-empty (suc n) = omega (arith, total-empty n)
 
 -- ── The invariant; `loaded` is how many fields the opening loaded ──
--- no session closes: who has none open has not logged in
-abbrev pub NotYet : LoginState → Type 0
-NotYet a = a .isOpen ≡ false → a .logins ≡ 0
-
 pub record Running (loaded : ℕ) (s : State) : Type 0 where
   pub sorted : Sorted (s .fields)
   pub few : All (λ a. a .logins ≤ maxLogins) (s .loginStates)
-  pub notYet : All NotYet (s .loginStates)
   pub places : length (s .loginStates) ≡ maxUsers
   pub users : length (s .tables .users) ≤ maxUsers
   pub within : Within (s .tables .users) (s .loginStates)
@@ -100,10 +96,6 @@ module _ {loaded : ℕ} {s : State} (r : Running loaded s) where
   unfolding loginAt emptyLogin
   few-at j = all-getD _ (s .loginStates) j emptyLogin (omega arith) (r .few)
 
-  not-yet-at : (j : ℕ) → NotYet (loginAt s j)
-  unfolding loginAt emptyLogin
-  not-yet-at j = all-getD NotYet (s .loginStates) j emptyLogin (λ e. refl) (r .notYet)
-
   pub few-fields : length (s .fields) ≤ maxFields
   few-fields = omega (arith, r .grown, r .fits, within-sum (s .tables .users) (s .loginStates) (r .within))
 
@@ -113,20 +105,18 @@ module _ {loaded : ℕ} {s : State} (r : Running loaded s) where
   user-place i u e = omega (arith, elem-below (s .tables .users) i u e, r .users, r .places)
 
   -- a login state
-  module _ {o : Option ℕ} {p : Option Field} {i : ℕ} {a : LoginState} (d : LoginSet s o p i a) where
+  module _ {q : Option Request} {i : ℕ} {a : LoginState} (d : LoginSet s q i a) where
     pub login-set-place : i < length (s .loginStates)
     login-set-place = omega (arith, d .below, r .users, r .places)
 
-    -- a login is counted: the last login count is not met, this being the first
-    pub counts-login : a .logins ≡ loginAt s i .logins + 1
-    counts-login = let z = not-yet-at i (d .shut) in rw (d .after, z) refl
+    pub login-set-few : a .logins ≤ maxLogins
+    login-set-few = d .few (few-at i)
 
     run-sets-login : Running loaded (apply (setsLogin i a) s)
     unfolding apply loginAt
     run-sets-login = record {
       sorted = r .sorted;
-      few = all-set _ (s .loginStates) i a (d .few) (r .few);
-      notYet = all-set NotYet (s .loginStates) i a (rw (d .after) (λ e. never e)) (r .notYet);
+      few = all-set _ (s .loginStates) i a login-set-few (r .few);
       places = length-set (s .loginStates) i a ∙ r .places;
       users = r .users;
       within = within-keep (s .tables .users) (s .loginStates) i a (d .sameCreated) (r .within);
@@ -135,7 +125,7 @@ module _ {loaded : ℕ} {s : State} (r : Running loaded s) where
     }
 
   -- a field: what is created, and the fields before any could fall off
-  module _ {o : Option ℕ} {p : Option Field} {i : ℕ} {a : LoginState} {f : Field} (d : Stored s o p i a f) where
+  module _ {q : Option Request} {i : ℕ} {a : LoginState} {f : Field} (d : Stored s q i a f) where
     pub stored-place : i < length (s .loginStates)
     stored-place = user-place i (d .user) (d .isUser)
 
@@ -146,10 +136,6 @@ module _ {loaded : ℕ} {s : State} (r : Running loaded s) where
     pub logins-is : a .logins ≡ loginAt s i .logins
     unfolding creating
     logins-is = rw (d .after)
-
-    not-yet-stores : NotYet a
-    unfolding creating
-    not-yet-stores = rw (d .after) (not-yet-at i)
 
     within-stores : Within (s .tables .users) (set (s .loginStates) i a)
     unfolding userAt loginAt
@@ -176,7 +162,6 @@ module _ {loaded : ℕ} {s : State} (r : Running loaded s) where
     run-stores = record {
       sorted = rw store-is-put (sorted-put f (s .fields) (r .sorted));
       few = all-set _ (s .loginStates) i a (rw logins-is (few-at i)) (r .few);
-      notYet = all-set NotYet (s .loginStates) i a not-yet-stores (r .notYet);
       places = length-set (s .loginStates) i a ∙ r .places;
       users = r .users;
       within = within-stores;
@@ -184,10 +169,10 @@ module _ {loaded : ℕ} {s : State} (r : Running loaded s) where
       fits = r .fits;
     }
 
-  run-apply : (o : Option ℕ) (p : Option Field) (c : Change) → Decided s o p c → Running loaded (apply c s)
-  run-apply o p (setsLogin i a) d = run-sets-login d
-  run-apply o p (shows t) d = unfold apply in r
-  run-apply o p (stores i a f) d = run-stores d
+  run-apply : (q : Option Request) (c : Change) → Decided s q c → Running loaded (apply c s)
+  run-apply q (setsLogin i a) d = run-sets-login d
+  run-apply q (shows t) d = unfold apply in r
+  run-apply q (stores i a f) d = run-stores d
 
 -- ── An act leaves the state, or what a decision makes of it ──
 pub next-state : (P : State → Type 0) (s : State) (a : Act) → P s → ((c : Change) → DecidedBy s a c → P (apply c s)) → P (outcome s a .state)
@@ -195,7 +180,7 @@ unfolding conclude unchanged
 next-state P s a same changed = by-decision (λ x. P (x .state)) s a (λ e. same) changed
 
 pub run-act : {loaded : ℕ} (s : State) (a : Act) → Running loaded s → Running loaded (outcome s a .state)
-run-act {loaded} s a r = next-state (Running loaded) s a r (run-apply r _ _)
+run-act {loaded} s a r = next-state (Running loaded) s a r (run-apply r _)
 
 -- what each act keeps holds at the end
 pub at-end : (P : State → Type 0) → ((s : State) (a : Act) → P s → P (outcome s a .state)) → (s : State) (acts : List Act) → P s → P (end s acts)

@@ -17,6 +17,7 @@ pub mod Decisions
 pub mod Invariant
 pub mod Changes
 pub mod Growth
+pub mod Sessions
 pub mod TwoRuns
 pub mod Sound
 pub mod Notified

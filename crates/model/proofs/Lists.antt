@@ -218,6 +218,10 @@ unfolding keep
 keep-map f g [] = refl
 keep-map f g (x ∷ xs) = by-cases (f (g x)) (λ e. rw e (ap (g x ∷_) (keep-map f g xs))) (λ e. rw e (keep-map f g xs))
 
+pub all-map : {A B : Type 0} (P : B → Type 0) (f : A → B) (xs : List A) → All (λ x. P (f x)) xs → All P (map f xs)
+all-map P f [] h = tt
+all-map P f (x ∷ xs) h = (h .0, all-map P f xs (h .1))
+
 pub map-agree : {A B : Type 0} (f g : A → B) (xs : List A) → All (λ x. f x ≡ g x) xs → map f xs ≡ map g xs
 map-agree f g [] h = refl
 map-agree f g (x ∷ xs) h = ap₂ _∷_ (h .0) (map-agree f g xs (h .1))

@@ -13,12 +13,12 @@ use Rattle.model.specs.Limits.{maxCopy, listRoom}
 use Rattle.model.specs.Refusals.{Result, refused, done}
 use Rattle.model.specs.Tables.{User, userAt}
 use Rattle.model.specs.Opening.{State}
-use Rattle.model.specs.Requests.{Request, login, inSession, get, push, requestOf}
+use Rattle.model.specs.Requests.{Request, login, inSession, get, push, logout, requestOf}
 use Rattle.model.specs.Serving.{indexIn, copyFor, Change, setsLogin, shows, stores, decideShow, decideGet, decidePush, roomFor, decide, notified, shown, answerOf, Act, line, bufferOf, listOf, decideLine, decision, unchanged, conclude, outcome}
 use Rattle.model.specs.Runs.{requestOfAct, eventIn, events, pushIn}
 use Rattle.model.specs.Program.{printDeliveries, printAnswer, printed}
 use Rattle.model.specs.Claims.{withZeros, LongEnough, actOf}
-use Rattle.model.proofs.Lists.{bind-agree}
+use Rattle.model.proofs.Lists.{by-cases, bind-agree}
 use Rattle.model.proofs.Decisions.{asking}
 use Rattle.model.proofs.TwoRuns.{over-take}
 
@@ -28,7 +28,7 @@ module _ (s : State) (b b₁ : Bytes) (l l₁ : List ℕ) where
       printAnswer (conclude s b l x .buffer) (conclude s b l x .answer) ≡ printAnswer (conclude s b₁ l₁ x .buffer) (conclude s b₁ l₁ x .answer)
   unfolding conclude unchanged printAnswer answerOf shown
   answer-alike (refused e) = refl
-  answer-alike (done (setsLogin i a)) = refl
+  answer-alike (done (setsLogin i a)) = by-cases (a .isOpen) (λ e. rw e) (λ e. rw e)
   answer-alike (done (shows c)) = rw (over-take c b, over-take c b₁)
   answer-alike (done (stores i a f)) = refl
 
@@ -59,6 +59,7 @@ module _ (s : State) (fit : CopiesFit s) (b b₁ : Bytes) (l l₁ : List ℕ)
   decide-alike (login u k) = refl
   decide-alike (inSession n get) = unfold decideGet in (bind-agree _ _ _ λ a e. show-alike _ (fit (indexIn n) (a .user) (asking s n a e .isUser)))
   decide-alike (inSession n (push p v)) = unfold decidePush in rw (le-ltb (length l) listRoom places, le-ltb (length l₁) listRoom places₁)
+  decide-alike (inSession n logout) = refl
 
   line-decides-alike : (q : Option Request) → decideLine s b l q ≡ decideLine s b₁ l₁ q
   unfolding decideLine

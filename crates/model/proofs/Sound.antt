@@ -1,7 +1,7 @@
 -- What the fields of every state of a run have: they are valid, none is the beginning of another, and none conflicts with a WRITE line.
 use Prim.Native.Nat.{ℕ, _≤_, Ordering·lt, Ordering·gt}
 use mathlib.Core.Path.{_≡_, refl, sym, ap, ap₂, subst, _∙_}
-use mathlib.Core.Option.{Option, some}
+use mathlib.Core.Option.{Option, none, some}
 use mathlib.Core.List.{List, [], _∷_}
 use mathlib.Core.Bool.{Bool, true, false, not, _&&_}
 use lib.ListN.{length, replicate, length-replicate}
@@ -16,7 +16,7 @@ use Rattle.model.specs.Refusals.{done}
 use Rattle.model.specs.Tables.{User, Rule, Tables}
 use Rattle.model.specs.Rights.{matches, isWrite, isFor, mayWrite, overlap, isAbove, conflict, conflictsWith}
 use Rattle.model.specs.Opening.{LoginState, State, emptyLogin, emptyLogins, Texts, opened}
-use Rattle.model.specs.Requests.{Request, readLogin, readGet, readPush, readers, firstOf, requestOf, pushOf}
+use Rattle.model.specs.Requests.{Ask, Request, inSession, get, logout, readLogin, readAsk, readGet, readPush, readLogout, readers, firstOf, requestOf, pushOf}
 use Rattle.model.specs.Serving.{Change, setsLogin, shows, stores, apply, Act, line, save, outcome}
 use Rattle.model.specs.Runs.{requestOfAct, eventIn, pushIn}
 use Rattle.model.proofs.Lists.{by-cases, never, none-some, and-both, or-neither, bytes-eq, bytes-refl, all-imp, all-replicate, any-true, any-false}
@@ -29,7 +29,7 @@ use Rattle.model.proofs.Conflict.{conflict-matched, conflict-flip}
 use Rattle.model.proofs.TablesRead.{ValidTables, Apart, writes-apart, tables-valid, opened-inv, record-inv}
 use Rattle.model.proofs.TreeValid.{stored-sorted, stored-diverging, stored-count, tree-valid}
 use Rattle.model.proofs.Decisions.{Stored, DecidedBy}
-use Rattle.model.proofs.Invariant.{NotYet, Running, store-is-put, within-empty, total-empty, next-state, run-act}
+use Rattle.model.proofs.Invariant.{Running, store-is-put, within-empty, total-empty, next-state, run-act}
 
 -- ── What a pushed field is ──
 -- what a line asks to store is valid: by each word's reader
@@ -42,12 +42,16 @@ module _ (x : Bytes) (q : Request) (f : Field) (pushed : pushOf q ≡ some f) wh
       check-some _ _ _ h₂ λ c h₃.
       none-some (rw (← some-same h₃) at pushed)
 
+  from-ask : (word : Bytes) (a : Ask) → ((n : ℕ) → pushOf (inSession n a) ≡ none) → readAsk word a x ≡ some q → Valid f
+  unfolding readAsk
+  from-ask word a quiet h =
+      bind-some _ _ _ h λ r e₁ h₁.
+      bind-some _ _ _ h₁ λ n e₂ h₂.
+      none-some (sym (quiet n) ∙ rw (← some-same h₂) at pushed)
+
   from-get : readGet x ≡ some q → Valid f
   unfolding readGet pushOf
-  from-get h =
-      bind-some _ _ _ h λ r e₁ h₁.
-      bind-some _ _ _ h₁ λ m e₂ h₂.
-      none-some (rw (← some-same h₂) at pushed)
+  from-get h = from-ask _ get (λ n. refl) h
 
   from-push : readPush x ≡ some q → Valid f
   unfolding readPush pushOf
@@ -60,6 +64,10 @@ module _ (x : Bytes) (q : Request) (f : Field) (pushed : pushOf q ≡ some f) wh
       bind-some _ _ _ h₅ λ v e₆ h₆.
       rw (← some-same (rw (← some-same h₆) at pushed)) (record { path = keys-valid _ p e₅; value = value-of-valid _ v e₆ })
 
+  from-logout : readLogout x ≡ some q → Valid f
+  unfolding readLogout pushOf
+  from-logout h = from-ask _ logout (λ n. refl) h
+
   -- what the first of some readers reads, one of them reads
   by-reader : {C : Type 0} (rs : List (Bytes → Option Request)) → All (λ read. read x ≡ some q → C) rs → firstOf rs x ≡ some q → C
   unfolding firstOf
@@ -68,7 +76,7 @@ module _ (x : Bytes) (q : Request) (f : Field) (pushed : pushOf q ≡ some f) wh
 
   pub push-valid : requestOf x ≡ some q → Valid f
   unfolding requestOf readers
-  push-valid h = check-some _ _ _ h λ c k. by-reader readers (from-login, (from-get, (from-push, tt))) k
+  push-valid h = check-some _ _ _ h λ c k. by-reader readers (from-login, (from-get, (from-push, (from-logout, tt)))) k
 
 pub act-valid : (s : State) (a : Act) (f : Field) → pushIn (eventIn s a) ≡ some f → Valid f
 unfolding pushIn requestOfAct
@@ -180,7 +188,7 @@ module _ (t : Tables) (valid : ValidTables t) (u : User) (p : Keys) (writes : ma
 
 -- ── Each act keeps it ──
 module _ {loaded : ℕ} {s : State} (r : Running loaded s) (o : Sound s) where
-  module _ {w : Option ℕ} {p : Option Field} {i : ℕ} {a : LoginState} {f : Field} (d : Stored s w p i a f) (v : Valid f) where
+  module _ {q : Option Request} {i : ℕ} {a : LoginState} {f : Field} (d : Stored s q i a f) (v : Valid f) where
     diverges : holds (f .path) (s .fields) ≡ false → DivergesFrom (f .path) (s .fields)
     diverges h = both (s .fields) (o .clear) (absent-all (f .path) (s .fields) (r .sorted) h)
       where
@@ -203,7 +211,7 @@ module _ {loaded : ℕ} {s : State} (r : Running loaded s) (o : Sound s) where
     })
 
   sound-act : (a : Act) (c : Change) → DecidedBy s a c → Sound (apply c s)
-  unfolding apply
+  unfolding apply pushIn
   sound-act x (setsLogin i a) d = record { tables = o .tables; valid = o .valid; clear = o .clear; apart = o .apart }
   sound-act x (shows c) d = o
   sound-act x (stores i a f) d = sound-stores d (act-valid s x f (d .pushed))
@@ -235,7 +243,6 @@ ran-opened t s h =
       running = record {
         sorted = rw (f .stored) at (stored-sorted [] (f .tree) [] tt);
         few = rw empty (all-replicate (λ a. a .logins ≤ maxLogins) maxUsers emptyLogin (omega (arith, no-logins)));
-        notYet = rw empty (all-replicate NotYet maxUsers emptyLogin (λ e. no-logins));
         places = rw empty (length-replicate maxUsers emptyLogin);
         users = v .users .few;
         within = rw empty (within-empty (s .tables .users) maxUsers);

@@ -9,7 +9,8 @@ use lib.ListN.{length, getD, replicate}
 use native.Mathlib.Omega.{arith}
 use native.Mathlib.Nat.{zero-add}
 use borrow.Author.Tests.{eqb-true, eq-eqb, le-ltb}
-use Rattle.model.specs.Base.{Bytes, keep, sum, range, _==_, All}
+use Rattle.model.specs.Base
+use Rattle.model.specs.Base.{Bytes, any, keep, sum, range, _==_, All}
 use Rattle.model.specs.Limits.{maxFields, maxUsers, maxText, maxCopy, listRoom, perUser}
 use Rattle.model.specs.Fields.{Keys, Field, Fields, orderPath, byOrder, valueAt, fieldOf}
 use Rattle.model.specs.RecordText.{Members, treeOf, storeMembers}
@@ -19,11 +20,12 @@ use Rattle.model.specs.Table.{Line, lines}
 use Rattle.model.specs.Tables.{User, Access, Rule, Tables, userAt}
 use Rattle.model.specs.Rights.{mayRead}
 use Rattle.model.specs.Opening.{LoginState, State, emptyLogin, emptyLogins, Texts, Fault, openRecord, opened}
-use Rattle.model.specs.Serving.{loginAt, readable, copyFor, readsBy, readsAt, Change, setsLogin, shows, stores, apply, Act, line}
-use Rattle.model.specs.Runs.{end, only, seen, seenFields}
+use Rattle.model.specs.Requests.{logoutOf}
+use Rattle.model.specs.Serving.{sessionNumber, indexIn, isSession, loginAt, readable, copyFor, readsBy, readsAt, Change, setsLogin, shows, stores, apply, Act, line, outcome}
+use Rattle.model.specs.Runs.{requestOfAct, events, end, inSet, only, seen, seenFields, isAccepted, hasSession, gives, closes}
 use Rattle.model.specs.Program.{lineBytes, printRun, serveWith, serve}
 use Rattle.model.specs.Claims
-use Rattle.model.specs.Claims.{Reached, spelled, SameTables, isValid, isSorted, begins, noneBegins, withRecord, SavedFor, LongEnough, TwoRuns}
+use Rattle.model.specs.Claims.{Reached, spelled, SameTables, isValid, isSorted, begins, noneBegins, withRecord, SavedFor, LeftSince, LongEnough, TwoRuns}
 use Rattle.model.proofs.Lists.{by-cases, never, both-and, none-some, true-all, all-every, all-getD, all-replicate, all-keep, all-imp, all-range, any-range, false-any, elem-below, keep-agree, map-agree, length-keep-le}
 use Rattle.model.proofs.Order.{path-orders, by-three, after-before, Before, Sorted, behind-trans, value-less, value-same, value-more, value-behind}
 use Rattle.model.proofs.Valid.{Valid}
@@ -35,8 +37,9 @@ use Rattle.model.proofs.SavedTree.{SavedAs, saved-reads}
 use Rattle.model.proofs.SavedLength.{saved-length, saved-length-some}
 use Rattle.model.proofs.CopyLength.{savedText, copy-length}
 use Rattle.model.proofs.Decisions.{decided}
-use Rattle.model.proofs.Invariant.{Within, totalCreated, within-at, few-fields, store-is-put, next-state, at-end}
-use Rattle.model.proofs.Changes.{login-changes, push-changes}
+use Rattle.model.proofs.Invariant.{Running, Within, totalCreated, within-at, few-at, few-fields, store-is-put, next-state, at-end, run-act}
+use Rattle.model.proofs.Changes.{login-changes, logout-changes, push-changes}
+use Rattle.model.proofs.Sessions.{act-turns, past-not-given, given-once, open-run, closed-past, shut-refuses, shut-ground, shut-not-told, still-shut, still-number, count-is, lets-in}
 use Rattle.model.proofs.Growth.{fields-grow, created-grow, logins-grow, login-number}
 use Rattle.model.proofs.TwoRuns.{view, same-view, replay, one-run}
 use Rattle.model.proofs.Notified.{told-ascends}
@@ -95,7 +98,10 @@ pub push-changes-one : Claims.PushChangesOne
 push-changes-one t s r x b l n p v e h = push-changes (ran t s r .running) x b l n p v e h
 
 pub login-changes-one : Claims.LoginChangesOne
-login-changes-one t s r x b l n h = login-changes (ran t s r .running) (line x b l) n h
+login-changes-one t s r a n h = login-changes (ran t s r .running) a n h
+
+pub logout-changes-one : Claims.LogoutChangesOne
+logout-changes-one t s r x b l n e h = logout-changes (ran t s r .running) x b l n e h
 
 -- ── Condition 2: the fields held ──
 pub fields-valid : Claims.FieldsValid
@@ -201,16 +207,74 @@ one-record t₁ t₂ s₁ s₂ r₁ r₂ h =
     let e : m₁ .tree ≡ m₂ .tree = some-same (sym (m₁ .read) ∙ ap treeOf h ∙ m₂ .read) in
     sym (m₁ .stored) ∙ ap (λ (m : Members). storeMembers [] m []) e ∙ m₂ .stored
 
--- ── Condition 2: logins and growth ──
+-- ── Condition 2: logins ──
 pub counts-own-logins : Claims.CountsOwnLogins
 unfolding emptyLogin
 counts-own-logins t s acts h i = logins-grow i s acts (ran-opened t s h .running) ∙ rw (start-empty t s h i) (zero-add _)
 
 pub login-answers : Claims.LoginAnswers
 login-answers t s acts h a n k =
-    let (i, mine, is) = login-number (ran-end t s acts h .running) n a k in
-    (i, mine, is ∙ ap (λ (m : ℕ). perUser * i + suc m) (counts-own-logins t s acts h i))
+    let w = login-number (ran-end t s acts h .running) n a k in
+    (indexIn n, w .owned, w .number ∙ ap (λ (m : ℕ). perUser * indexIn n + suc m) (counts-own-logins t s acts h (indexIn n)))
 
+pub logins-end : Claims.LoginsEnd
+logins-end t s r i = few-at (ran t s r .running) i
+
+pub number-divides : Claims.NumberDivides
+unfolding indexIn
+number-divides t s acts h a n k =
+    let w = login-number (ran-end t s acts h .running) n a k in
+    (w .owned, omega (arith, w .number, w .few) ∙ ap suc (counts-own-logins t s acts h (indexIn n)))
+
+-- ── Condition 2: sessions ──
+-- no session is open at the start
+start-shut : (t : Texts) (s : State) → opened t ≡ done s → (n : ℕ) → hasSession s n ≡ false
+unfolding hasSession isSession emptyLogin
+start-shut t s h n = rw (start-empty t s h (indexIn n))
+
+pub answered-once : Claims.AnsweredOnce
+answered-once t s acts h n = given-once _ n s acts (ran-opened t s h .running)
+
+pub open-between : Claims.OpenBetween
+open-between t s acts h n = open-run _ n s acts (ran-opened t s h .running) ∙ rw (start-shut t s h n)
+
+pub stays-closed : Claims.StaysClosed
+stays-closed t s acts h n k =
+    let r = ran-end t s acts h .running in
+    let shut : hasSession (end s acts) n ≡ false = open-between t s acts h n ∙ rw k (and-false (any (gives n) (events s acts))) in
+    record {
+      refuses = shut-refuses (end s acts) n shut;
+      ground = shut-ground (end s acts) n shut;
+      notGiven = past-not-given r n (closed-past _ n s acts (ran-opened t s h .running) k);
+      notTold = shut-not-told r n shut;
+    }
+
+module _ (s : State) (n : ℕ) (w : LeftSince s n) where
+  leaving : Act
+  leaving = line (w .content) (w .buffer) (w .list)
+
+  before-leaving : Running (length (w .reached .start .fields)) (w .former)
+  before-leaving = ran (w .texts) (w .former) (w .reached) .running
+
+  left-shut : loginAt (outcome (w .former) leaving .state) (indexIn n) .isOpen ≡ false
+  unfolding leaving
+  left-shut = ap (λ (a : LoginState). a .isOpen) (logout-changes before-leaving (w .content) (w .buffer) (w .list) n (w .isLogout) (w .isAccepted) .ownLogin)
+
+  left-number : sessionNumber (indexIn n) (loginAt (outcome (w .former) leaving .state) (indexIn n)) ≡ n
+  unfolding leaving closes requestOfAct logoutOf inSet only isAccepted Base._>>=_
+  left-number = act-turns before-leaving n leaving .last (rw (w .isLogout, w .isAccepted, eq-eqb n n refl))
+
+pub logs-in-again : Claims.LogsInAgain
+unfolding leaving
+logs-in-again s n w name u named x b l is =
+    let s₁ = outcome (w .former) (leaving s n w) .state in
+    let r₁ = run-act (w .former) (leaving s n w) (before-leaving s n w) in
+    let number = left-number s n w in
+    let shut = left-shut s n w in
+    let a = lets-in (end s₁ (w .later)) name (indexIn n) u (rw (w .isEnd) named) (still-shut r₁ n number shut (w .later) (w .noLogin)) x b l is in
+    rw (still-number r₁ n number shut (w .later) (w .noLogin), ← count-is r₁ n number shut (w .later) (w .noLogin), w .isEnd) at a
+
+-- ── Condition 2: growth ──
 pub grows-by-pushes : Claims.GrowsByPushes
 grows-by-pushes t s acts h = fields-grow s acts (ran-opened t s h .running)
 

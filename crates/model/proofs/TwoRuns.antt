@@ -20,12 +20,12 @@ use Rattle.model.specs.Refusals.{Result, refused, done, _>>=_}
 use Rattle.model.specs.Tables.{User, Rule, Tables, userAt}
 use Rattle.model.specs.Rights.{matches, isWrite, isFor, mayRead, mayWrite}
 use Rattle.model.specs.Opening.{LoginState, State, emptyLogin}
-use Rattle.model.specs.Requests.{Request, login, inSession, get, push, requestOf, pushOf}
-use Rattle.model.specs.Serving.{sessionNumber, indexIn, loginAt, readable, copyFor, Change, setsLogin, shows, stores, Asker, asker, decideLogin, decideGet, decidePush, roomFor, decide, apply, readsBy, readsAt, receivers, notified, shown, answerOf, refusal, Act, line, save, Outcome, bufferOf, listOf, decideLine, decision, over, unchanged, conclude, outcome}
+use Rattle.model.specs.Requests.{Request, login, inSession, get, push, logout, requestOf, pushOf}
+use Rattle.model.specs.Serving.{sessionNumber, indexIn, loginAt, readable, copyFor, Change, setsLogin, shows, stores, Asker, asker, decideLogin, decideGet, decidePush, decideLogout, roomFor, decide, apply, readsBy, readsAt, receivers, notified, shown, answerOf, refusal, Act, line, save, Outcome, bufferOf, listOf, decideLine, decision, over, unchanged, conclude, outcome}
 use Rattle.model.specs.Runs.{requestOfAct, eventIn, events, indexOf, owner, ownerIn, pushIn, inSet, seen, seenFields, isAccepted, Item, own, others, ownRequest, othersPush, items, sequence, Got, answer, copy, delivery, deliveryLine, copies, answers, deliveries, gotIn, got}
 use Rattle.model.proofs.Lists.{by-cases, never, if-agree, or-agree, bind-agree, all-imp, all-range, any-range, any-mono, any-false, and-both, elem-below, keep-agree, keep-within, keep-map, keep-keep, keep-none, length-keep-le, all-kept, map-agree}
 use Rattle.model.proofs.Order.{put-seen, put-hidden, value-seen, store-fits, Sorted}
-use Rattle.model.proofs.Decisions.{Stored, Decided, Asking, asking, decided, by-decision, owner-in, index-of}
+use Rattle.model.proofs.Decisions.{ownerOf, fieldIn, Stored, Decided, Asking, asking, decided, by-decision, owner-in, index-of}
 use Rattle.model.proofs.Invariant.{Running, few-at, put-fits, store-is-put, run-act}
 
 -- ── A right to write is one to read ──
@@ -88,7 +88,7 @@ over-take xs ys = take-at xs (drop (length xs) ys) (length xs) refl
 
 copies-are : (i : ℕ) (b : Bytes) (c : Change) → copies i (over (shown c) b) (answerOf c) ≡ copiesOf i c
 unfolding copies answerOf copiesOf shown
-copies-are i b (setsLogin j a) = refl
+copies-are i b (setsLogin j a) = by-cases (a .isOpen) (λ e. rw e) (λ e. rw e)
 copies-are i b (shows c) = rw over-take
 copies-are i b (stores j a f) = refl
 
@@ -259,11 +259,16 @@ module _ (In : ℕ → Bool) where
           let w = write-reads (s .tables .policy) (a .user) p (not-false _ may) in
           rw (holds-seen s p o (member-sees (s .tables) (indexIn n) (a .user) p isIn (k .isUser) w))
 
+      logout-same : decideLogout (view s) n ≡ decideLogout s n
+      unfolding decideLogout
+      logout-same = from-asker _ _ λ a k. refl
+
     decide-seen : (q : Request) (room : ℕ) → inSet In (owner (s .tables) q) ≡ true → decide (view s) q room ≡ decide s q room
     unfolding decide owner
     decide-seen (login n k) room h = login-same n k h
     decide-seen (inSession n get) room h = get-same n (owner-in In (s .tables) (indexIn n) h) room
     decide-seen (inSession n (push p v)) room h = push-same n (owner-in In (s .tables) (indexIn n) h) p v room
+    decide-seen (inSession n logout) room h = logout-same n (owner-in In (s .tables) (indexIn n) h)
 
   -- ── How a change shows ──
   view-sets-login : (s : State) (i : ℕ) (a : LoginState) → In i ≡ true → view (apply (setsLogin i a) s) ≡ apply (setsLogin i a) (view s)
@@ -274,7 +279,7 @@ module _ (In : ℕ → Bool) where
   unfolding view apply seenFields
   hidden-sets-login s i a e = rw (masked-set-out In (s .loginStates) i a e)
 
-  module _ {loaded : ℕ} {s : State} (r : Running loaded s) {o : Option ℕ} {p : Option Field} {i : ℕ} {a : LoginState} {f : Field} (d : Stored s o p i a f) where
+  module _ {loaded : ℕ} {s : State} (r : Running loaded s) {q : Option Request} {i : ℕ} {a : LoginState} {f : Field} (d : Stored s q i a f) where
     -- a seen field is stored among the seen ones
     store-seen : seen In (s .tables) (f .path) ≡ true → keep (λ g. seen In (s .tables) (g .path)) (store f (s .fields)) ≡ store f (seenFields In s)
     unfolding seenFields
@@ -335,20 +340,20 @@ module _ (In : ℕ → Bool) where
     gains-seen (refused e) o p = refl
     gains-seen (done c) o p = ap (λ (ms : List ℕ). answersOf In (done c) o ++ deliveriesOf ms p) (notified-seen c)
 
-    view-own : (o : Option ℕ) (p : Option Field) (c : Change) → Decided s o p c → inSet In o ≡ true → apply c (view s) ≡ view (apply c s)
+    view-own : (q : Option Request) (c : Change) → Decided s q c → inSet In (ownerOf s q) ≡ true → apply c (view s) ≡ view (apply c s)
     unfolding inSet
-    view-own o p (setsLogin i a) d h = sym (view-sets-login s i a (rw (d .owned) at h))
-    view-own o p (shows t) d h = unfold apply in refl
-    view-own o p (stores i a f) d h = sym (view-stores r d (rw (d .owned) at h))
+    view-own q (setsLogin i a) d h = sym (view-sets-login s i a (rw (d .owned) at h))
+    view-own q (shows t) d h = unfold apply in refl
+    view-own q (stores i a f) d h = sym (view-stores r d (rw (d .owned) at h))
 
-    own-result : (q : Request) (room : ℕ) (b : Bytes) (l : List ℕ) (x : Result ℕ Change) → decide s q room ≡ x → inSet In (owner (s .tables) q) ≡ true →
+    own-result : (q : Request) (room : ℕ) (b : Bytes) (l : List ℕ) (x : Result ℕ Change) → decide s q room ≡ x → inSet In (ownerOf s (some q)) ≡ true →
         afterResult (view s) x ≡ view (conclude s b l x .state)
     unfolding afterResult conclude unchanged
     own-result q room b l (refused e) h k = refl
-    own-result q room b l (done c) h k = view-own _ _ c (decided s q room c h) k
+    own-result q room b l (done c) h k = view-own _ c (decided s q room c h) k
 
-    own-step : (t b : Bytes) (l : List ℕ) (q : Option Request) → requestOf t ≡ q → inSet In (Base._>>=_ q (owner (s .tables))) ≡ true →
-        Step s (ownRequest (line t b l) q) (gotOf In (Base._>>=_ q (owner (s .tables))) (Base._>>=_ q pushOf) (conclude s b l (decideLine s b l q))) (conclude s b l (decideLine s b l q) .state)
+    own-step : (t b : Bytes) (l : List ℕ) (q : Option Request) → requestOf t ≡ q → inSet In (ownerOf s q) ≡ true →
+        Step s (ownRequest (line t b l) q) (gotOf In (ownerOf s q) (fieldIn q) (conclude s b l (decideLine s b l q))) (conclude s b l (decideLine s b l q) .state)
     unfolding decideLine ownRequest Base._>>=_ gives givesOwn after afterOwn view
     own-step t b l none e h = never (unfold inSet in sym h)
     own-step t b l (some q) e h =
@@ -404,7 +409,7 @@ module _ (In : ℕ → Bool) where
         (λ k. never (sym e ∙ (ap In (eqb-true j i k) ∙ h)))
         (λ k. rw k))
 
-    others-push : {o : Option ℕ} {p : Option Field} {i : ℕ} {a : LoginState} {f : Field} → Stored s o p i a f → In i ≡ false →
+    others-push : {q : Option Request} {i : ℕ} {a : LoginState} {f : Field} → Stored s q i a f → In i ≡ false →
         Step s (if seen In (s .tables) (f .path) then others (f .path) (f .value) ∷ [] else []) (deliveriesOf (notifiedOf In s (done (stores i a f))) (some f)) (apply (stores i a f) s)
     unfolding deliveriesOf notifiedOf notified
     others-push {i = i} {f = f} d h =
@@ -413,22 +418,22 @@ module _ (In : ℕ → Bool) where
         (λ e. rw (e, k) (one-item s _ (others (f .path) (f .value)) _ (unfold gives in (rw (listening-others i (f .path) h))) (sym (view-others r d h e))))
         (λ e. rw (e, k) (no-items s _ _ (rw (listening-hidden (λ j. not (eqb j i)) (f .path) e)) (sym (view-hidden r d h e))))
 
-    others-done : (o : Option ℕ) (p : Option Field) (c : Change) → Decided s o p c → inSet In o ≡ false →
-        Step s (othersPush In s (answerOf c) p) (deliveriesOf (notifiedOf In s (done c)) p) (apply c s)
+    others-done : (q : Option Request) (c : Change) → Decided s q c → inSet In (ownerOf s q) ≡ false →
+        Step s (othersPush In s (answerOf c) (fieldIn q)) (deliveriesOf (notifiedOf In s (done c)) (fieldIn q)) (apply c s)
     unfolding inSet othersPush
-    others-done o p (setsLogin i a) d h = rw (d .quiet) (unfold deliveriesOf in (no-items s _ [] refl (sym (hidden-sets-login s i a (rw (d .owned) at h)))))
-    others-done o p (shows t) d h = rw d (unfold deliveriesOf in (no-items s _ [] refl (unfold apply in refl)))
-    others-done o p (stores i a f) d h = rw (d .pushed) (unfold answerOf isAccepted in (others-push d (rw (d .owned) at h)))
+    others-done q (setsLogin i a) d h = rw (d .quiet) (unfold deliveriesOf in (no-items s _ [] refl (sym (hidden-sets-login s i a (rw (d .owned) at h)))))
+    others-done q (shows t) d h = rw (d .quiet) (unfold deliveriesOf in (no-items s _ [] refl (unfold apply in refl)))
+    others-done q (stores i a f) d h = rw (d .pushed) (unfold answerOf isAccepted in (others-push d (rw (d .owned) at h)))
 
     others-act : (a : Act) → inSet In (ownerIn (eventIn s a)) ≡ false →
         Step s (othersPush In s (outcome s a .answer) (pushIn (eventIn s a))) (gotIn In (eventIn s a)) (outcome s a .state)
-    unfolding gotIn gotOf
+    unfolding gotIn gotOf ownerIn pushIn
     others-act a h =
         let o = ownerIn (eventIn s a) in
         let p = pushIn (eventIn s a) in
         by-decision (λ x. Step s (othersPush In s (x .answer) p) (gotOf In o p x) (x .state)) s a
         (λ e. rw (got-out _ _ (refused e) o p h) (unfold conclude unchanged notifiedOf in (rw (refused-no-item e p, deliveries-none p) (no-items s s [] refl refl))))
-        (λ c d. rw (got-out _ _ (done c) o p h) (unfold conclude in (others-done o p c d h)))
+        (λ c d. rw (got-out _ _ (done c) o p h) (unfold conclude in (others-done (requestOfAct a) c d h)))
 
     act-step : (a : Act) → Step s (items In (eventIn s a)) (gotIn In (eventIn s a)) (outcome s a .state)
     unfolding items

@@ -1,11 +1,11 @@
--- Document 01's worked cases, by computation from the definitions alone.
+-- Document 01's worked cases, and some of document 02's requests, by computation from the definitions alone.
 use Prim.Native.Nat.{ℕ}
 use Prim.Native.String.{String}
 use mathlib.Core.Path.{_≡_, refl}
 use mathlib.Core.List.{List, [], _∷_, _++_, map}
 use mathlib.Core.Bool.{Bool, true, false, _&&_}
 use lib.Dec.{eqb}
-use lib.ListN.{replicate}
+use lib.ListN.{set, replicate}
 use lib.IntN.{pos}
 use Rattle.model.specs.Base.{Bytes, text, all, _==_}
 use Rattle.model.specs.Limits.{listRoom}
@@ -174,6 +174,87 @@ furtherCases =
 furtherHold : all passes furtherCases ≡ true
 unfolding Program.Opened furtherCases passes
 furtherHold = refl
+
+-- ── 02, 1: LOGOUT ──
+-- with bob a repairer too, who may write what ann reads
+workshopTexts : Texts
+unfolding rows clubTexts
+workshopTexts = record {
+  usersText = rows (
+      "user;role;key;allowance" ∷
+      "ann;repairer;k1;1" ∷
+      "bob;repairer;k2;0" ∷ []);
+  environmentsText = rows ("user;name;value" ∷ []);
+  policyText = clubTexts .policyText;
+  recordText = clubTexts .recordText;
+}
+
+-- ann logs in, out and in again; while she is out nothing reaches her, and her old number stays closed; what she created stays counted
+handedOn : serve workshopTexts (rows (
+    "LOGIN;ann;k1" ∷
+    "LOGIN;bob;k2" ∷
+    "PUSH;1;$['e9']['cv']['3'];10" ∷
+    "LOGOUT;1" ∷
+    "PUSH;65537;$['e7']['cv']['29'];38" ∷
+    "LOGIN;ann;k1" ∷
+    "GET;1" ∷
+    "PUSH;1;$['e7']['cv']['29'];39" ∷
+    "LOGOUT;1" ∷
+    "PUSH;65537;$['e7']['cv']['29'];40" ∷
+    "PUSH;2;$['e9']['cv']['4'];10" ∷
+    "LOGOUT;2;" ∷
+    "LOGOUT;3" ∷
+    "LOGOUT;131073" ∷ [])) ≡ rows (
+    "OK;1" ∷
+    "OK;65537" ∷
+    "OK" ∷ "TO;65537;$['e9']['cv']['3'];10" ∷
+    "OK" ∷
+    "OK" ∷
+    "OK;2" ∷
+    "NO;14" ∷
+    "NO;14" ∷
+    "NO;14" ∷
+    "OK" ∷ "TO;2;$['e7']['cv']['29'];40" ∷
+    "NO;17" ∷
+    "NO;11" ∷
+    "NO;14" ∷
+    "NO;14" ∷ [])
+unfolding Program.Opened rows clubTexts workshopTexts
+handedOn = refl
+
+-- cy has had all logins but one
+almostAll : State
+unfolding clubState
+almostAll = record {
+  tables = clubState .tables;
+  loginStates = set (clubState .loginStates) 2 (record { logins = 65534; isOpen = false; created = 0 });
+  fields = clubState .fields;
+}
+
+-- "LOGIN gives 18, last, when the user has had 65,535 logins"
+lastLogin : map (λ e. e .result .answer) (events almostAll (map (asked 0) (
+    "LOGIN;cy;k3" ∷
+    "LOGIN;cy;k3" ∷
+    "LOGOUT;196607" ∷
+    "LOGIN;cy;k1" ∷
+    "LOGIN;cy;k3" ∷ []))) ≡ session 196607 ∷ refusal 13 ∷ accepted ∷ refusal 12 ∷ refusal 18 ∷ []
+unfolding Program.Opened asked almostAll
+lastLogin = refl
+
+-- LOGOUT is bob's own request, with no length lent; that ann leaves is none of his
+leavingActs : List Act
+unfolding asked
+leavingActs = map (asked 200) ("LOGIN;bob;k2" ∷ "LOGIN;ann;k1" ∷ "LOGOUT;1" ∷ "LOGOUT;65537" ∷ "LOGOUT;65537" ∷ "LOGIN;bob;k2" ∷ [])
+
+bobLeaves : sequence (only 1) (events clubState leavingActs) ≡
+    own (text "LOGIN;bob;k2") 0 ∷ own (text "LOGOUT;65537") 0 ∷ own (text "LOGOUT;65537") 0 ∷ own (text "LOGIN;bob;k2") 0 ∷ []
+unfolding Program.Opened clubState leavingActs
+bobLeaves = refl
+
+bobIsAnswered : got (only 1) (events clubState leavingActs) ≡
+    answer 1 (session 65537) ∷ answer 1 accepted ∷ answer 1 (refusal 14) ∷ answer 1 (session 65538) ∷ []
+unfolding Program.Opened clubState leavingActs
+bobIsAnswered = refl
 
 -- ── What bob sends and gets in the afternoon ──
 clubActs : List Act

@@ -1,24 +1,24 @@
--- The claims about runs, by the club's three conditions, each with its sentence: of document 01, or of the conditions where it says so.
-use Prim.Native.Nat.{ℕ, suc, _+_, _*_, _≤_, _<_}
+-- The claims about runs, by the club's three conditions, each with its sentence: of document 01, of document 02 where a request is named, or of the conditions where it says so.
+use Prim.Native.Nat.{ℕ, suc, _+_, _*_, _%_, _≤_, _<_}
 use mathlib.Core.Path.{_≡_}
 use mathlib.Core.Option.{some}
 use mathlib.Core.List.{List, [], _∷_, map}
 use mathlib.Core.Bool.{Bool, true, false, not, _&&_, _||_}
-use lib.Dec.{ltb}
+use lib.Dec.{leb, ltb, eqb}
 use lib.ListN.{length, take, replicate}
 use Rattle.model.specs.Base.{Bytes, if_then_else_, any, all, keep, joined, sum, range, _==_}
-use Rattle.model.specs.Limits.{maxFields, maxCopy, listRoom, perUser}
+use Rattle.model.specs.Limits.{maxFields, maxCopy, listRoom, perUser, maxLogins}
 use Rattle.model.specs.Values.{Value, valueOf, valueText, validValue}
 use Rattle.model.specs.Fields.{Keys, validKeys, Field, Fields, orderPath, byOrder, valueAt, holds, put, store}
 use Rattle.model.specs.RecordText.{Members, object, treeOf, leafAt}
 use Rattle.model.specs.SavedText.{saved}
 use Rattle.model.specs.Paths.{Steps, stepsText, keysText, stepsOf, keysOf}
 use Rattle.model.specs.Refusals.{refused, done}
-use Rattle.model.specs.Tables.{User, Access, Rule, Tables, userAt}
+use Rattle.model.specs.Tables.{User, Access, Rule, Tables, userAt, userNamed}
 use Rattle.model.specs.Opening.{LoginState, State, emptyLogins, Texts, Fault, fault, quotas, opened, afterOpening}
-use Rattle.model.specs.Requests.{Request, inSession, push, requestOf}
-use Rattle.model.specs.Serving.{indexIn, loginAt, readable, copyFor, stores, decide, refusal, session, length-is, accepted, Act, line, bufferOf, listOf, outcome}
-use Rattle.model.specs.Runs.{eventIn, events, end, ownerIn, only, seenFields, sequence, got, creates, createdBy, loginBy}
+use Rattle.model.specs.Requests.{Ask, Request, login, inSession, push, logout, requestOf}
+use Rattle.model.specs.Serving.{indexIn, loginAt, readable, copyFor, stores, decide, refusal, session, length-is, accepted, Act, line, bufferOf, listOf, Outcome, outcome}
+use Rattle.model.specs.Runs.{eventIn, events, end, ownerIn, only, seenFields, isAccepted, sequence, got, creates, createdBy, hasSession, gives, loginBy, closes}
 use Rattle.model.specs.Program.{printed, serveWith, serve}
 
 -- a state that a run from these texts reaches
@@ -67,18 +67,36 @@ PushChangesOne =
     requestOf x ≡ some (inSession n (push p v)) → outcome s (line x b l) .answer ≡ accepted →
     OneFieldChanged s (outcome s (line x b l) .state) (indexIn n) p v
 
--- what a login at index i makes of a state
-pub record OneLoginChanged (s s₁ : State) (i : ℕ) : Type 0 where
-  pub ownLogin : loginAt s₁ i ≡ record { logins = suc (loginAt s i .logins); isOpen = true; created = loginAt s i .created }
-  pub otherLogins : (j : ℕ) → (j ≡ i → ⊥) → loginAt s₁ j ≡ loginAt s j
-  pub fieldsStay : s₁ .fields ≡ s .fields
-  pub tablesStay : s₁ .tables ≡ s .tables
+-- an act's outcome that has this login state at index i, and nothing else changed
+pub record OneLoginChanged (s : State) (a : Act) (o : Outcome) (i : ℕ) (new : LoginState) : Type 0 where
+  pub ownLogin : loginAt (o .state) i ≡ new
+  pub otherLogins : (j : ℕ) → (j ≡ i → ⊥) → loginAt (o .state) j ≡ loginAt s j
+  pub fieldsStay : o .state .fields ≡ s .fields
+  pub tablesStay : o .state .tables ≡ s .tables
+  pub bufferStays : o .buffer ≡ bufferOf a
+  pub listStays : o .list ≡ listOf a
+  pub nobodyTold : o .told ≡ 0
 
 -- "A login changes one seat only"
 abbrev pub LoginChangesOne : Type 0
 LoginChangesOne =
-    (t : Texts) (s : State) → Reached t s → (x b : Bytes) (l : List ℕ) (n : ℕ) → outcome s (line x b l) .answer ≡ session n →
-    OneLoginChanged s (outcome s (line x b l) .state) (indexIn n)
+    (t : Texts) (s : State) → Reached t s → (a : Act) (n : ℕ) → outcome s a .answer ≡ session n →
+    OneLoginChanged s a (outcome s a) (indexIn n) (record {
+      logins = suc (loginAt s (indexIn n) .logins);
+      isOpen = true;
+      created = loginAt s (indexIn n) .created;
+    })
+
+-- 02, 1: "`LOGOUT;session`, which closes it", and "The fields the user created stay counted"
+abbrev pub LogoutChangesOne : Type 0
+LogoutChangesOne =
+    (t : Texts) (s : State) → Reached t s → (x b : Bytes) (l : List ℕ) (n : ℕ) →
+    requestOf x ≡ some (inSession n logout) → outcome s (line x b l) .answer ≡ accepted →
+    OneLoginChanged s (line x b l) (outcome s (line x b l)) (indexIn n) (record {
+      logins = loginAt s (indexIn n) .logins;
+      isOpen = false;
+      created = loginAt s (indexIn n) .created;
+    })
 
 -- a copy and a save change no state
 abbrev pub ShowingChangesNothing : Type 0
@@ -165,7 +183,7 @@ OneRecord =
     (t₁ t₂ : Texts) (s₁ s₂ : State) → Reached t₁ s₁ → Reached t₂ s₂ →
     saved (s₁ .fields) ≡ saved (s₂ .fields) → s₁ .fields ≡ s₂ .fields
 
--- ── Condition 2: logins and growth ──
+-- ── Condition 2: logins ──
 -- "that user's logins": a login count is that user's own number of accepted logins
 abbrev pub CountsOwnLogins : Type 0
 CountsOwnLogins =
@@ -178,6 +196,64 @@ LoginAnswers =
     (t : Texts) (s : State) (acts : List Act) → opened t ≡ done s → (a : Act) (n : ℕ) → outcome (end s acts) a .answer ≡ session n →
     (i : ℕ) × (ownerIn (eventIn (end s acts) a) ≡ some i) × (n ≡ perUser * i + suc (length (keep (loginBy i) (events s acts))))
 
+-- 02, 1: "The logins of a user end at 65,535"
+abbrev pub LoginsEnd : Type 0
+LoginsEnd = (t : Texts) (s : State) → Reached t s → (i : ℕ) → loginAt s i .logins ≤ maxLogins
+
+-- so a number divided by 65,536 is the index of the user who got it, and the rest that user's logins: two users' numbers never meet
+abbrev pub NumberDivides : Type 0
+NumberDivides =
+    (t : Texts) (s : State) (acts : List Act) → opened t ≡ done s → (a : Act) (n : ℕ) → outcome (end s acts) a .answer ≡ session n →
+    (ownerIn (eventIn (end s acts) a) ≡ some (indexIn n)) × (n % perUser ≡ suc (length (keep (loginBy (indexIn n)) (events s acts))))
+
+-- ── Condition 2: sessions (02, 1) ──
+-- a number is answered at most once
+abbrev pub AnsweredOnce : Type 0
+AnsweredOnce =
+    (t : Texts) (s : State) (acts : List Act) → opened t ≡ done s → (n : ℕ) →
+    length (keep (gives n) (events s acts)) ≤ 1
+
+-- and is open exactly from the login that answers it to the LOGOUT that closes it
+abbrev pub OpenBetween : Type 0
+OpenBetween =
+    (t : Texts) (s : State) (acts : List Act) → opened t ≡ done s → (n : ℕ) →
+    hasSession (end s acts) n ≡ (any (gives n) (events s acts) && not (any (closes n) (events s acts)))
+
+-- a number with which nothing is done: lines with it are refused, 14 unless a list is too short, no login answers it, and no list receives it
+pub record Shut (s : State) (n : ℕ) : Type 0 where
+  pub refuses : (x b : Bytes) (l : List ℕ) (q : Ask) → requestOf x ≡ some (inSession n q) → isAccepted (outcome s (line x b l) .answer) ≡ false
+  pub ground : (x b : Bytes) (l : List ℕ) (q : Ask) → requestOf x ≡ some (inSession n q) → listRoom ≤ length l → outcome s (line x b l) .answer ≡ refusal 14
+  pub notGiven : (a : Act) → gives n (eventIn s a) ≡ false
+  pub notTold : (a : Act) → any (eqb n) (take (outcome s a .told) (outcome s a .list)) ≡ false
+
+-- "A closed number stays closed until the next accepted opening of the four texts", "and deliveries stop with it"
+abbrev pub StaysClosed : Type 0
+StaysClosed =
+    (t : Texts) (s : State) (acts : List Act) → opened t ≡ done s → (n : ℕ) → any (closes n) (events s acts) ≡ true →
+    Shut (end s acts) n
+
+-- a LOGOUT that was accepted, and what came after it with no login of that user among it
+pub record LeftSince (s : State) (n : ℕ) : Type 0 where
+  pub texts : Texts
+  pub former : State
+  pub reached : Reached texts former
+  pub content : Bytes
+  pub buffer : Bytes
+  pub list : List ℕ
+  pub isLogout : requestOf content ≡ some (inSession n logout)
+  pub isAccepted : outcome former (line content buffer list) .answer ≡ accepted
+  pub later : List Act
+  pub noLogin : any (loginBy (indexIn n)) (events (outcome former (line content buffer list) .state) later) ≡ false
+  pub isEnd : end (outcome former (line content buffer list) .state) later ≡ s
+
+-- "that user may then log in again and gets a number with the login count one higher"; "LOGIN gives 18, .. when the user has had 65,535 logins"
+abbrev pub LogsInAgain : Type 0
+LogsInAgain =
+    (s : State) (n : ℕ) → LeftSince s n → (name : Bytes) (u : User) → userNamed name (s .tables .users) ≡ some (indexIn n, u) →
+    (x b : Bytes) (l : List ℕ) → requestOf x ≡ some (login name (u .key)) →
+    outcome s (line x b l) .answer ≡ (if leb maxLogins (n % perUser) then refusal 18 else session (suc n))
+
+-- ── Condition 2: growth ──
 -- fields held less fields loaded are the accepted pushes that named an absent field
 abbrev pub GrowsByPushes : Type 0
 GrowsByPushes =

@@ -72,7 +72,7 @@ listRoom = 32
 abbrev pub perUser : ℕ
 perUser = 65536
 
--- a login count ends here (document 02); no run comes near
+-- "The logins of a user end at 65,535" (02, 1)
 abbrev pub maxLogins : ℕ
 maxLogins = 65535
 

@@ -1,4 +1,4 @@
--- Document 01, "Request lines": "A line is first taken apart; one that cannot be is refused 11."
+-- Document 01, "Request lines": "A line is first taken apart; one that cannot be is refused 11"; with document 02, request 1.
 use Prim.Native.Nat.{ℕ}
 use mathlib.Core.Option.{Option, none, some}
 use mathlib.Core.List.{List, [], _∷_}
@@ -17,6 +17,7 @@ use Rattle.model.specs.Paths
 pub data Ask : Type 0 where
   get : Ask
   push : Keys → Value → Ask
+  logout : Ask
 
 -- a login by user and key, or what the session of a number asks for
 pub data Request : Type 0 where
@@ -35,12 +36,16 @@ readLogin s = do
   check (isName u && isName k)
   some (login u k)
 
+-- a word with a session number behind it and nothing more
+unfoldable pub readAsk : Bytes → Ask → Bytes → Option Request
+readAsk word a s = do
+  r ← after word s
+  n ← sessionOf r
+  some (inSession n a)
+
 -- "`GET;session`"
 unfoldable pub readGet : Bytes → Option Request
-readGet s = do
-  r ← after (text "GET;") s
-  n ← sessionOf r
-  some (inSession n get)
+readGet s = readAsk (text "GET;") get s
 
 -- "`PUSH;session;path;value`, the value running to the line's end without blanks"
 unfoldable pub readPush : Bytes → Option Request
@@ -50,9 +55,13 @@ readPush s = do
   (p, v) ← cut 0x3B r₁
   some (inSession (← sessionOf n) (push (← keysOf p) (← valueOf v)))
 
--- "begins with one of the words `LOGIN;`, `GET;` or `PUSH;`": the reader of each
+-- "`LOGOUT;session`" (02, 1)
+unfoldable pub readLogout : Bytes → Option Request
+readLogout s = readAsk (text "LOGOUT;") logout s
+
+-- "begins with one of the words `LOGIN;`, `GET;` or `PUSH;`", or with `LOGOUT;` (02, 1): the reader of each
 unfoldable pub readers : List (Bytes → Option Request)
-readers = readLogin ∷ readGet ∷ readPush ∷ []
+readers = readLogin ∷ readGet ∷ readPush ∷ readLogout ∷ []
 
 -- what the first reader that can read a line reads
 unfoldable pub firstOf : {A : Type 0} → List (Bytes → Option A) → Bytes → Option A
@@ -68,7 +77,15 @@ unfoldable pub pushOf : Request → Option Field
 pushOf (login u k) = none
 pushOf (inSession n get) = none
 pushOf (inSession n (push p v)) = some (fieldOf p v)
+pushOf (inSession n logout) = none
+
+-- the number of the session that a request is to close
+unfoldable pub logoutOf : Request → Option ℕ
+logoutOf (login u k) = none
+logoutOf (inSession n get) = none
+logoutOf (inSession n (push p v)) = none
+logoutOf (inSession n logout) = some n
 
 unfoldable pub Opened : Unit {0}
-unfolding Paths.Opened sessionOf readLogin readGet readPush readers firstOf requestOf pushOf
+unfolding Paths.Opened sessionOf readLogin readAsk readGet readPush readLogout readers firstOf requestOf pushOf logoutOf
 Opened = tt

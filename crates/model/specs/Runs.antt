@@ -1,4 +1,4 @@
--- Document 01, "Request lines", last part: a run, what a set of users sends in it, and what it gets. A set is given by a test of the user index.
+-- Document 01, "Request lines", last part; document 02, request 1: a run, what a set of users sends in it, and what it gets. A set is given by a test of the user index.
 use Prim.Native.Nat.{ℕ}
 use mathlib.Core.Option.{Option, none, some}
 use mathlib.Core.List.{List, [], _∷_, _++_, map}
@@ -11,8 +11,8 @@ use Rattle.model.specs.Fields.{Keys, Field, Fields, holds}
 use Rattle.model.specs.Paths.{keysText}
 use Rattle.model.specs.Tables.{Tables, userAt, userNamed}
 use Rattle.model.specs.Opening.{State}
-use Rattle.model.specs.Requests.{Request, login, inSession, requestOf, pushOf}
-use Rattle.model.specs.Serving.{indexIn, readsAt, roomFor, Answer, refusal, session, length-is, accepted, Act, line, save, Outcome, outcome}
+use Rattle.model.specs.Requests.{Request, login, inSession, requestOf, pushOf, logoutOf}
+use Rattle.model.specs.Serving.{indexIn, isSession, loginAt, readsAt, roomFor, Answer, refusal, session, length-is, accepted, Act, line, save, Outcome, outcome}
 use Rattle.model.specs.Serving
 
 -- ── "A run is one accepted opening, .. and then a list of request lines and saves" ──
@@ -51,7 +51,8 @@ indexOf (some t) = some (t .0)
 unfoldable pub ifUser : Tables → ℕ → Option ℕ
 ifUser t i = if isSome (userAt (t .users) i) then some i else none
 
--- "LOGIN lines naming that user and GET or PUSH lines whose number divided by 65,536, rounded down, is that user's place"
+-- "LOGIN lines naming that user and GET or PUSH lines whose number divided by 65,536, rounded down, is that user's place"; LOGOUT lines
+-- too: "by its number it is one of the user's own requests" (02, 1)
 unfoldable pub owner : Tables → Request → Option ℕ
 owner t (login u k) = indexOf (userNamed u (t .users))
 owner t (inSession n a) = ifUser t (indexIn n)
@@ -157,17 +158,30 @@ creates e = createsBy (e .before) (e .result .answer) (pushIn e)
 unfoldable pub createdBy : ℕ → Event → Bool
 createdBy i e = inSet (only i) (ownerIn e) && creates e
 
--- ── Logins counted ──
-unfoldable pub givesSession : Answer → Bool
-givesSession (refusal e) = false
-givesSession (session n) = true
-givesSession (length-is n) = false
-givesSession accepted = false
+-- ── Sessions ──
+-- an open session has this number
+unfoldable pub hasSession : State → ℕ → Bool
+hasSession s n = isSession (indexIn n) (loginAt s (indexIn n)) n
+
+-- the session number that is answered
+unfoldable pub sessionIn : Answer → Option ℕ
+sessionIn (refusal e) = none
+sessionIn (session n) = some n
+sessionIn (length-is n) = none
+sessionIn accepted = none
+
+-- a login that answers the number n
+unfoldable pub gives : ℕ → Event → Bool
+gives n e = inSet (only n) (sessionIn (e .result .answer))
 
 -- an accepted login of the user at index i
 unfoldable pub loginBy : ℕ → Event → Bool
-loginBy i e = inSet (only i) (ownerIn e) && givesSession (e .result .answer)
+loginBy i e = inSet (only i) (ownerIn e) && isSome (sessionIn (e .result .answer))
+
+-- an accepted LOGOUT of the number n
+unfoldable pub closes : ℕ → Event → Bool
+closes n e = inSet (only n) (e .request >>= logoutOf) && isAccepted (e .result .answer)
 
 unfoldable pub Opened : Unit {0}
-unfolding Serving.Opened requestOfAct events end indexOf ifUser owner ownerIn pushIn inSet only seen seenFields isAccepted ownRequest othersPush items sequence deliveryLine copies answers deliveries gotIn got createsBy creates createdBy givesSession loginBy
+unfolding Serving.Opened requestOfAct events end indexOf ifUser owner ownerIn pushIn inSet only seen seenFields isAccepted ownRequest othersPush items sequence deliveryLine copies answers deliveries gotIn got createsBy creates createdBy hasSession sessionIn gives loginBy closes
 Opened = tt

@@ -1,5 +1,5 @@
--- Document 01, "Request lines": LOGIN, GET, PUSH and save. What is decided only reads the state; what is decided then changes it.
-use Prim.Native.Nat.{ℕ, suc, _+_, _*_, _/_, min}
+-- Document 01, "Request lines": LOGIN, GET, PUSH and save; document 02, request 1: LOGOUT. What is decided only reads the state; what is decided then changes it.
+use Prim.Native.Nat.{ℕ, suc, _+_, _*_, _/_}
 use mathlib.Core.Option.{Option, none, some}
 use mathlib.Core.List.{List, [], _∷_, _++_, map}
 use mathlib.Core.Bool.{Bool, true, false, not, _&&_}
@@ -15,7 +15,7 @@ use Rattle.model.specs.Refusals.{Result, refused, done, _>>=_, _>>_, ref
 use Rattle.model.specs.Tables.{Binding, User, Access, READ, WRITE, Rule, Tables, userAt, userNamed}
 use Rattle.model.specs.Rights.{isFor, mayRead, mayWrite}
 use Rattle.model.specs.Opening.{LoginState, State, emptyLogin}
-use Rattle.model.specs.Requests.{Request, login, inSession, get, push, requestOf}
+use Rattle.model.specs.Requests.{Request, login, inSession, get, push, logout, requestOf}
 use Rattle.model.specs.SavedText
 use Rattle.model.specs.Opening
 use Rattle.model.specs.Requests
@@ -72,7 +72,7 @@ copyFor s u = copyOf (s .tables .policy) u (readable (s .tables .policy) u (s .f
 
 -- ── Decisions: each word's grounds in the order of its sentence ──
 pub data Change : Type 0 where
-  setsLogin : ℕ → LoginState → Change  -- the login state at an index becomes this one, with a session
+  setsLogin : ℕ → LoginState → Change  -- the login state at an index becomes this one
   shows : Bytes → Change  -- a text goes into the buffer
   stores : ℕ → LoginState → Field → Change  -- a field holds its value, and the login state at an index becomes this one
 
@@ -96,16 +96,17 @@ decideShow c room = do
   refuse 15 if ltb room (length c)
   done (shows c)
 
--- a login: one more, up to the last, and a session is open
+-- a login: one more, and a session is open
 abbrev pub entered : LoginState → LoginState
-entered a = record { logins = min (suc (a .logins)) maxLogins; isOpen = true; created = a .created }
+entered a = record { logins = suc (a .logins); isOpen = true; created = a .created }
 
--- "12 user unknown or key wrong; 13 the user has a session"
+-- "12 user unknown or key wrong; 13 the user has a session"; "18, last, when the user has had 65,535 logins" (02, 1)
 unfoldable pub decideLogin : State → Bytes → Bytes → Result ℕ Change
 decideLogin s n k = do
   (i, u) ← userNamed n (s .tables .users) or 12
   refuse 12 if not (u .key == k)
   refuse 13 if loginAt s i .isOpen
+  refuse 18 if leb maxLogins (loginAt s i .logins)
   done (setsLogin i (entered (loginAt s i)))
 
 -- "14 no open session has this number; 15 the lent buffer is shorter than the copy"
@@ -128,17 +129,29 @@ decidePush s n p v room = do
   refuse 17 if not (holds p (s .fields)) && leb (a .user .quota) (a .login .created)
   done (stores (a .index) (creating (a .login) (holds p (s .fields))) (fieldOf p v))
 
+-- a logout: the session is closed; "The fields the user created stay counted"
+abbrev pub closed : LoginState → LoginState
+closed a = record { logins = a .logins; isOpen = false; created = a .created }
+
+-- "LOGOUT gives 11, then 14" (02, 1)
+unfoldable pub decideLogout : State → ℕ → Result ℕ Change
+decideLogout s n = do
+  a ← asker s n
+  done (setsLogin (a .index) (closed (a .login)))
+
 -- the length of what a request writes into, 0 where it writes into nothing
 unfoldable pub roomFor : Request → Bytes → List ℕ → ℕ
 roomFor (login u k) b l = 0
 roomFor (inSession n get) b l = length b
 roomFor (inSession n (push p v)) b l = length l
+roomFor (inSession n logout) b l = 0
 
 -- what a request, with that length, is decided to be
 unfoldable pub decide : State → Request → ℕ → Result ℕ Change
 decide s (login u k) room = decideLogin s u k
 decide s (inSession n get) room = decideGet s n room
 decide s (inSession n (push p v)) room = decidePush s n p v room
+decide s (inSession n logout) room = decideLogout s n
 
 -- "Save: 15 the buffer is too short; else it writes the saved text without 0A"
 unfoldable pub decideSave : State → ℕ → Result ℕ Change
@@ -182,9 +195,9 @@ pub data Answer : Type 0 where
   length-is : ℕ → Answer
   accepted : Answer
 
--- "The answer is the session number", "the copy's length", "the sender's answer shows neither list nor its length"
+-- "The answer is the session number", "the copy's length", "the sender's answer shows neither list nor its length"; nothing more for a session closed
 unfoldable pub answerOf : Change → Answer
-answerOf (setsLogin i a) = session (sessionNumber i a)
+answerOf (setsLogin i a) = if a .isOpen then session (sessionNumber i a) else accepted
 answerOf (shows c) = length-is (length c)
 answerOf (stores i a f) = accepted
 
@@ -242,5 +255,5 @@ unfoldable pub outcome : State → Act → Outcome
 outcome s a = conclude s (bufferOf a) (listOf a) (decision s a)
 
 unfoldable pub Opened : Unit {0}
-unfolding SavedText.Opened Opening.Opened Requests.Opened sessionNumber indexIn isSession loginAt accessText tableLine ruleLine bindingLine copyOf readable copyFor asker decideShow decideLogin decideGet creating decidePush roomFor decide decideSave apply readsBy readsAt receivers notified shown answerOf bufferOf listOf decideLine decision over unchanged conclude outcome
+unfolding SavedText.Opened Opening.Opened Requests.Opened sessionNumber indexIn isSession loginAt accessText tableLine ruleLine bindingLine copyOf readable copyFor asker decideShow decideLogin decideGet creating decidePush decideLogout roomFor decide decideSave apply readsBy readsAt receivers notified shown answerOf bufferOf listOf decideLine decision over unchanged conclude outcome
 Opened = tt

@@ -22,7 +22,7 @@ use Rattle.model.specs.Runs.{requestOfAct, eventIn, pushIn, deliveryLine}
 use Rattle.model.specs.Program.{printDeliveries, printAnswer, printed}
 use Rattle.model.proofs.Lists.{all-every, map-agree}
 use Rattle.model.proofs.Reading.{check-some}
-use Rattle.model.proofs.Decisions.{decided, shown-fits}
+use Rattle.model.proofs.Decisions.{answers-length, decided, shown-fits}
 use Rattle.model.proofs.Decisions as decisions
 use Rattle.requests.specs.Lines.{pushedText, PushStands}
 use Rattle.deliveries.specs.Receivers.{deliveryOf}
@@ -64,7 +64,7 @@ module _ (s : State) (b : Bytes) (l : List ℕ) where
 
 shown-length : (c : Change) (n : ℕ) → answerOf c ≡ length-is n → n ≡ length (shown c)
 unfolding answerOf shown
-shown-length (setsLogin i a) n h = let z : _≡_ {A = ℕ} 0 1 = cc in absurd (omega arith)
+shown-length (setsLogin i a) n h = answers-length i a n h
 shown-length (shows x) n h = cc
 shown-length (stores i a f) n h = let z : _≡_ {A = ℕ} 0 1 = cc in absurd (omega arith)
 
@@ -96,23 +96,27 @@ deliveries-as : (p : Keys) (v : Value) (l : List ℕ) → map (λ m. deliveryLin
 unfolding pushedText between
 deliveries-as p v l = map-agree _ _ l (all-every _ (delivery-as p v) l)
 
--- ── A line that is accepted: it asks for a push, which stands in it from the position on ──
-record Pushes (t : Bytes) (at : ℕ) : Type 0 where
-  field : Field
-  asked : (requestOf t >>= pushOf) ≡ some field
-  stands : PushStands t (field .path) at (field .value)
+-- ── A line that is accepted: who is told is told what stands in it from the position on ──
+record Speaks (t : Bytes) (at : ℕ) (o : Outcome) : Type 0 where
+  within : at ≤ length t
   short : length t ≤ maxLine
+  tells : printDeliveries o (requestOf t >>= pushOf) ≡ joined (map (deliveryOf (drop at t)) (take (o .told) (o .list)))
 
-module _ (s : State) (t : Bytes) (at : ℕ) where
+module _ (s : State) (b : Bytes) (l : List ℕ) (t : Bytes) (at : ℕ) where
   asks-short : {q : Request} → requestOf t ≡ some q → length t ≤ maxLine
   unfolding requestOf
   asks-short asks = check-some _ _ _ asks λ short _. leb-true _ _ short
 
-  accepts-push : (room : ℕ) (q : Request) (c : Change) → requestOf t ≡ some q → decide s q room ≡ done c → answerOf c ≡ accepted → StandsAt (done c) t at → Pushes t at
-  unfolding answerOf _>>=_
-  accepts-push room q (setsLogin i a) asks h is stands = let z : _≡_ {A = ℕ} 0 1 = cc in absurd (omega arith)
-  accepts-push room q (shows x) asks h is stands = let z : _≡_ {A = ℕ} 0 1 = cc in absurd (omega arith)
-  accepts-push room q (stores i a f) asks h is stands = record { field = f; asked = rw asks (decided s q room _ h .pushed); stands = stands; short = asks-short asks }
+  accepts : (room : ℕ) (q : Request) (c : Change) → requestOf t ≡ some q → decide s q room ≡ done c → answerOf c ≡ accepted → StandsAt (done c) t at →
+      Speaks t at (conclude s b l (done c))
+  unfolding answerOf conclude notified printDeliveries joined
+  accepts room q (setsLogin i a) asks h is stands = record { within = stands; short = asks-short asks; tells = rw (asks, decided s q room _ h .quiet) }
+  accepts room q (shows x) asks h is stands = let z : _≡_ {A = ℕ} 0 1 = cc in absurd (omega arith)
+  accepts room q (stores i a f) asks h is stands = record {
+    within = stands .within;
+    short = asks-short asks;
+    tells = rw (asks, decided s q room _ h .pushed, stands .pushed, deliveries-as (f .path) (f .value) (take (length (notified s (stores i a f))) (over (notified s (stores i a f)) l)));
+  }
 
 -- ── The reply r to a line, with what it left ──
 module _ (before : Arrays) (t : Bytes) (given : Lent) (r : Reply) (after : Arrays) (left : Lent) (served : Served before t given r after left) where
@@ -158,24 +162,22 @@ module _ (before : Arrays) (t : Bytes) (given : Lent) (r : Reply) (after : Array
 
   -- ── It is accepted ──
   module _ {k at : ℕ} (is : r ≡ Accepted k at) where
-    pushes : Pushes t at
+    speaks : Speaks t at (outcomeIn r (stateOf after) (left .buffer) (left .list))
     unfolding outcomeIn conclude unchanged
-    pushes =
-        by-line s b l t (λ d. conclude s b l d .answer ≡ accepted → StandsAt d t at → Pushes t at)
+    speaks = subst (Speaks t at) (sym (served .is)) (
+        by-line s b l t (λ d. conclude s b l d .answer ≡ accepted → StandsAt d t at → Speaks t at (conclude s b l d))
         (λ e h. let z : _≡_ {A = ℕ} 0 1 = cc in absurd (omega arith))
-        (λ q c asks h accepts. accepts-push s t at _ q c asks h accepts)
+        (λ q c asks h. accepts s b l t at _ q c asks h)
         (ap (λ (o : Outcome). o .answer) (sym (served .is)) ∙ ap answerIn is)
-        (rw is at (served .position))
+        (rw is at (served .position)))
 
     pub accepted-inside : (at ≤ length t) × (length t ≤ maxLine)
-    accepted-inside = (pushes .stands .within, pushes .short)
+    accepted-inside = (speaks .within, speaks .short)
 
     -- the deliveries too, with path and value as they stand in the line
     pub printed-accepted : printed (eventIn s (line t b l)) ≡ printAnswer (left .buffer) (answerIn r) ++ joined (map (deliveryOf (drop at t)) (take k (left .list)))
-    unfolding printed pushIn requestOfAct printDeliveries outcomeIn
-    printed-accepted =
-        let f = pushes .field in
-        rw (← reply-is, pushes .asked, ap toldIn is, pushes .stands .pushed, deliveries-as (f .path) (f .value) (take k (left .list)))
+    unfolding printed pushIn requestOfAct outcomeIn
+    printed-accepted = rw (← reply-is, speaks .tells, ap toldIn is)
 
     -- at most 32 sessions are told, and the list has room for them
     few : (i : ℕ) (p : Keys) → length (receivers s i p) ≤ maxUsers

@@ -1,6 +1,6 @@
 -- Request lines by positions: what the tests of a line say of the request that is read.
 use Prim.Native.Nat.{ℕ, _+_, _-_, _≤_, _<_}
-use mathlib.Core.Path.{_≡_, refl, sym, ap, _∙_}
+use mathlib.Core.Path.{_≡_, sym, ap, _∙_}
 use mathlib.Core.Bool.{Bool, true, false, _&&_}
 use mathlib.Core.Option.{Option, none, some}
 use mathlib.Core.List.{[], _∷_, _++_}
@@ -14,7 +14,7 @@ use Rattle.model.specs.Names.{isName}
 use Rattle.model.specs.Values.{Value, readValue, valueOf}
 use Rattle.model.specs.Fields.{Keys}
 use Rattle.model.specs.Paths.{keysOf}
-use Rattle.model.specs.Requests.{Request, login, inSession, get, push, sessionOf, readLogin, readGet, readPush}
+use Rattle.model.specs.Requests.{Request, login, inSession, push, sessionOf, readLogin, readPush}
 use Rattle.values.specs.declared.value.Scalar.{Scalar}
 use Rattle.values.specs.declared.value.ValueAt.{ValueAt}
 use Rattle.values.specs.declared.value.ValueAt.the-variants as value
@@ -28,8 +28,8 @@ use Rattle.lexical.specs.declared.class.End.{End}
 use Rattle.lexical.specs.declared.class.End.the-variants as end
 use Rattle.model.proofs.Reading.{cut-some}
 use Rattle.model.proofs.Spelling.{keys-as-written, value-as-written}
-use Rattle.requests.specs.Lines.{parsedAnswer, pushedText, PushStands, Behind, SlotAfter}
-use Rattle.requests.specs.declared.Ask.the-variants.{Get, Push}
+use Rattle.requests.specs.Lines.{pushedText, PushStands, Behind, ReadsAs, SlotAfter}
+use Rattle.requests.specs.declared.Ask.the-variants.{Get, Push, Logout}
 use Rattle.requests.specs.declared.Request.the-variants.{Login, InSession}
 use Rattle.requests.specs.declared.Parsed.{Parsed}
 use Rattle.requests.specs.declared.Parsed.the-variants.{Is, Bad}
@@ -66,12 +66,6 @@ module _ (s : Bytes) (from : ℕ) (begins : after (text "LOGIN;") s ≡ some (dr
       let w = run-within (isNot 0x3B) s from m is long in
       let to : m < length s = omega (arith, f) in
       record { starts = w .0; to = to; read = λ p q. rw (begins, cut-here 0x3B s from m is to, p, q) }
-
--- ── `GET;session` ──
-pub get-session : (s : Bytes) (from : ℕ) → after (text "GET;") s ≡ some (drop from s) → {n : Option ℕ} → number maxSession (drop from s) ≡ n
-    → (n >>= λ n. some (inSession n get)) ≡ readGet s
-unfolding readGet sessionOf _>>=_
-get-session s from begins p = rw (begins, p)
 
 -- ── `PUSH;session;path;value` ──
 -- what is read of the three together
@@ -123,16 +117,17 @@ unfolding pushedText text between
 push-stands s from a b p v e k w = record { within = omega (arith, e .between, e .to); pushed = e .parts ∙ rw (keys-as-written _ _ k, value-as-written _ _ w) }
 
 -- ── The slot for a path ──
--- it is the same before and after what reads none: an answer that holds whatever the path is no push
-pub slot-same : (s : Bytes) (x : Option Request) (b : Bytes) (r : Parsed) → ((p : Keys) → parsedAnswer s p r ≡ x) → SlotAfter r b b
-slot-same s x b (Is (Login from m)) h = refl
-slot-same s x b (Is (InSession n Get)) h = refl
-slot-same s x b (Is (InSession n (Push at v))) h =
-    let one = h [] in
-    let two = h ([] ∷ []) in
-    let same : _≡_ {A = Keys} [] ([] ∷ []) = cc in
-    absurd (omega (arith, ap length same))
-slot-same s x b Bad h = refl
+-- it keeps its bytes where none is read: an answer that holds whatever the path is no push
+pub slot-same : {read : Bytes → Option Request} {s : Bytes} {r : Parsed} → ((p : Keys) → ReadsAs read s p r) → {before now : Bytes} → now ≡ before → SlotAfter r before now
+slot-same {r = Is (Login from m)} h same = same
+slot-same {r = Is (InSession n Get)} h same = same
+slot-same {r = Is (InSession n (Push at v))} h same =
+    let one = h [] .asks in
+    let two = h ([] ∷ []) .asks in
+    let equal : _≡_ {A = Keys} [] ([] ∷ []) = cc in
+    absurd (omega (arith, ap length equal))
+slot-same {r = Is (InSession n Logout)} h same = same
+slot-same {r = Bad} h same = same
 
 -- ── A path ──
 -- what the function `read_path` answered, once it is known whether it is one

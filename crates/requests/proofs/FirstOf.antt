@@ -1,26 +1,20 @@
 -- A line asks for what the first reader that reads it makes of it.
 use Prim.Native.Nat.{_≤_, _<_}
-use mathlib.Core.Path.{_≡_, refl, sym}
-use mathlib.Core.Bool.{true}
+use mathlib.Core.Path.{_≡_, refl, _∙_}
 use mathlib.Core.Option.{Option, none, some}
 use mathlib.Core.List.{List, [], _∷_}
 use borrow.Author.Tests.{le-leb, lt-leb}
 use lib.ListN.{length}
-use Rattle.model.specs.Base.{Bytes, isSome, _>>_, _<|>_, check}
+use Rattle.model.specs.Base.{Bytes, _>>_, _<|>_, check}
 use Rattle.model.specs.Limits.{maxLine}
+use Rattle.model.specs.Fields.{Keys}
 use Rattle.model.specs.Requests.{readers, firstOf, requestOf}
-use Rattle.model.proofs.Lists.{never}
-
--- what is there is something
-pub is-some : {A : Type 0} {o : Option A} {a : A} → o ≡ some a → isSome o ≡ true
-unfolding isSome
-is-some h = rw h
-
--- the first that reads something is kept
-kept : {A : Type 0} (a b : Option A) → isSome a ≡ true → a ≡ (a <|> b)
-unfolding isSome _<|>_
-kept none b h = never (sym h)
-kept (some x) b h = refl
+use Rattle.model.specs.Requests as model
+use Rattle.values.proofs.Values.{told}
+use Rattle.requests.specs.Lines.{parsedAnswer, ReadsAs}
+use Rattle.requests.specs.declared.Request.{Request}
+use Rattle.requests.specs.declared.Parsed.{Parsed}
+use Rattle.requests.specs.declared.Parsed.the-variants.{Is, Bad}
 
 -- nothing behind the last
 last : {A : Type 0} (a : Option A) → a ≡ (a <|> none)
@@ -28,22 +22,8 @@ unfolding _<|>_
 last none = refl
 last (some x) = refl
 
+-- ── The line ──
 module _ (s : Bytes) where
-  -- ── Of some readers the first reads, or the others do, or it is the last ──
-  module _ {A : Type 0} (read : Bytes → Option A) where
-    pub first-reads : (others : List (Bytes → Option A)) → isSome (read s) ≡ true → read s ≡ firstOf (read ∷ others) s
-    unfolding firstOf
-    first-reads others h = kept (read s) (firstOf others s) h
-
-    pub first-fails : (others : List (Bytes → Option A)) → read s ≡ none → firstOf others s ≡ firstOf (read ∷ others) s
-    unfolding firstOf _<|>_
-    first-fails others h = rw h
-
-    pub last-reads : read s ≡ firstOf (read ∷ []) s
-    unfolding firstOf
-    last-reads = last (read s)
-
-  -- ── The line ──
   pub too-long : maxLine < length s → none ≡ requestOf s
   unfolding requestOf check _>>_
   too-long h = rw (lt-leb (length s) maxLine h)
@@ -51,3 +31,20 @@ module _ (s : Bytes) where
   pub short : length s ≤ maxLine → firstOf readers s ≡ requestOf s
   unfolding requestOf check _>>_
   short h = rw (le-leb (length s) maxLine h)
+
+-- ── Of the readers that decide the first reads, or the others decide, or it is the last ──
+module _ {read : Bytes → Option model.Request} {s : Bytes} {p : Keys} {r : Parsed} (h : ReadsAs read s p r) where
+  module _ (others : List (Bytes → Option model.Request)) (decide : firstOf (read ∷ others) s ≡ requestOf s) where
+    pub first-reads : {q : Request} → r ≡ Is q → ReadsAs requestOf s p r
+    unfolding firstOf _<|>_
+    first-reads is =
+        let reads = told (parsedAnswer s p) (h .asks) is in
+        record { asks = h .asks ∙ reads ∙ rw reads at decide; stands = h .stands }
+
+    pub first-fails : r ≡ Bad → firstOf others s ≡ requestOf s
+    unfolding firstOf _<|>_
+    first-fails is = rw (told (parsedAnswer s p) (h .asks) is) at decide
+
+  pub last-reads : firstOf (read ∷ []) s ≡ requestOf s → ReadsAs requestOf s p r
+  unfolding firstOf
+  last-reads decide = record { asks = h .asks ∙ last (read s) ∙ decide; stands = h .stands }

@@ -14,7 +14,7 @@ use Rattle.lexical.specs.declared.class.End.the-variants as end
 use Rattle.paths.specs.Layout.{CanonicalPath}
 use Rattle.values.specs.Scalars.{valueIn, InText}
 use Rattle.requests.specs.declared.Ask.{Ask}
-use Rattle.requests.specs.declared.Ask.the-variants.{Get, Push}
+use Rattle.requests.specs.declared.Ask.the-variants.{Get, Push, Logout}
 use Rattle.requests.specs.declared.Request.{Request}
 use Rattle.requests.specs.declared.Request.the-variants.{Login, InSession}
 use Rattle.requests.specs.declared.Parsed.{Parsed}
@@ -25,6 +25,7 @@ use Rattle.requests.specs.declared.Parsed.the-variants.{Is, Bad}
 abbrev pub askIn : Bytes → Keys → Ask → model.Ask
 askIn s p Get = model.get
 askIn s p (Push at v) = model.push p (valueIn s v)
+askIn s p Logout = model.logout
 
 -- the user stands from a position on, the key behind the `;` at m
 abbrev pub requestIn : Bytes → Keys → Request → model.Request
@@ -48,6 +49,7 @@ pub record PushStands (s : Bytes) (p : Keys) (at : ℕ) (v : Value) : Type 0 whe
 abbrev pub AskStands : Bytes → Keys → Ask → Type 0
 AskStands s p Get = Unit {0}
 AskStands s p (Push at v) = InText v s × PushStands s p at (valueIn s v)
+AskStands s p Logout = Unit {0}
 
 abbrev pub RequestStands : Bytes → Keys → Request → Type 0
 RequestStands s p (Login from m) = (from ≤ m) × (m < length s)
@@ -68,9 +70,14 @@ pub record ReadsAs (read : Bytes → Option model.Request) (s : Bytes) (p : Keys
   pub asks : parsedAnswer s p r ≡ read s
   pub stands : ParsedStands s p r
 
+-- a word with a session number behind it and nothing more asks for a, where a stands in the line
+abbrev pub AsksFor : Bytes → Ask → Bytes → Parsed → Type 0
+AsksFor w a s r = (p : Keys) → AskStands s p a → ReadsAs (model.readAsk w (askIn s p a)) s p r
+
 -- the slot for a path keeps its bytes unless a push is read: then they are its path's, each of them
 abbrev pub SlotAfter : Parsed → Bytes → Bytes → Type 0
 SlotAfter (Is (Login from m)) before now = now ≡ before
 SlotAfter (Is (InSession n Get)) before now = now ≡ before
 SlotAfter (Is (InSession n (Push at v))) before now = CanonicalPath now
+SlotAfter (Is (InSession n Logout)) before now = now ≡ before
 SlotAfter Bad before now = now ≡ before

@@ -13,14 +13,15 @@ use values::value::Scalar;
 use values::value::ValueAt;
 use values::value::value_at;
 ghost use Rattle.model.specs.Fields.{Keys};
-ghost use Rattle.model.specs.Requests.{readLogin, readGet, readPush, requestOf};
+ghost use Rattle.model.specs.Requests.{readLogin, readGet, readPush, readLogout, requestOf};
 ghost use Rattle.paths.specs.Layout.{pathIn};
-ghost use Rattle.requests.specs.Lines.{Behind, ReadsAs, SlotAfter};
+ghost use Rattle.requests.specs.Lines.{Behind, ReadsAs, AsksFor, SlotAfter};
 
-// What a session asks for: a copy; or a value for the path in the slot, both of which stand in the line from a position on.
+// What a session asks for: a copy; a value for the path in the slot, both of which stand in the line from a position on; or its end.
 pub enum Ask {
     Get,
     Push(usize, Scalar),
+    Logout,
 }
 
 // A login, with the positions where the user begins and ends: behind the `;` there stands the key. Or what the session of a number asks for.
@@ -66,17 +67,24 @@ fn login_line(line: &[u8]) -> Parsed
     Parsed::Is(Request::Login(from, cut))
 }
 
-// `GET;session`
-fn get_line(line: &[u8]) -> Parsed
-    ensures { λ r. ⌜ ((p : Keys) → ReadsAs readGet (now (line .entry)) p r) ⌝ }
+// A word with a session number behind it and nothing more, and what it asks for.
+fn ask_line(line: &[u8], word: &[u8], ask: Ask) -> Parsed
+    ensures { λ r. ⌜ AsksFor (now (word .entry)) ask (now (line .entry)) r ⌝ }
 {
-    let End::At(from) = behind(line, b"GET;") else {
+    let End::At(from) = behind(line, word) else {
         return Parsed::Bad;
     };
     let Natural::Is(session) = number(&line[from..], MAX_SESSION) else {
         return Parsed::Bad;
     };
-    Parsed::Is(Request::InSession(session as u32, Ask::Get))
+    Parsed::Is(Request::InSession(session as u32, ask))
+}
+
+// `GET;session`
+fn get_line(line: &[u8]) -> Parsed
+    ensures { λ r. ⌜ ((p : Keys) → ReadsAs readGet (now (line .entry)) p r) ⌝ }
+{
+    ask_line(line, b"GET;", Ask::Get)
 }
 
 // `PUSH;session;path;value`, the path read into the slot
@@ -114,6 +122,13 @@ fn push_line(line: &[u8], path: &mut [u8; PATH]) -> Parsed
     Parsed::Is(Request::InSession(session as u32, Ask::Push(at, value)))
 }
 
+// `LOGOUT;session`
+fn logout_line(line: &[u8]) -> Parsed
+    ensures { λ r. ⌜ ((p : Keys) → ReadsAs readLogout (now (line .entry)) p r) ⌝ }
+{
+    ask_line(line, b"LOGOUT;", Ask::Logout)
+}
+
 // What a line asks for.
 pub fn parse(line: &[u8], path: &mut [u8; PATH]) -> Parsed
     ensures { λ r. ⌜ ReadsAs requestOf (now (line .entry)) (pathIn (now (path .exit))) r ⌝ }
@@ -130,5 +145,9 @@ pub fn parse(line: &[u8], path: &mut [u8; PATH]) -> Parsed
     let Parsed::Bad = get else {
         return get;
     };
-    push_line(line, path)
+    let push = push_line(line, path);
+    let Parsed::Bad = push else {
+        return push;
+    };
+    logout_line(line)
 }

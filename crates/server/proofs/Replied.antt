@@ -1,11 +1,11 @@
--- What a request leaves, from what is decided for it: a refusal keeps all, a login changes the login states, a shown text the buffer.
+-- What a request leaves, from what is decided for it: a refusal keeps all, a login and a logout change the login states, a shown text the buffer.
 use Prim.Native.Nat.{ℕ, zero, suc, _*_, _≤_, _<_}
 use mathlib.Core.Path.{_≡_, refl, ap, _∙_}
 use mathlib.Core.List.{List, [], _∷_, _++_}
 use native.Mathlib.Nat.{zero-add, sub-zero}
 use native.Mathlib.Omega.{arith}
 use borrow.Author.Tests.{lt-ltb, le-ltb}
-use lib.ListN.{length, take, drop, replicate}
+use lib.ListN.{length, getD, take, drop, replicate}
 use lib.Seq.{take-all, drop-nil}
 use Rattle.rows.specs.Rows.{written, Wrote}
 use Rattle.rows.proofs.Writing.{written-clipped}
@@ -14,16 +14,17 @@ use Rattle.model.specs.Limits.{maxFields}
 use Rattle.model.specs.Fields.{Fields}
 use Rattle.model.specs.SavedText.{saved}
 use Rattle.model.specs.Refusals.{Result, refused, done, _>>=_, _>>_, refuse_if_}
-use Rattle.model.specs.Requests.{login, inSession, get}
-use Rattle.model.specs.Serving.{Change, shows, loginAt, copyOf, readable, copyFor}
-use Rattle.model.specs.Serving.{decideShow, decideLogin, decideGet, decideSave, roomFor, decide, decision, bufferOf, listOf}
+use Rattle.model.specs.Requests.{login, inSession, get, logout}
+use Rattle.model.specs.Serving.{Change, setsLogin, shows, loginAt, copyOf, readable, copyFor}
+use Rattle.model.specs.Serving.{decideShow, decideLogin, decideGet, decideLogout, decideSave, roomFor, decide, decision, bufferOf, listOf}
 use Rattle.model.specs.Serving.{apply, notified, shown, answerOf, over, unchanged, conclude, save, outcome}
+use Rattle.model.specs.Opening.{LoginState, emptyLogin}
 use Rattle.model.proofs.Decisions.{login-change}
 use Rattle.tables.specs.Memory.{userRow, usersBytes, userIn, usersIn, policyIn, tablesIn}
 use Rattle.record.specs.Slots.{fieldsIn}
 use Rattle.record.proofs.Stores.{fields-fit}
 use Rattle.writer.specs.Selected.{selected}
-use Rattle.sessions.specs.Logins.{loginsIn, loginDecided, LoggedIn, hasSession, sessionAnswer}
+use Rattle.sessions.specs.Logins.{loginsIn, StateStored, closed, loginDecided, LoggedIn, hasSession, sessionAnswer}
 use Rattle.sessions.specs.declared.LoginReply.{LoginReply}
 use Rattle.sessions.specs.declared.LoginReply.the-variants as entry
 use Rattle.sessions.specs.declared.SessionAt.{SessionAt}
@@ -31,7 +32,7 @@ use Rattle.sessions.specs.declared.SessionAt.the-variants.{Of, Unknown}
 use Rattle.sessions.proofs.Known.{no-session, in-session, session-unknown, session-known, session-user}
 use Rattle.opening.specs.Memory.{Arrays, arrays, stateIn}
 use Rattle.server.specs.declared.answer.Reply.{Reply}
-use Rattle.server.specs.declared.answer.Reply.the-variants.{Refused, Session, Length}
+use Rattle.server.specs.declared.answer.Reply.the-variants.{Refused, Session, Length, Accepted}
 use Rattle.server.specs.Replies.{outcomeIn, lent, fieldsAfter, Position, Leaves}
 
 -- ── Refusals: all is as it was ──
@@ -75,11 +76,11 @@ module _ (tables : Bytes) (logins : List ℕ) (n k : Bytes) where
     where
       went : (d : Result ℕ Change) → entering ≡ d → outcomeIn (loginReply r) (stateIn tables after fs) b l ≡ conclude (stateIn tables logins fs) b l entering
       went (refused e) h = rw (← is, logged .answers, logged .leaves, h)
-      went (done c) h = unfold loginDecided in (login-change _ n k c h λ i u named shut e. rw (← is, logged .answers, logged .leaves, h, ← e))
+      went (done c) h = unfold loginDecided in (login-change _ n k c h λ i u named shut few e. rw (← is, logged .answers, logged .leaves, h, ← e))
 
       stayed : (d : Result ℕ Change) → entering ≡ d → fs ≡ fieldsAfter entering fs
       stayed (refused e) h = rw h
-      stayed (done c) h = unfold loginDecided in (login-change _ n k c h λ i u named shut e. rw (h, ← e))
+      stayed (done c) h = unfold loginDecided in (login-change _ n k c h λ i u named shut few e. rw (h, ← e))
 
 -- ── A text shown: it is written if it fits ──
 -- measuring a text, which is writing it into no bytes, leaves the buffer as it was
@@ -106,12 +107,16 @@ module _ {d : Result ℕ Change} (c b : Bytes) (decides : d ≡ decideShow c (le
       let shows-it : d ≡ done (shows c) = decides ∙ rw (le-ltb (length b) (length c) fits) in
       record { is = rw (shows-it, stands, kept, is, zero-add, written-over c b fits); logins = rw shows-it; fields = rw shows-it; position = tt }
 
--- ── GET: the copy is shown ──
+-- ── GET: the copy is shown; LOGOUT: the session is closed ──
 module _ (tables : Bytes) (logins : List ℕ) (fields : Bytes) (n : ℕ) {o : SessionAt}
     (answer : o ≡ sessionAnswer (hasSession (usersIn tables) (loginsIn logins) n) n) where
   pub get-unknown : o ≡ Unknown → (room : ℕ) → decide (stateIn tables logins fields) (inSession n get) room ≡ refused 14
   unfolding decide decideGet stateIn tablesIn _>>=_
   get-unknown is room = rw (no-session (stateIn tables logins fields) n (session-unknown tables _ n answer is))
+
+  pub logout-unknown : o ≡ Unknown → (room : ℕ) → decide (stateIn tables logins fields) (inSession n logout) room ≡ refused 14
+  unfolding decide decideLogout stateIn tablesIn _>>=_
+  logout-unknown is room = rw (no-session (stateIn tables logins fields) n (session-unknown tables _ n answer is))
 
   -- the user's row and the policy are parts of the tables, and `marks` selects the fields that the user may read
   pub get-shows : {i : ℕ} {row policy : Bytes} (marks : Bytes) → o ≡ Of i → row ≡ take userRow (drop (i * userRow) tables) → policy ≡ drop usersBytes tables
@@ -121,6 +126,25 @@ module _ (tables : Bytes) (logins : List ℕ) (fields : Bytes) (n : ℕ) {o : Se
   get-shows marks is at part selects room =
       let user = session-user tables _ n answer is at in
       rw (selects, part, in-session (stateIn tables logins fields) n user (session-known tables _ n answer is .0))
+
+  -- the login state a of the session's user is closed, which makes it c
+  module _ {i : ℕ} {a c : LoginState} (is : o ≡ Of i) (state : a ≡ getD (loginsIn logins) i emptyLogin) (shut : c ≡ closed a) where
+    logout-decides : (room : ℕ) → decide (stateIn tables logins fields) (inSession n logout) room ≡ done (setsLogin i c)
+    unfolding decide decideLogout closed stateIn tablesIn _>>=_
+    logout-decides room =
+        let (isOpen, index) = session-known tables _ n answer is in
+        rw (in-session (stateIn tables logins fields) n (session-user tables _ n answer is refl) isOpen, ← index, shut, state)
+
+    pub logout-left : {after : List ℕ} → StateStored logins i c after → (text b : Bytes) (l : List ℕ)
+        → Leaves (decide (stateIn tables logins fields) (inSession n logout) (roomFor (inSession n logout) b l)) text
+        (arrays tables logins fields) (lent b l) (Accepted 0 0) (arrays tables after fields) (lent b l)
+    unfolding outcomeIn stateIn conclude answerOf apply shown notified over closed
+    logout-left stored text b l = rw (logout-decides (roomFor (inSession n logout) b l)) (record {
+      is = rw (stored .states, shut);
+      logins = stored .numbers;
+      fields = refl;
+      position = omega arith;
+    })
 
 -- ── Save: the saved text of all fields is shown ──
 -- a selection without 0 shows all

@@ -102,6 +102,11 @@ GetServed a n before r after = (text : Bytes) (l : List ℕ) → Answered a text
 abbrev pub PushServed : Arrays → Bytes → ℕ → Keys → Value → List ℕ → Reply → Arrays → List ℕ → Type 0
 PushServed before text n p v given r after left = (b : Bytes) → Answered before text (model.inSession n (model.push p v)) (lent b given) r after (lent b left)
 
+-- LOGOUT of a session, whatever the line, the fields, the buffer and the list, which stay
+abbrev pub LogoutServed : Bytes → List ℕ → ℕ → Reply → List ℕ → Type 0
+LogoutServed tables before n r after = (text fields b : Bytes) (l : List ℕ)
+    → Answered (arrays tables before fields) text (model.inSession n model.logout) (lent b l) r (arrays tables after fields) (lent b l)
+
 -- a path in canonical bytes and a value within its limits, both standing in the line from a position on
 pub record Storable (path text : Bytes) (at : ℕ) (value : Scalar) : Type 0 where
   pub short : length text ≤ maxLine

@@ -19,8 +19,10 @@ use requests::Request;
 use requests::parse;
 use sessions::LoginReply;
 use sessions::SessionAt;
+use sessions::closed;
 use sessions::put_state;
 use sessions::session;
+use sessions::state_at;
 use tables::memory::USER;
 use tables::memory::policy_of;
 use values::value::Scalar;
@@ -30,7 +32,7 @@ ghost use lib.ListN.{length};
 ghost use Rattle.values.specs.Scalars.{valueIn};
 ghost use Rattle.paths.specs.Layout.{pathIn};
 ghost use Rattle.opening.specs.Memory.{arrays};
-ghost use Rattle.server.specs.Replies.{lent, Served, LoginServed, GetServed, PushServed, Storable};
+ghost use Rattle.server.specs.Replies.{lent, Served, LoginServed, GetServed, PushServed, LogoutServed, Storable};
 
 // LOGIN, the user in the line from a position up to the `;` at `cut`, behind which the key stands.
 fn login(
@@ -113,6 +115,18 @@ fn push(
     }
 }
 
+// LOGOUT: the session is closed, and nobody is told.
+fn logout(tables: &[u8; TABLES], logins: &mut [u16; LOGINS], n: u32) -> Reply
+    ensures { λ r. ⌜ LogoutServed (now (tables .entry)) (now (logins .entry)) n r (now (logins .exit)) ⌝ }
+{
+    let SessionAt::Of(i) = session(tables, logins, n) else {
+        return Reply::Refused(14);
+    };
+    let left = closed(state_at(logins, i));
+    put_state(logins, i, left);
+    Reply::Accepted(0, 0)
+}
+
 // A line of any bytes, with any buffer and any list.
 pub fn request(
     tables: &[u8; TABLES],
@@ -137,6 +151,7 @@ pub fn request(
         Request::InSession(n, ask) => match ask {
             Ask::Get => get(tables, logins, fields, n, buffer),
             Ask::Push(at, value) => push(tables, logins, fields, n, &path, value, line, at, list),
+            Ask::Logout => logout(tables, logins, n),
         },
     }
 }

@@ -1,5 +1,5 @@
 -- The login states in memory: the one at an index, one written, what a login is decided to be, and whether a number is an open session's.
-use Prim.Native.Nat.{ℕ, suc, _+_, _*_, _/_, _≤_, _<_, min}
+use Prim.Native.Nat.{ℕ, suc, _+_, _*_, _/_, _≤_, _<_}
 use mathlib.Core.Path.{_≡_, refl, sym, ap, _∙_}
 use mathlib.Core.Bool.{Bool, true, false, not, _&&_}
 use mathlib.Core.Option.{Option, none, some}
@@ -7,9 +7,9 @@ use mathlib.Core.List.{List, [], _∷_, append-assoc}
 use native.Mathlib.Nat.{add-zero}
 use native.Mathlib.Numerals.{add-one, add-two}
 use native.Mathlib.Omega.{arith}
-use borrow.Author.Tests.{eq-eqb, ne-eqb}
+use borrow.Author.Tests.{eq-eqb, ne-eqb, le-leb, lt-leb}
 use mir.Val.{boolByte}
-use lib.Dec.{eqb}
+use lib.Dec.{eqb, leb}
 use lib.ListN.{length, getD, getElem?, take, drop, set}
 use lib.Seq.{sets, sets-eq, drop-drop}
 use Rattle.rows.specs.Rows.{rows, replaced, written}
@@ -29,7 +29,7 @@ use Rattle.tables.specs.declared.memory.UserAt.the-variants.{At, Unknown}
 use Rattle.layout.proofs.Used.{length-table, counted-fit}
 use Rattle.tables.proofs.Users.{user-none, user-some}
 use Rattle.sessions.specs.declared.LoginState as code
-use Rattle.sessions.specs.Logins.{loginRow, loginNumbers, loginIn, loginsIn, stateOf, numbersOf, withLogin, StateStored, entered, loginDecided, sessionIs, hasSession}
+use Rattle.sessions.specs.Logins.{loginRow, loginNumbers, loginIn, loginsIn, stateOf, numbersOf, withLogin, StateStored, withSession, entered, loginDecided, sessionIs, hasSession}
 
 -- ── A login state in its three numbers ──
 -- a flag is stored as 1 or 0
@@ -71,18 +71,15 @@ module _ (s : List ℕ) (i : ℕ) (below : i < maxUsers) where
     pub state-put : length s ≡ loginNumbers → StateStored s i (record { logins = a; isOpen = b; created = c }) put
     state-put long = record { numbers = numbers-put; states = states-put long }
 
--- ── One login more; up to the last ──
-abbrev pub capped : ℕ → ℕ
-capped n = min (suc n) maxLogins
-
--- the code's login state with one login more and a session
-abbrev pub opened : code.LoginState → code.LoginState
-opened h = record { logins = capped (h .logins); is_open = true; created = h .created }
+-- ── A session opened or closed ──
+-- the code's login state with n logins, and a session or none
+abbrev pub changed : code.LoginState → ℕ → Bool → code.LoginState
+changed h n t = record { logins = n; is_open = t; created = h .created }
 
 -- the meaning of a login state determines it
-pub opened-from : (h w : code.LoginState) → stateOf w ≡ entered (stateOf h) → w ≡ opened h
-unfolding stateOf entered
-opened-from h w e = ap back e
+pub changed-from : (h w : code.LoginState) (n : ℕ) (t : Bool) → stateOf w ≡ withSession (stateOf h) n t → w ≡ changed h n t
+unfolding stateOf withSession
+changed-from h w n t e = ap back e
   where
     back : LoginState → code.LoginState
     back a = record { logins = a .logins; is_open = a .isOpen; created = a .created }
@@ -139,7 +136,8 @@ module _ (s n : Bytes) {o : UserAt} {i : ℕ} (at : o ≡ At i) (found : o ≡ u
   module _ (ls : List LoginState) (k : Bytes) {key : Bytes} {r : Bool} (is : key ≡ nameIn (take nameRow (drop (i * userRow + keyAt) s))) (same : r ≡ (key == k)) where
     -- the comparison stands for the key's
     login-is : loginDecided (usersIn s) ls n k
-        ≡ ((refuse 12 if not r) >> ((refuse 13 if getD ls i emptyLogin .isOpen) >> done (setsLogin i (entered (getD ls i emptyLogin)))))
+        ≡ ((refuse 12 if not r) >> ((refuse 13 if getD ls i emptyLogin .isOpen)
+        >> ((refuse 18 if leb maxLogins (getD ls i emptyLogin .logins)) >> done (setsLogin i (entered (getD ls i emptyLogin))))))
     unfolding loginDecided decideLogin loginAt entered userIn _>>=_ _or_ _>>_ refuse_if_
     login-is = rw (found-row, part-part (i * userRow) userRow s keyAt nameRow (omega arith), ← is, ← same)
 
@@ -153,9 +151,13 @@ module _ (s n : Bytes) {o : UserAt} {i : ℕ} (at : o ≡ At i) (found : o ≡ u
       unfolding _>>_ refuse_if_
       has-session h = login-is ∙ rw (right, ← state, h)
 
-      pub login-enters : a .isOpen ≡ false → {b : LoginState} → b ≡ entered a → loginDecided (usersIn s) ls n k ≡ done (setsLogin i b)
+      pub logins-ended : a .isOpen ≡ false → maxLogins ≤ a .logins → loginDecided (usersIn s) ls n k ≡ refused 18
+      unfolding _>>_ refuse_if_
+      logins-ended h l = login-is ∙ rw (right, ← state, h, le-leb _ _ l)
+
+      pub login-enters : a .isOpen ≡ false → a .logins < maxLogins → {b : LoginState} → b ≡ entered a → loginDecided (usersIn s) ls n k ≡ done (setsLogin i b)
       unfolding entered _>>_ refuse_if_
-      login-enters h e = login-is ∙ rw (right, ← state, h, e)
+      login-enters h l e = login-is ∙ rw (right, ← state, h, lt-leb _ _ l, e)
 
 -- nobody has the name
 pub login-unknown : (s n : Bytes) {o : UserAt} → o ≡ Unknown → o ≡ userAnswer (userNamed n (usersIn s)) → (ls : List LoginState) (k : Bytes)

@@ -62,11 +62,19 @@ numbersAfter (done (setsLogin i a)) s = withLogin i a s
 numbersAfter (done (shows c)) s = s
 numbersAfter (done (stores i a f)) s = withLogin i a s
 
--- ── A login ──
--- the login state after a login, kept shut for the proofs
+-- ── A session opened or closed ──
+-- with n logins, and a session or none; the fields created stay counted
+unfoldable pub withSession : LoginState → ℕ → Bool → LoginState
+withSession a n t = record { logins = n; isOpen = t; created = a .created }
+
+-- the login state after a login and after a logout, kept shut for the proofs
 unfoldable pub entered : LoginState → LoginState
 entered a = serving.entered a
 
+unfoldable pub closed : LoginState → LoginState
+closed a = serving.closed a
+
+-- ── A login ──
 -- a login looks at the users and the login states alone
 unfoldable pub loginDecided : List User → List LoginState → Bytes → Bytes → Result ℕ Change
 loginDecided us ls n k = decideLogin (record { tables = record { users = us; policy = [] }; loginStates = ls; fields = [] }) n k

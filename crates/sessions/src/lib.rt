@@ -12,12 +12,12 @@ use tables::memory::USERS;
 use tables::memory::UserAt;
 use tables::memory::find_user;
 ghost use mathlib.Core.Path.{_≡_};
-ghost use Prim.Native.Nat.{suc, min, _<_};
+ghost use Prim.Native.Nat.{_<_};
 ghost use lib.ListN.{getD};
 ghost use Rattle.model.specs.Limits.{maxUsers, maxLogins};
 ghost use Rattle.model.specs.Opening.{emptyLogin};
 ghost use Rattle.model.specs.Serving.{sessionNumber};
-ghost use Rattle.sessions.specs.Logins.{loginsIn, stateOf, StateStored, entered, LoggedIn, sessionOf};
+ghost use Rattle.sessions.specs.Logins.{loginsIn, stateOf, StateStored, withSession, entered, closed, LoggedIn, sessionOf};
 
 // A login state: the logins, whether a session is open, the fields created.
 pub const LOGIN_ROW: usize = 3;
@@ -75,34 +75,39 @@ pub fn number(i: usize, state: LoginState) -> u32
     PER_USER * (i as u32) + (state.logins as u32)
 }
 
-// One login more, up to the last.
-fn one_more(logins: u16) -> u16
-    ensures { λ r. ⌜ r ≡ min (suc logins) maxLogins ⌝ }
+// The login count and whether a session is open become these; the fields created stay counted.
+fn set_session(state: &mut LoginState, logins: u16, is_open: bool)
+    ensures { λ _. ⌜ stateOf (now (state .exit)) ≡ withSession (stateOf (now (state .entry))) logins is_open ⌝ }
 {
-    if logins < MAX_LOGINS {
-        return logins + 1;
-    }
-    logins
-}
-
-// A login: the count goes up, and a session is open.
-fn enter(state: &mut LoginState)
-    ensures { λ _. ⌜ stateOf (now (state .exit)) ≡ entered (stateOf (now (state .entry))) ⌝ }
-{
-    state.logins = one_more(state.logins);
-    state.is_open = true;
+    state.logins = logins;
+    state.is_open = is_open;
 }
 
 // The same for a caller that has the login state by value.
-fn entered(state: LoginState) -> LoginState
-    ensures { λ r. ⌜ stateOf r ≡ entered (stateOf state) ⌝ }
+fn with_session(state: LoginState, logins: u16, is_open: bool) -> LoginState
+    ensures { λ r. ⌜ stateOf r ≡ withSession (stateOf state) logins is_open ⌝ }
 {
     let mut next = state;
-    enter(&mut next);
+    set_session(&mut next, logins, is_open);
     next
 }
 
-// LOGIN: 12 user unknown or key wrong; 13 the user has a session.
+// A login: one more, and a session is open.
+fn entered(state: LoginState) -> LoginState
+    requires { ⌜ state .logins < maxLogins ⌝ }
+    ensures { λ r. ⌜ stateOf r ≡ entered (stateOf state) ⌝ }
+{
+    with_session(state, state.logins + 1, true)
+}
+
+// A logout: the session is closed, the counts stay.
+pub fn closed(state: LoginState) -> LoginState
+    ensures { λ r. ⌜ stateOf r ≡ closed (stateOf state) ⌝ }
+{
+    with_session(state, state.logins, false)
+}
+
+// LOGIN: 12 user unknown or key wrong; 13 the user has a session; 18 the user has had all logins.
 pub fn login(
     tables: &[u8; TABLES],
     logins: &mut [u16; LOGINS],
@@ -121,6 +126,9 @@ pub fn login(
     let state = state_at(logins, i);
     if state.is_open {
         return LoginReply::Refused(13);
+    }
+    if MAX_LOGINS <= state.logins {
+        return LoginReply::Refused(18);
     }
     let next = entered(state);
     put_state(logins, i, next);

@@ -19,9 +19,14 @@ const OWN: usize = 4;
 const DAY: usize = 20_000;
 const DAY_SEED: u64 = 1871;
 
+/// Session numbers of one user lie within one such range.
+const RANGE: usize = 65_536;
+
 pub struct Hall {
     pub texts: Texts,
+    /// The logins of the users, in the order of the table, and their logouts.
     pub logins: Vec<Line>,
+    pub logouts: Vec<Line>,
     pub gets: Vec<Line>,
     /// Pushes to fields that are held, by users who may write them.
     pub held_pushes: Vec<Line>,
@@ -43,6 +48,7 @@ impl Hall {
         Hall {
             texts: [users.into(), environments.into(), policy.into(), record.into()],
             logins: lines(&["LOGIN;ann;k1", "LOGIN;bob;k2", "LOGIN;cy;k3"]),
+            logouts: lines(&["LOGOUT;1", "LOGOUT;65537", "LOGOUT;131073"]),
             gets: lines(&["GET;1", "GET;65537", "GET;131073"]),
             held_pushes: lines(&[
                 "PUSH;1;$['e7']['cv']['29'];38",
@@ -81,6 +87,7 @@ impl Hall {
                 format!("{{{record}}}").into(),
             ],
             logins: (0..USERS).map(|user| format!("LOGIN;user{user};key{user}").into()).collect(),
+            logouts: (0..USERS).map(|user| format!("LOGOUT;{}", session(user)).into()).collect(),
             gets: (0..USERS).map(|user| format!("GET;{}", session(user)).into()).collect(),
             held_pushes: (0..USERS).flat_map(|user| held_pushes(user, engines)).collect(),
             new_pushes: (0..USERS).flat_map(new_pushes).collect(),
@@ -94,27 +101,83 @@ impl Hall {
     }
 
     /// A day in this hall: all log in; then mostly pushes, some copies, a few
-    /// lines that are refused.
+    /// lines that are refused. Now and then a user leaves and comes back soon;
+    /// meanwhile that user's lines have a closed number.
     pub fn day(&self) -> Vec<Line> {
         let mut rng = Rng::new(DAY_SEED);
+        let mut seats = Seats::new(self.logins.len());
         let mut day = self.logins.clone();
         while day.len() < DAY {
-            let kind = match rng.below(100) {
-                0..=11 => &self.gets,
-                12..=83 => &self.held_pushes,
-                84..=89 => &self.new_pushes,
-                90..=95 => &self.forbidden,
-                _ => &self.logins,
+            let line = match seats.out {
+                None if rng.below(50) == 0 => seats.leave(&self.logouts, &mut rng),
+                Some(user) if rng.below(5) == 0 => self.logins[user].clone(),
+                _ => self.any_line(&seats, &mut rng),
             };
-            let mut line = kind[rng.below(kind.len())].clone();
-            if rng.below(50) == 0 {
-                let end = rng.below(line.len());
-                line.truncate(end);
+            if seats.out.is_some_and(|user| line == self.logins[user]) {
+                seats.come_back();
             }
             day.push(line);
         }
         day
     }
+
+    /// A line of any user; a few are cut short.
+    fn any_line(&self, seats: &Seats, rng: &mut Rng) -> Line {
+        let kind = match rng.below(100) {
+            0..=11 => &self.gets,
+            12..=83 => &self.held_pushes,
+            84..=89 => &self.new_pushes,
+            90..=95 => &self.forbidden,
+            _ => &self.logins,
+        };
+        let mut line = seats.numbered(&kind[rng.below(kind.len())]);
+        if rng.below(50) == 0 {
+            let end = rng.below(line.len());
+            line.truncate(end);
+        }
+        line
+    }
+}
+
+/// Who is in during a day: all users, or all but one.
+struct Seats {
+    /// How often each user has logged in.
+    logins: Vec<usize>,
+    out: Option<usize>,
+}
+
+impl Seats {
+    fn new(users: usize) -> Self {
+        Seats { logins: vec![1; users], out: None }
+    }
+
+    /// The logout of any user, who is out then.
+    fn leave(&mut self, logouts: &[Line], rng: &mut Rng) -> Line {
+        let user = rng.below(logouts.len());
+        self.out = Some(user);
+        self.numbered(&logouts[user])
+    }
+
+    fn come_back(&mut self) {
+        if let Some(user) = self.out.take() {
+            self.logins[user] += 1;
+        }
+    }
+
+    /// A line with the number of the user's last login for that of the first.
+    fn numbered(&self, line: &Line) -> Line {
+        let mut parts: Vec<&[u8]> = line.splitn(3, |&byte| byte == b';').collect();
+        let Some(first) = number(parts[1]) else {
+            return line.clone();
+        };
+        let last = (first - 1 + self.logins[first / RANGE]).to_string();
+        parts[1] = last.as_bytes();
+        parts.join(&b';')
+    }
+}
+
+fn number(text: &[u8]) -> Option<usize> {
+    std::str::from_utf8(text).ok()?.parse().ok()
 }
 
 fn lines(texts: &[&str]) -> Vec<Line> {
@@ -130,8 +193,9 @@ fn table(head: &str, lines: impl Iterator<Item = String>) -> Vec<u8> {
     (format!("{head}\n") + &joined(lines, "")).into()
 }
 
+/// The session number of the user's first login.
 fn session(user: usize) -> usize {
-    user * 65_536 + 1
+    user * RANGE + 1
 }
 
 fn user_line(user: usize, allowance: usize) -> String {

@@ -51,6 +51,7 @@ fn print_rows(title: &str, hall: &Hall, with_room: &Hall) {
     tasks::check(with_room);
     let rows = [
         ("LOGIN", tasks::login(hall)),
+        ("LOGOUT", tasks::logout(hall)),
         ("GET", tasks::get(hall)),
         ("PUSH to a held field", tasks::held_push(hall)),
         ("PUSH of a new field", tasks::new_push(with_room)),

@@ -89,6 +89,14 @@ fn login_rounds<S: Subject>(hall: &Hall) -> impl FnMut() -> Round {
     on_copies(S::opened(&hall.texts), &hall.wrong_logins(), &hall.logins)
 }
 
+/// The logins are refused, as all are in; they only bring the copy into the
+/// cache.
+fn logout_rounds<S: Subject>(hall: &Hall) -> impl FnMut() -> Round {
+    let state = attended::<S>(hall);
+    Desk::new().ask_accepted(&mut state.clone(), &hall.logouts);
+    on_copies(state, &hall.logins, &hall.logouts)
+}
+
 fn new_push_rounds<S: Subject>(hall: &Hall) -> impl FnMut() -> Round {
     let state = attended::<S>(hall);
     Desk::new().ask_accepted(&mut state.clone(), &hall.new_pushes);
@@ -124,6 +132,10 @@ fn opening_rounds<S: Subject>(hall: &Hall) -> impl FnMut() -> Round {
 
 pub fn login(hall: &Hall) -> Contest {
     both!(login_rounds, hall)
+}
+
+pub fn logout(hall: &Hall) -> Contest {
+    both!(logout_rounds, hall)
 }
 
 pub fn get(hall: &Hall) -> Contest {

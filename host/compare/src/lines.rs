@@ -7,12 +7,14 @@ use crate::texts::field_path;
 use crate::words;
 
 /// Session numbers of one user lie within one such range.
-const RANGE: usize = 65_536;
+pub const RANGE: usize = 65_536;
 
 /// What is known when a line is made: a guide, which need not be right.
 pub struct Guide<'a> {
     pub hall: &'a Hall,
+    /// Numbers of open sessions, and of those that were closed.
     pub sessions: &'a [usize],
+    pub closed: &'a [usize],
     /// Paths that were pushed.
     pub pushed: &'a [Path],
 }
@@ -31,10 +33,20 @@ impl From<Vec<u8>> for Line {
 
 impl Guide<'_> {
     pub fn line(&self, rng: &mut Rng) -> Line {
+        let left = self.left();
+        if left.is_empty() || !rng.one_in(6) {
+            return self.any_line(rng);
+        }
+        let user = *rng.pick(&left);
+        Self::login_of(user).into()
+    }
+
+    fn any_line(&self, rng: &mut Rng) -> Line {
         match rng.below(100) {
-            0..=9 => self.login(rng).into(),
-            10..=37 => self.get(rng).into(),
-            38..=87 => self.push(rng),
+            0..=8 => self.login(rng).into(),
+            9..=14 => self.logout(rng).into(),
+            15..=40 => self.get(rng).into(),
+            41..=87 => self.push(rng),
             88..=94 => self.damaged(rng).into(),
             95..=96 => random_bytes(rng).into(),
             _ => self.of_any_length(rng).into(),
@@ -65,6 +77,22 @@ impl Guide<'_> {
         }
     }
 
+    /// Users who have left and are not back.
+    fn left(&self) -> Vec<&User> {
+        let has = |numbers: &[usize], place| numbers.iter().any(|number| number / RANGE == place);
+        let users = self.hall.users.iter().enumerate();
+        let left =
+            users.filter(|(place, _)| has(self.closed, *place) && !has(self.sessions, *place));
+        left.map(|(_, user)| user).collect()
+    }
+
+    /// Often with a closed number, so that not too many users are out.
+    fn logout(&self, rng: &mut Rng) -> Vec<u8> {
+        let again = !self.closed.is_empty() && rng.one_in(3);
+        let session = if again { *rng.pick(self.closed) } else { self.session(rng) };
+        format!("LOGOUT;{session}").into()
+    }
+
     fn get(&self, rng: &mut Rng) -> Vec<u8> {
         format!("GET;{}", self.session(rng)).into()
     }
@@ -83,19 +111,32 @@ impl Guide<'_> {
         Line { bytes, path: Some(path) }
     }
 
-    /// Mostly the number of an open session.
+    /// Mostly the number of an open session, now and then a closed one.
     fn session(&self, rng: &mut Rng) -> usize {
+        if !self.closed.is_empty() && rng.one_in(16) {
+            return *rng.pick(self.closed);
+        }
         if !self.sessions.is_empty() && !rng.one_in(8) {
             return *rng.pick(self.sessions);
         }
         let place = rng.between(0, 33);
-        match rng.below(8) {
+        match rng.below(10) {
             0..=2 => place * RANGE + 1,
             3 => place * RANGE,
             4 => place * RANGE + 2,
             5 => rng.below(200),
             6 => *rng.pick(&[0xFFFF_FFFF, 0x1_0000_0000, 0x1_0000_0001, 0xFFFF, 32 * RANGE]),
+            7..=8 => self.to_come(rng),
             _ => rng.below(1 << 33),
+        }
+    }
+
+    /// A number behind one that was given: that of a login to come, mostly.
+    fn to_come(&self, rng: &mut Rng) -> usize {
+        let given = if rng.one_in(2) { self.sessions } else { self.closed };
+        match given {
+            [] => rng.between(1, 3),
+            _ => rng.pick(given) + rng.between(1, 3),
         }
     }
 
@@ -158,9 +199,10 @@ impl Guide<'_> {
     }
 
     fn damaged(&self, rng: &mut Rng) -> Vec<u8> {
-        let mut bytes = match rng.below(3) {
+        let mut bytes = match rng.below(4) {
             0 => self.login(rng),
-            1 => self.get(rng),
+            1 => self.logout(rng),
+            2 => self.get(rng),
             _ => self.push(rng).bytes,
         };
         damage_bytes(rng, &mut bytes);
@@ -169,9 +211,10 @@ impl Guide<'_> {
 
     /// A line filled up or cut to any length from 0 to 300.
     fn of_any_length(&self, rng: &mut Rng) -> Vec<u8> {
-        let mut bytes = match rng.below(4) {
+        let mut bytes = match rng.below(5) {
             0 => self.login(rng),
-            1 => self.get(rng),
+            1 => self.logout(rng),
+            2 => self.get(rng),
             _ => self.push(rng).bytes,
         };
         let length = match rng.below(4) {
@@ -184,8 +227,22 @@ impl Guide<'_> {
     }
 }
 
+/// The session number that an accepted logout closes; for other lines none.
+pub fn logged_out(line: &[u8]) -> Option<usize> {
+    number(line.strip_prefix(b"LOGOUT;")?)
+}
+
+/// The session number of a line that was taken apart and is no login.
+pub fn session_of(line: &[u8]) -> Option<usize> {
+    number(line.split(|&byte| byte == b';').nth(1)?)
+}
+
+fn number(text: &[u8]) -> Option<usize> {
+    std::str::from_utf8(text).ok()?.parse().ok()
+}
+
 fn random_bytes(rng: &mut Rng) -> Vec<u8> {
-    let words: [&[u8]; 5] = [b"", b"LOGIN;", b"GET;", b"PUSH;", b"PUSH;1;$['a'];"];
+    let words: [&[u8]; 6] = [b"", b"LOGIN;", b"LOGOUT;", b"GET;", b"PUSH;", b"PUSH;1;$['a'];"];
     let length = rng.between(0, 300);
     let random = rng.bytes(length);
     [rng.pick(&words), &random[..]].concat()

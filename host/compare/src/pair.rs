@@ -60,6 +60,16 @@ impl Pair {
         })
     }
 
+    /// Asks both, with nothing lent, and compares the answers alone.
+    pub fn request_briefly(&mut self, line: &[u8]) -> Result<Answer, Difference> {
+        let proved = Answer::from(self.watched.memory_mut().request(line, &mut [], &mut []));
+        let second = Answer::from(self.second.request(line, &mut [], &mut []));
+        same("answers", proved, second)
+            .map_err(|found| Difference { asked: shown(line), found })?;
+        self.tally.count_brief();
+        Ok(proved)
+    }
+
     pub fn save(&mut self, buffer: &[u8]) -> Result<Answer, Difference> {
         self.compare_save(buffer).map_err(|found| {
             let asked = format!("save, buffer of {}", buffer.len());
@@ -95,7 +105,7 @@ impl Pair {
         same("answers", proved, second)?;
         same_items("buffer", self.watched.buffer(), &buffer)?;
         same_items("list", self.watched.list(), &list)?;
-        self.tally.count_request(proved);
+        self.tally.count_request(line, proved);
         Ok(proved)
     }
 

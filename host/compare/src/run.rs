@@ -7,12 +7,18 @@ use crate::answer::Answer;
 use crate::damage::damage_texts;
 use crate::garbage;
 use crate::hall::{Hall, Path};
-use crate::lines::{Guide, Line};
+use crate::lines::{logged_out, session_of, Guide, Line};
 use crate::pair::{shown, Difference, Pair, ROOMY};
 use crate::rng::Rng;
 use crate::tally::Tally;
 use crate::texts::{texts, Texts};
 use crate::watchdog::Watchdog;
+
+/// The most logins of a user.
+const LOGINS: usize = 65_535;
+
+/// One case in so many uses up a user's logins, the first among them.
+const USING_UP: usize = 100;
 
 pub struct Run {
     rng: Rng,
@@ -21,6 +27,7 @@ pub struct Run {
     hall: Hall,
     texts: Texts,
     sessions: Vec<usize>,
+    closed: Vec<usize>,
     pushed: Vec<Path>,
     /// The next buffer and list of those that are lent in turn.
     buffer_turn: usize,
@@ -45,6 +52,7 @@ impl Run {
             hall,
             texts,
             sessions: Vec::new(),
+            closed: Vec::new(),
             pushed: Vec::new(),
             buffer_turn: 0,
             list_turn: 0,
@@ -86,7 +94,11 @@ impl Run {
             1 => self.garbage()?,
             _ => (),
         }
-        self.open_new()?;
+        if self.cases % USING_UP == 1 {
+            self.use_up_logins()?;
+        } else {
+            self.open_new()?;
+        }
         self.log_in()?;
         let count = self.rng.between(20, 250);
         self.requests(count)?;
@@ -120,8 +132,25 @@ impl Run {
         Ok(())
     }
 
+    /// Opens a hall where a user goes in and out until none to three logins
+    /// are left, in turn: too often for comparing every byte each time.
+    fn use_up_logins(&mut self) -> Result<(), Difference> {
+        while !self.open_new()? || self.hall.users.is_empty() {}
+        let login = Guide::login_of(self.rng.pick(&self.hall.users));
+        let left = self.cases / USING_UP % 4;
+        for _ in left..LOGINS {
+            let Answer::Session(number) = self.pair.request_briefly(&login)? else {
+                break;
+            };
+            self.pair.request_briefly(format!("LOGOUT;{number}").as_bytes())?;
+            self.closed = vec![number]; // one of them is enough to guide
+        }
+        self.request(login.into())
+    }
+
     fn forget(&mut self) {
         self.sessions.clear();
+        self.closed.clear();
         self.pushed.clear();
     }
 
@@ -152,7 +181,12 @@ impl Run {
     }
 
     fn line(&mut self) -> Line {
-        let guide = Guide { hall: &self.hall, sessions: &self.sessions, pushed: &self.pushed };
+        let guide = Guide {
+            hall: &self.hall,
+            sessions: &self.sessions,
+            closed: &self.closed,
+            pushed: &self.pushed,
+        };
         guide.line(&mut self.rng)
     }
 
@@ -160,12 +194,31 @@ impl Run {
         let length = self.pair.copy_length(&line.bytes);
         let buffer = self.buffer(length);
         let list = self.list();
-        match (self.pair.request(&line.bytes, &buffer, &list)?, line.path) {
-            (Answer::Session(number), _) => self.sessions.push(number),
-            (Answer::Accepted(_), Some(path)) => self.pushed.push(path),
+        let answer = self.pair.request(&line.bytes, &buffer, &list)?;
+        self.learn(line, answer);
+        Ok(())
+    }
+
+    /// Keeps what an answer says of sessions and pushed paths.
+    fn learn(&mut self, line: Line, answer: Answer) {
+        match answer {
+            Answer::Session(number) => self.sessions.push(number),
+            Answer::Accepted(_) => match logged_out(&line.bytes) {
+                Some(number) => self.close(number),
+                None => self.pushed.extend(line.path),
+            },
+            Answer::Refused(14) if self.was_closed(&line) => self.pair.tally.count_closed(),
             _ => (),
         }
-        Ok(())
+    }
+
+    fn close(&mut self, number: usize) {
+        self.sessions.retain(|session| *session != number);
+        self.closed.push(number);
+    }
+
+    fn was_closed(&self, line: &Line) -> bool {
+        session_of(&line.bytes).is_some_and(|number| self.closed.contains(&number))
     }
 
     fn save(&mut self, length: usize) -> Result<(), Difference> {

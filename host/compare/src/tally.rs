@@ -4,6 +4,7 @@ use std::collections::BTreeMap;
 use std::fmt;
 
 use crate::answer::{Answer, Opened};
+use crate::lines::{logged_out, RANGE};
 
 #[derive(Default)]
 pub struct Tally {
@@ -11,7 +12,9 @@ pub struct Tally {
     refused: BTreeMap<usize, usize>,
     requests: usize,
     answers: BTreeMap<String, usize>,
+    closed: usize,
     copied: usize,
+    brief: usize,
     garbage: usize,
 }
 
@@ -28,13 +31,25 @@ impl Tally {
         }
     }
 
-    pub fn count_request(&mut self, answer: Answer) {
+    pub fn count_request(&mut self, line: &[u8], answer: Answer) {
         match answer {
             Answer::Refused(number) => self.count(format!("refused {number}")),
+            Answer::Session(number) if number % RANGE > 1 => self.count("session again".into()),
             Answer::Session(_) => self.count("session".into()),
             Answer::Length(length) => self.count_text("copy", length),
+            Answer::Accepted(_) if logged_out(line).is_some() => self.count("logged out".into()),
             Answer::Accepted(_) => self.count("pushed".into()),
         }
+    }
+
+    /// Lines refused 14 whose number was that of a session once.
+    pub fn count_closed(&mut self) {
+        self.closed += 1;
+    }
+
+    /// Requests of which only the answers were compared.
+    pub fn count_brief(&mut self) {
+        self.brief += 1;
     }
 
     pub fn count_save(&mut self, answer: Answer) {
@@ -71,7 +86,9 @@ impl fmt::Display for Tally {
         for (kind, count) in &self.answers {
             writeln!(out, "  {kind}: {count}")?;
         }
+        writeln!(out, "closed numbers refused 14: {}", self.closed)?;
         writeln!(out, "bytes of copies and saved texts compared {}", self.copied)?;
+        writeln!(out, "requests compared in their answers alone {}", self.brief)?;
         write!(out, "calls on arrays of any content {}", self.garbage)
     }
 }

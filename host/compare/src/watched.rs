@@ -1,10 +1,11 @@
 //! The proved server, with all that it is lent between guards. What has to
 //! hold of a call whatever the arrays contain is checked here.
 
-use jesovanga::{Fault, Memory, LIST};
+use jesovanga::{Fault, Memory, LIST, LOGINS};
 
 use crate::answer::{Answer, Opened};
 use crate::lent::{Lent, LentMemory};
+use crate::lines::{logged_out, RANGE};
 use crate::texts::Texts;
 
 /// A result, or what is wrong with a call.
@@ -142,17 +143,13 @@ impl Watched {
         ensure(self.former.tables == self.lent.memory.tables, "the tables have changed")?;
         match answer {
             Answer::Refused(number) => {
-                ensure((11..=17).contains(&number), "there is no such refusal")?;
+                ensure((11..=18).contains(&number), "there is no such refusal")?;
                 self.check_arrays_kept()?;
                 self.check_buffer_kept(buffer, 0)?;
                 self.check_list_kept(list, 0)
             }
             Answer::Session(number) => {
-                let fields_kept = self.former.fields == self.lent.memory.fields;
-                ensure(fields_kept, "the fields have changed")?;
-                self.check_other_logins_kept(Some(number / 65_536))?;
-                let flag = self.lent.memory.logins[number / 65_536 * LOGIN + 1];
-                ensure(flag == 1, "an open session is not written as 1")?;
+                self.check_login(number)?;
                 self.check_buffer_kept(buffer, 0)?;
                 self.check_list_kept(list, 0)
             }
@@ -162,12 +159,42 @@ impl Watched {
                 self.check_list_kept(list, 0)
             }
             Answer::Accepted(count) => {
-                ensure(count <= LIST && LIST <= list.len(), "the list is too short")?;
-                self.check_other_logins_kept(None)?;
+                match logged_out(line) {
+                    Some(number) => self.check_logout(number, count)?,
+                    None => self.check_push(list, count)?,
+                }
                 self.check_buffer_kept(buffer, 0)?;
                 self.check_list_kept(list, count)
             }
         }
+    }
+
+    /// The user's logins are one more and the flag is 1; nothing else changes.
+    fn check_login(&self, number: usize) -> Checked<()> {
+        let mut logins = self.former.logins;
+        let state = state_of(&mut logins, number)?;
+        ensure(state[1] == 0, "a session was open")?;
+        state[0] = state[0].checked_add(1).ok_or("no login was left")?;
+        state[1] = 1;
+        ensure(number % RANGE == usize::from(state[0]), "the number is not that of the login")?;
+        ensure(logins == self.lent.memory.logins, "the login states are not those of a login")?;
+        self.check_fields_kept()
+    }
+
+    /// The session's flag becomes 0, and nothing else changes.
+    fn check_logout(&self, number: usize, count: usize) -> Checked<()> {
+        ensure(count == 0, "a logout tells nobody")?;
+        let mut logins = self.former.logins;
+        let state = state_of(&mut logins, number)?;
+        ensure(state[1] != 0, "no session was open")?;
+        state[1] = 0;
+        ensure(logins == self.lent.memory.logins, "the login states are not those of a logout")?;
+        self.check_fields_kept()
+    }
+
+    fn check_push(&self, list: &[u32], count: usize) -> Checked<()> {
+        ensure(count <= LIST && LIST <= list.len(), "the list is too short")?;
+        self.check_other_logins_kept()
     }
 
     fn check_save(&self, buffer: &[u8], answer: Answer) -> Checked<()> {
@@ -185,14 +212,16 @@ impl Watched {
         ensure(*self.former == self.lent.memory, "the arrays have changed")
     }
 
-    /// At most one login state has changed, that of `place` if it is given.
-    fn check_other_logins_kept(&self, place: Option<usize>) -> Checked<()> {
+    fn check_fields_kept(&self) -> Checked<()> {
+        ensure(self.former.fields == self.lent.memory.fields, "the fields have changed")
+    }
+
+    /// At most one login state has changed.
+    fn check_other_logins_kept(&self) -> Checked<()> {
         let former = self.former.logins.chunks(LOGIN);
-        let pairs = former.zip(self.lent.memory.logins.chunks(LOGIN)).enumerate();
-        let mut changed = pairs.filter(|(_, (old, new))| old != new).map(|(at, _)| at);
-        let first = changed.next();
-        let expected = place.is_none() || first.is_none() || first == place;
-        ensure(expected && changed.next().is_none(), "another login state has changed")
+        let pairs = former.zip(self.lent.memory.logins.chunks(LOGIN));
+        let changed = pairs.filter(|(old, new)| old != new).count();
+        ensure(changed <= 1, "another login state has changed")
     }
 
     fn check_buffer_kept(&self, buffer: &[u8], from: usize) -> Checked<()> {
@@ -203,6 +232,12 @@ impl Watched {
     fn check_list_kept(&self, list: &[u32], from: usize) -> Checked<()> {
         ensure(self.list()[from..] == list[from..], "the list's rest has changed")
     }
+}
+
+/// The login state of the user whom a session number belongs to.
+fn state_of(logins: &mut [u16; LOGINS], number: usize) -> Checked<&mut [u16]> {
+    let state = logins.chunks_mut(LOGIN).nth(number / RANGE);
+    state.ok_or_else(|| "there is no such user".into())
 }
 
 fn ensure(holds: bool, otherwise: &str) -> Checked<()> {

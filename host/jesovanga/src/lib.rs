@@ -94,7 +94,7 @@ pub enum Reply {
     Refused(usize),
     Session(u32),
     Length(usize),
-    /// How many numbers the list received: for the caller, not for the sender.
+    /// How many numbers the list received, none by a LOGOUT: for the caller, not for the sender.
     Accepted(usize),
 }
 

@@ -17,3 +17,4 @@ pub const NO_SESSION: u32 = 14;
 pub const LENT_TOO_SHORT: u32 = 15;
 pub const MAY_NOT_WRITE: u32 = 16;
 pub const ALLOWANCE_SPENT: u32 = 17;
+pub const LOGINS_SPENT: u32 = 18;

@@ -10,6 +10,7 @@ pub const LINE_LIMIT: usize = 256;
 #[derive(Debug, PartialEq, Eq)]
 pub enum Request {
     Login { user: Name, key: Name },
+    Logout { session: u32 },
     Get { session: u32 },
     Push { session: u32, path: Path, value: Value },
 }
@@ -26,6 +27,10 @@ impl Request {
                 let user = Name::parse(user)?;
                 let key = Name::parse(key)?;
                 Some(Request::Login { user, key })
+            }
+            b"LOGOUT" => {
+                let session = parse_session(rest)?;
+                Some(Request::Logout { session })
             }
             b"GET" => {
                 let session = parse_session(rest)?;

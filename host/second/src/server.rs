@@ -16,6 +16,10 @@ pub const LIST_LENGTH: usize = 32;
 /// Session numbers of one user lie within one such range.
 const PLACE_RANGE: u32 = 65_536;
 
+/// The most logins of a user: with one more, numbers would run into the next
+/// user's range.
+const LOGIN_LIMIT: u16 = 65_535;
+
 #[derive(Debug, Clone, PartialEq, Eq)]
 pub enum Reply {
     Refused(u32),
@@ -23,7 +27,7 @@ pub enum Reply {
     Session(u32),
     /// How many bytes were written to the buffer.
     Length(usize),
-    /// How many numbers were written to the list.
+    /// How many numbers were written to the list; none by a logout.
     Accepted(usize),
 }
 
@@ -36,9 +40,9 @@ struct Seat {
 }
 
 impl Seat {
-    /// The count of logins stays at its largest value.
+    /// For a seat that has logins left.
     fn log_in(&mut self) {
-        self.logins = self.logins.saturating_add(1);
+        self.logins += 1;
         self.open = true;
     }
 
@@ -82,6 +86,7 @@ impl Server {
         };
         let answer = match request {
             Request::Login { user, key } => self.log_in(user, key),
+            Request::Logout { session } => self.log_out(session),
             Request::Get { session } => self.copy(session, buffer),
             Request::Push { session, path, value } => self.push(session, path, value, list),
         };
@@ -108,8 +113,18 @@ impl Server {
         if seat.open {
             return Err(HAS_SESSION);
         }
+        if seat.logins == LOGIN_LIMIT {
+            return Err(LOGINS_SPENT);
+        }
         seat.log_in();
         Ok(Reply::Session(seat.session(place)))
+    }
+
+    /// Closes a session; the logins and the fields created stay counted.
+    fn log_out(&mut self, session: u32) -> Result<Reply, u32> {
+        let place = self.place_of(session)?;
+        self.seats[place].open = false;
+        Ok(Reply::Accepted(0))
     }
 
     fn copy(&self, session: u32, buffer: &mut [u8]) -> Result<Reply, u32> {

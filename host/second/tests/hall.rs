@@ -1,4 +1,4 @@
-//! The afternoon of the scope document, and its further cases.
+//! The afternoon of the scope document, its further cases, and leaving the hall.
 
 use second::{printed, Fault, Reply, Server, COPY_LIMIT, LIST_LENGTH};
 
@@ -132,4 +132,119 @@ fn a_policy_path_ends_where_the_field_does() {
     printed(&mut server, b"LOGIN;ann;k1", &mut out);
     printed(&mut server, b"GET;1", &mut out);
     assert!(out.ends_with(b"name;value\n{\"r\":{\"b\":true}}\n"));
+}
+
+#[test]
+fn leaving_the_hall() {
+    let mut server = hall();
+    let mut out = Vec::new();
+    for line in [
+        "LOGIN;bob;k2",
+        "LOGIN;ann;k1",
+        "LOGOUT;65537",
+        "PUSH;1;$['e7']['cv']['29'];38",
+        "LOGIN;bob;k2",
+        "PUSH;1;$['e7']['cv']['29'];39",
+        "LOGOUT;1",
+        "LOGIN;ann;k1",
+        "LOGOUT;1",
+    ] {
+        printed(&mut server, line.as_bytes(), &mut out);
+    }
+    let expected = r#"OK;65537
+OK;1
+OK
+OK
+OK;65538
+OK
+TO;65538;$['e7']['cv']['29'];39
+OK
+OK;2
+NO;14
+"#;
+    assert_eq!(String::from_utf8_lossy(&out), expected);
+}
+
+#[test]
+fn closed_numbers() {
+    let mut server = hall();
+    assert_eq!(ask(&mut server, "LOGOUT;1"), Reply::Refused(14));
+    assert_eq!(ask(&mut server, "LOGIN;ann;k1"), Reply::Session(1));
+    for line in ["LOGOUT", "LOGOUT;", "LOGOUT;1;", "LOGOUT;1 ", "LOGOUT;01", "LOGOUT;4294967296"] {
+        assert_eq!(ask(&mut server, line), Reply::Refused(11), "{line}");
+    }
+    for number in [0, 2, 65_537, u32::MAX] {
+        assert_eq!(ask(&mut server, &format!("LOGOUT;{number}")), Reply::Refused(14), "{number}");
+    }
+    assert_eq!(ask(&mut server, "LOGOUT;1"), Reply::Accepted(0));
+    let old = ["GET;1", "PUSH;1;$['e7']['cv']['1'];4", "LOGOUT;1"];
+    for line in old {
+        assert_eq!(ask(&mut server, line), Reply::Refused(14), "{line}");
+    }
+    assert_eq!(ask(&mut server, "LOGIN;ann;k1"), Reply::Session(2));
+    for line in old {
+        assert_eq!(ask(&mut server, line), Reply::Refused(14), "{line}");
+    }
+    assert_eq!(ask(&mut server, "PUSH;2;$['e7']['cv']['1'];4"), Reply::Accepted(0));
+}
+
+#[test]
+fn only_an_accepted_opening_starts_the_numbers_anew() {
+    let mut server = hall();
+    ask(&mut server, "LOGIN;ann;k1");
+    ask(&mut server, "LOGOUT;1");
+    ask(&mut server, "LOGIN;bob;k2");
+    try_open(&mut server, POLICY, "").expect_err("an empty text is no record");
+    assert_eq!(ask(&mut server, "LOGIN;bob;k2"), Reply::Refused(13));
+    assert_eq!(ask(&mut server, "LOGIN;ann;k1"), Reply::Session(2));
+    try_open(&mut server, POLICY, RECORD).expect("the tables are sound");
+    assert_eq!(ask(&mut server, "LOGIN;ann;k1"), Reply::Session(1));
+    assert_eq!(ask(&mut server, "LOGOUT;65537"), Reply::Refused(14));
+}
+
+#[test]
+fn a_logout_writes_nothing() {
+    let mut server = hall();
+    ask(&mut server, "LOGIN;ann;k1");
+    let before = saved(&server);
+    let (mut buffer, mut list) = ([7; 170], [7; LIST_LENGTH]);
+    assert_eq!(server.request(b"LOGOUT;1", &mut buffer, &mut list), Reply::Accepted(0));
+    assert_eq!((buffer, list), ([7; 170], [7; LIST_LENGTH]));
+    assert_eq!(saved(&server), before);
+    ask(&mut server, "LOGIN;ann;k1");
+    assert_eq!(server.request(b"LOGOUT;2", &mut [], &mut []), Reply::Accepted(0));
+}
+
+#[test]
+fn created_fields_stay_counted() {
+    let mut server = hall();
+    for session in 1..=4 {
+        assert_eq!(ask(&mut server, "LOGIN;ann;k1"), Reply::Session(session));
+        let push = format!("PUSH;{session};$['e7']['cv']['new {session}'];1");
+        assert_eq!(ask(&mut server, &push), Reply::Accepted(0));
+        assert_eq!(ask(&mut server, &format!("LOGOUT;{session}")), Reply::Accepted(0));
+    }
+    ask(&mut server, "LOGIN;ann;k1");
+    assert_eq!(ask(&mut server, "PUSH;5;$['e7']['cv']['new 5'];1"), Reply::Refused(17));
+    assert_eq!(ask(&mut server, "PUSH;5;$['e7']['cv']['new 4'];2"), Reply::Accepted(0));
+}
+
+#[test]
+fn the_last_login() {
+    let mut server = hall();
+    let mut ask = |line: &str| server.request(line.as_bytes(), &mut [], &mut []);
+    for session in 1..65_535 {
+        assert_eq!(ask("LOGIN;ann;k1"), Reply::Session(session));
+        assert_eq!(ask(&format!("LOGOUT;{session}")), Reply::Accepted(0));
+    }
+    assert_eq!(ask("LOGIN;ann;k1"), Reply::Session(65_535));
+    assert_eq!(ask("LOGIN;ann;k1"), Reply::Refused(13));
+    assert_eq!(ask("LOGIN;ann;k2"), Reply::Refused(12));
+    assert_eq!(ask("LOGIN;bob;k2"), Reply::Session(65_537));
+    assert_eq!(ask("LOGOUT;65535"), Reply::Accepted(0));
+    assert_eq!(ask("LOGIN;ann;k1"), Reply::Refused(18));
+    assert_eq!(ask("LOGIN;ann;k2"), Reply::Refused(12));
+    assert_eq!(ask("LOGIN;ann;k1"), Reply::Refused(18));
+    assert_eq!(ask("GET;65535"), Reply::Refused(14));
+    assert_eq!(ask("GET;65536"), Reply::Refused(14));
 }

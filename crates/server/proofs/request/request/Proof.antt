@@ -1,7 +1,7 @@
 -- The line is taken apart; what it asks for is answered by the function for it.
 use mathlib.Core.Path.{_≡_, refl, ap, _∙_}
 use borrow.Author.Needs.{needs}
-use Rattle.requests.specs.declared.Ask.the-variants.{Get, Push}
+use Rattle.requests.specs.declared.Ask.the-variants.{Get, Push, Logout}
 use Rattle.requests.specs.declared.Request.the-variants.{InSession}
 use Rattle.server.proofs.Pushed.{line-refused, asks, asked-stands, asked-short, line-decided, push-asked, slot-asked}
 use Rattle.server.proofs.Replied.{left-refused}
@@ -18,6 +18,11 @@ asks-push : (c : tie.After-ask)
     → let q = c .before .before .before in
     q .before .before .before .asked .given .0 .0 ≡ InSession (q .asked3 .given .0 .0) (Push (c .ask .given .0 .0) (c .ask .given .0 .1 .0))
 asks-push c = let q = c .before .before .before in q .asked3 .given .1 ∙ ap (InSession (q .asked3 .given .0 .0)) (c .ask .given .1)
+
+asks-logout : (c : tie.After-enum-told3)
+    → let q = c .before .before .before in
+    q .before .before .before .asked .given .0 .0 ≡ InSession (q .asked3 .given .0 .0) Logout
+asks-logout c = let q = c .before .before .before in q .asked3 .given .1 ∙ ap (InSession (q .asked3 .given .0 .0)) (c .enum-told3 .given .1)
 
 parse-requires : tie.Need-parse-requires
 parse-requires c κs = search needs
@@ -63,6 +68,12 @@ push-requires c κs =
     let (inside, stands) = asked-stands _ _ parsed is kind in
     record { short = asked-short _ _ parsed is kind; inside = inside; stands = stands; keyed = keyed; proper = (slot-asked _ _ is kind slot, valid) }
 
+enum-told-3 : tie.Need-enum-told-3
+enum-told-3 c = search needs
+
+logout-requires : tie.Need-logout-requires
+logout-requires c κs = search needs
+
 returns-2 : tie.Need-returns-2
 returns-2 c =
     let q = c .before .before .before in
@@ -95,6 +106,14 @@ returns-4 c =
     let a = p .before .before .before .before .before .args in
     rw (line-decided _ _ (p .parse .ensures .0) (o .asked .given .1) (asks-push t) _ _ _) (w .push .ensures (a .buffer .now))
 
+returns-5 : tie.Need-returns-5
+returns-5 c =
+    let t = c .before .before in
+    let o = t .before .before .before .before .before .before in
+    let p = o .before .before in
+    let a = p .before .before .before .before .before .args in
+    rw (line-decided _ _ (p .parse .ensures .0) (o .asked .given .1) (asks-logout t) _ _ _) (c .logout .ensures (a .line .now) (a .fields .now) (a .buffer .now) (a .list .now))
+
 pub request-spec : {M : Type 1} → statement M
 request-spec =
     tie.close
@@ -110,8 +129,11 @@ request-spec =
     get-requires
     enum-known-ask
     push-requires
+    enum-told-3
+    logout-requires
     returns-2
     same-length
     returns-3
     same-length-2
-    returns-4)
+    returns-4
+    returns-5)
