@@ -1,4 +1,4 @@
-// Every limit of document 01, stated once, in the order of the model's definitions. A proof fails where the two differ.
+// Every limit of documents 01 and 02, stated once, in the order of the model's definitions. A proof fails where the two differ.
 
 // A name of a user, a role, a login key or an environment line; a key of a record or a policy path, a value of an environment line.
 pub const MAX_NAME: usize = 16;

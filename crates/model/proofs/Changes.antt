@@ -13,7 +13,7 @@ use Rattle.model.specs.Fields.{Keys, Field}
 use Rattle.model.specs.Refusals.{done}
 use Rattle.model.specs.Opening.{LoginState, State, emptyLogin, kept, afterOpening}
 use Rattle.model.specs.Requests.{Request, inSession, push, logout, requestOf, pushOf}
-use Rattle.model.specs.Serving.{sessionNumber, indexIn, loginAt, entered, closed, creating, Change, setsLogin, shows, stores, apply, notified, shown, answerOf, refusal, session, length-is, accepted, Act, line, bufferOf, listOf, over, unchanged, conclude, outcome}
+use Rattle.model.specs.Serving.{indexIn, loginAt, entered, closed, creating, Change, setsLogin, shows, stores, apply, notified, shown, answerOf, refusal, session, length-is, accepted, Act, line, bufferOf, listOf, over, unchanged, conclude, outcome}
 use Rattle.model.specs.Runs.{requestOfAct, isAccepted, sessionIn}
 use Rattle.model.specs.Claims.{RefusedOpening, RefusedAct, OneFieldChanged, OneLoginChanged, ShowingChangesNothing}
 use Rattle.model.proofs.Lists.{by-cases, never, none-some}

@@ -1,10 +1,10 @@
 -- Condition 2, what is counted: fields held less fields loaded are the accepted pushes that named an absent field, and each user's counts are
 -- the user's own pushes and logins.
 use Prim.Native.Nat.{ℕ, suc, _+_, _*_, _≤_, _<_}
-use mathlib.Core.Path.{_≡_, refl, sym, ap, _∙_}
+use mathlib.Core.Path.{_≡_, refl, sym, ap}
 use mathlib.Core.Option.{Option, none, some}
 use mathlib.Core.List.{List, [], _∷_}
-use mathlib.Core.Bool.{Bool, true, false, _&&_, and-false}
+use mathlib.Core.Bool.{Bool, false, _&&_, and-false}
 use lib.Dec.{eqb}
 use lib.ListN.{length, set, getD}
 use lib.Seq.{getD-set-same, getD-set-other}
@@ -18,7 +18,6 @@ use Rattle.model.specs.Requests.{Request}
 use Rattle.model.specs.Serving.{sessionNumber, indexIn, loginAt, Change, setsLogin, shows, stores, apply, answerOf, refusal, session, Act, unchanged, conclude, outcome}
 use Rattle.model.specs.Runs.{Event, eventIn, events, end, ownerIn, pushIn, inSet, only, isAccepted, createsBy, creates, createdBy, sessionIn, loginBy}
 use Rattle.model.proofs.Lists.{by-cases, none-some}
-use Rattle.model.proofs.Reading.{some-same}
 use Rattle.model.proofs.Order.{one, absent, length-put}
 use Rattle.model.proofs.Decisions.{index-of, answers-session, ownerOf, fieldIn, LoginSet, Stored, Decided, by-decision}
 use Rattle.model.proofs.Invariant.{Running, login-set-place, login-set-few, stored-place, created-is, logins-is, store-is-put, run-act}

@@ -1,11 +1,14 @@
 -- What every state of a run has, and that each act keeps it.
 use Prim.Native.Nat.{ℕ, zero, suc, _+_, _≤_, _<_}
-use mathlib.Core.Path.{_≡_, refl, _∙_}
+use mathlib.Core.Path.{_≡_, refl, sym, ap, _∙_}
 use mathlib.Core.Option.{Option, some}
 use mathlib.Core.List.{List, [], _∷_, map}
-use mathlib.Core.Bool.{false}
+use mathlib.Core.Bool.{true}
+use lib.Dec.{eqb}
 use lib.ListN.{length, set, getD, getElem?, replicate, length-set}
+use lib.Seq.{getD-set-other}
 use native.Mathlib.Omega.{arith}
+use borrow.Author.Tests.{eqb-true, eqb-false}
 use Rattle.model.specs.Base.{sum, All}
 use Rattle.model.specs.Limits.{maxFields, maxUsers, maxLogins}
 use Rattle.model.specs.Fields.{Field, holds, put, store}
@@ -84,6 +87,7 @@ total-empty (suc n) = omega (arith, total-empty n)
 pub record Running (loaded : ℕ) (s : State) : Type 0 where
   pub sorted : Sorted (s .fields)
   pub few : All (λ a. a .logins ≤ maxLogins) (s .loginStates)
+  pub seated : (j : ℕ) → loginAt s j .isOpen ≡ true → j < length (s .tables .users)
   pub places : length (s .loginStates) ≡ maxUsers
   pub users : length (s .tables .users) ≤ maxUsers
   pub within : Within (s .tables .users) (s .loginStates)
@@ -104,6 +108,15 @@ module _ {loaded : ℕ} {s : State} (r : Running loaded s) where
   unfolding userAt
   user-place i u e = omega (arith, elem-below (s .tables .users) i u e, r .users, r .places)
 
+  -- whoever has a session is a user, once the login state of a user was set
+  seated-set : (i : ℕ) (a : LoginState) → i < length (s .tables .users) → (j : ℕ) → getD (set (s .loginStates) i a) j emptyLogin .isOpen ≡ true → j < length (s .tables .users)
+  unfolding loginAt
+  seated-set i a below j h = by-cases (eqb i j)
+      (λ e. let z : i ≡ j = eqb-true i j e in rw (← z) below)
+      (λ e.
+      let same = getD-set-other (s .loginStates) i j a emptyLogin (λ x. eqb-false i j e (sym x)) in
+      r .seated j (ap (λ (b : LoginState). b .isOpen) (sym same) ∙ h))
+
   -- a login state
   module _ {q : Option Request} {i : ℕ} {a : LoginState} (d : LoginSet s q i a) where
     pub login-set-place : i < length (s .loginStates)
@@ -117,6 +130,7 @@ module _ {loaded : ℕ} {s : State} (r : Running loaded s) where
     run-sets-login = record {
       sorted = r .sorted;
       few = all-set _ (s .loginStates) i a login-set-few (r .few);
+      seated = seated-set i a (d .below);
       places = length-set (s .loginStates) i a ∙ r .places;
       users = r .users;
       within = within-keep (s .tables .users) (s .loginStates) i a (d .sameCreated) (r .within);
@@ -157,11 +171,16 @@ module _ {loaded : ℕ} {s : State} (r : Running loaded s) where
     pub store-is-put : store f (s .fields) ≡ put f (s .fields)
     store-is-put = store-fits f (s .fields) put-fits
 
+    user-below : i < length (s .tables .users)
+    unfolding userAt
+    user-below = elem-below (s .tables .users) i (d .user) (d .isUser)
+
     run-stores : Running loaded (apply (stores i a f) s)
-    unfolding apply
+    unfolding apply loginAt
     run-stores = record {
       sorted = rw store-is-put (sorted-put f (s .fields) (r .sorted));
       few = all-set _ (s .loginStates) i a (rw logins-is (few-at i)) (r .few);
+      seated = seated-set i a user-below;
       places = length-set (s .loginStates) i a ∙ r .places;
       users = r .users;
       within = within-stores;

@@ -249,6 +249,11 @@ keep-none f [] h = refl
 keep-none f (x ∷ xs) h = rw (h .0) (keep-none f xs (h .1))
 
 -- ── Places ──
+pub elem-at : {A : Type 0} (xs : List A) (i : ℕ) → i < length xs → (x : A) × (getElem? xs i ≡ some x)
+elem-at [] i h = absurd (omega arith)
+elem-at (x ∷ xs) zero h = (x, refl)
+elem-at (x ∷ xs) (suc i) h = elem-at xs i (omega arith)
+
 pub elem-below : {A : Type 0} (xs : List A) (i : ℕ) (x : A) → getElem? xs i ≡ some x → i < length xs
 elem-below [] i x e = none-some e
 elem-below (y ∷ xs) zero x e = omega arith

@@ -1,84 +1,44 @@
 -- Sessions in a run (02, 1): a number is answered once, and is open exactly from the login that answers it to the LOGOUT that closes it.
-use Prim.Native.Nat.{ℕ, zero, suc, _+_, _*_, _/_, _%_, _≤_, _<_}
+use Prim.Native.Nat.{ℕ, suc, _/_, _%_, _≤_}
 use mathlib.Core.Path.{_≡_, refl, sym, ap, _∙_}
 use mathlib.Core.Option.{Option, none, some}
-use mathlib.Core.List.{List, [], _∷_, map}
+use mathlib.Core.List.{List, [], _∷_}
 use mathlib.Core.Bool.{Bool, true, false, not, _&&_, _||_, and-true, and-false, or-false}
 use lib.Dec.{leb, ltb, eqb}
-use lib.ListN.{length, take, set, getD}
+use lib.ListN.{length, take}
 use native.Mathlib.Nat.{add-zero}
 use native.Mathlib.Omega.{arith}
-use borrow.Author.Tests.{eqb-true, eqb-false, eq-eqb, ne-eqb, le-ltb}
+use borrow.Author.Tests.{eqb-true, eqb-false, eq-eqb, ne-eqb}
 use Rattle.model.specs.Base.{Bytes, if_then_else_, any, keep, range, All}
 use Rattle.model.specs.Limits.{listRoom, perUser, maxLogins}
 use Rattle.model.specs.Fields.{Field}
 use Rattle.model.specs.Refusals.{Result, refused, _>>=_, _>>_, refuse_if_, _or_}
-use Rattle.model.specs.Tables.{User, userNamed}
-use Rattle.model.specs.Opening.{LoginState, State, emptyLogin}
+use Rattle.model.specs.Tables.{User, userAt, userNamed}
+use Rattle.model.specs.Opening.{LoginState, State}
 use Rattle.model.specs.Requests.{Ask, Request, inSession, login, get, push, logout, requestOf}
 use Rattle.model.specs.Serving.{sessionNumber, indexIn, isSession, loginAt, Change, setsLogin, shows, stores, asker, decideLogin, decideGet, creating, decidePush, decideLogout, roomFor, decide, apply, readsAt, receivers, notified, answerOf, Answer, refusal, session, length-is, accepted, Act, line, decideLine, decision, unchanged, conclude, outcome}
-use Rattle.model.specs.Runs.{Event, requestOfAct, eventIn, events, end, inSet, only, isAccepted, hasSession, sessionIn, gives, loginBy, closes}
-use Rattle.model.proofs.Lists.{by-cases, never, bytes-refl, and-both, both-and, all-imp, all-map, all-kept, keep-yes, keep-no, keep-none, any-false, false-any}
+use Rattle.model.specs.Runs.{requestOfAct, eventIn, events, end, inSet, only, isAccepted, isOpenNumber, sessionIn, gives, loginBy, closes}
+use Rattle.model.specs.Claims.{groundWithout}
+use Rattle.model.proofs.Lists.{by-cases, never, bytes-refl, both-and, all-imp, all-map, all-kept, keep-yes, keep-no, keep-none, any-false, false-any, and-both, elem-at}
 use Rattle.model.proofs.Order.{one}
 use Rattle.model.proofs.Decisions.{index-of, numberIn, LoginSet, Stored, Decided, by-decision}
-use Rattle.model.proofs.Invariant.{Running, few-at, login-set-place, login-set-few, next-state, at-end, run-act}
+use Rattle.model.proofs.Invariant.{Running, few-at, login-set-place, login-set-few, stored-place, run-act}
 use Rattle.model.proofs.Changes.{accepts, login-own, login-other, login-changes}
 use Rattle.model.proofs.Growth.{logins-grow, login-number}
 use Rattle.model.proofs.TwoRuns.{over-take}
-
--- ── A login state later: no fewer logins, and more where a session was opened since ──
-pub record Later (a b : LoginState) : Type 0 where
-  pub more : a .logins ≤ b .logins
-  pub opened : a .isOpen ≡ false → b .isOpen ≡ true → a .logins < b .logins
-
-later-same : (a b : LoginState) → b .logins ≡ a .logins → b .isOpen ≡ a .isOpen → Later a b
-later-same a b e k = record { more = omega arith; opened = λ f t. never (sym t ∙ k ∙ f) }
-
-later-next : (a b c : LoginState) → Later a b → Later b c → Later a c
-later-next a b c l m = record {
-  more = omega (arith, l .more, m .more);
-  opened = λ f t. by-cases (b .isOpen) (λ e. omega (arith, l .opened f e, m .more)) (λ e. omega (arith, l .more, m .opened e t));
-}
-
--- what holds of the login state that was there and of the new one holds after one was set
-after-set : (P : LoginState → Type 0) (l : List LoginState) (i : ℕ) (a : LoginState) (j : ℕ) → P (getD l j emptyLogin) → (i ≡ j → P a) → P (getD (set l i a) j emptyLogin)
-after-set P [] i a j p f = p
-after-set P (b ∷ l) zero a zero p f = f refl
-after-set P (b ∷ l) zero a (suc j) p f = p
-after-set P (b ∷ l) (suc i) a zero p f = p
-after-set P (b ∷ l) (suc i) a (suc j) p f = after-set P l i a j p (λ e. f (ap suc e))
-
-module _ (s : State) (j : ℕ) where
-  set-later : {q : Option Request} {i : ℕ} {a : LoginState} → LoginSet s q i a → Later (loginAt s i) a
-  unfolding one
-  set-later {a = a} d = by-cases (a .isOpen)
-      (λ e. record { more = omega (arith, rw e at (d .counted)); opened = λ f t. omega (arith, rw e at (d .counted)) })
-      (λ e. record { more = omega (arith, rw e at (d .counted)); opened = λ f t. never (sym t ∙ e) })
-
-  change-later : (q : Option Request) (c : Change) → Decided s q c → Later (loginAt s j) (loginAt (apply c s) j)
-  unfolding apply loginAt
-  change-later q (setsLogin i a) d = after-set (Later (loginAt s j)) (s .loginStates) i a j (later-same _ _ refl refl) (λ e. rw (← e) (set-later d))
-  change-later q (shows t) d = later-same _ _ refl refl
-  change-later q (stores i a f) d =
-      after-set (Later (loginAt s j)) (s .loginStates) i a j (later-same _ _ refl refl) (λ e. rw (← e, d .after) (unfold creating in (later-same _ _ refl refl)))
-
-  act-later : (a : Act) → Later (loginAt s j) (loginAt (outcome s a .state) j)
-  act-later a = next-state (λ y. Later (loginAt s j) (loginAt y j)) s a (later-same _ _ refl refl) (change-later _)
-
-pub end-later : (s : State) (j : ℕ) (acts : List Act) → Later (loginAt s j) (loginAt (end s acts) j)
-end-later s j acts = at-end (λ x. Later (loginAt s j) (loginAt x j)) (λ x a h. later-next _ _ _ h (act-later x j a)) s acts (later-same _ _ refl refl)
 
 -- ── A number is past: its user has had as many logins ──
 abbrev pub Past : State → ℕ → Type 0
 Past s n = n ≤ sessionNumber (indexIn n) (loginAt s (indexIn n))
 
-past-end : (s : State) (n : ℕ) (acts : List Act) → Past s n → Past (end s acts) n
+-- login counts never fall
+past-end : {loaded : ℕ} {s : State} → Running loaded s → (n : ℕ) (acts : List Act) → Past s n → Past (end s acts) n
 unfolding sessionNumber
-past-end s n acts h = omega (arith, end-later s (indexIn n) acts .more)
+past-end {s = s} r n acts h = omega (arith, logins-grow (indexIn n) s acts r)
 
-past-later : (s : State) (n : ℕ) (a : Act) → Past s n → Past (outcome s a .state) n
-unfolding sessionNumber
-past-later s n a h = omega (arith, act-later s (indexIn n) a .more)
+past-later : {loaded : ℕ} {s : State} → Running loaded s → (n : ℕ) (a : Act) → Past s n → Past (outcome s a .state) n
+unfolding end
+past-later r n a h = past-end r n (a ∷ []) h
 
 last-past : (s : State) (n : ℕ) → sessionNumber (indexIn n) (loginAt s (indexIn n)) ≡ n → Past s n
 last-past s n h = omega (arith, h)
@@ -115,16 +75,16 @@ and-first false b c h = h
 
 -- ── One act: whether the number n has a session, and that a number closed is that of its user's last login ──
 pub record Turns (s s₁ : State) (n : ℕ) (given shut : Bool) : Type 0 where
-  pub after : hasSession s₁ n ≡ ((hasSession s n || given) && not shut)
+  pub after : isOpenNumber s₁ n ≡ ((isOpenNumber s n || given) && not shut)
   pub last : shut ≡ true → sessionNumber (indexIn n) (loginAt s₁ (indexIn n)) ≡ n
 
 -- by the login state at the number's index
-has-open : (s : State) (n : ℕ) (a : LoginState) → loginAt s (indexIn n) ≡ a → a .isOpen ≡ true → hasSession s n ≡ eqb (sessionNumber (indexIn n) a) n
-unfolding hasSession isSession
+has-open : (s : State) (n : ℕ) (a : LoginState) → loginAt s (indexIn n) ≡ a → a .isOpen ≡ true → isOpenNumber s n ≡ eqb (sessionNumber (indexIn n) a) n
+unfolding isOpenNumber isSession
 has-open s n a e o = rw e (ap (λ (b : Bool). b && eqb (sessionNumber (indexIn n) a) n) o)
 
-has-none : (s : State) (n : ℕ) (a : LoginState) → loginAt s (indexIn n) ≡ a → a .isOpen ≡ false → hasSession s n ≡ false
-unfolding hasSession isSession
+has-none : (s : State) (n : ℕ) (a : LoginState) → loginAt s (indexIn n) ≡ a → a .isOpen ≡ false → isOpenNumber s n ≡ false
+unfolding isOpenNumber isSession
 has-none s n a e o = rw e (ap (λ (b : Bool). b && eqb (sessionNumber (indexIn n) a) n) o)
 
 module _ {loaded : ℕ} {s : State} (r : Running loaded s) (n : ℕ) where
@@ -144,11 +104,11 @@ module _ {loaded : ℕ} {s : State} (r : Running loaded s) (n : ℕ) where
     unfolding apply loginAt
     own-login e = let z : i ≡ indexIn n = eqb-true i (indexIn n) e in rw (← z) (login-own s i a (login-set-place r d))
 
-    other-session : eqb i (indexIn n) ≡ false → hasSession s₁ n ≡ hasSession s n
-    unfolding apply loginAt hasSession
+    other-session : eqb i (indexIn n) ≡ false → isOpenNumber s₁ n ≡ isOpenNumber s n
+    unfolding apply loginAt isOpenNumber
     other-session e = ap (λ (b : LoginState). isSession (indexIn n) b n) (login-other s i a (indexIn n) (λ k. eqb-false _ _ e (sym k)))
 
-    opens : a .isOpen ≡ true → hasSession s₁ n ≡ (hasSession s n || eqb (sessionNumber i a) n)
+    opens : a .isOpen ≡ true → isOpenNumber s₁ n ≡ (isOpenNumber s n || eqb (sessionNumber i a) n)
     opens e = by-cases (eqb i (indexIn n))
         (λ h.
         let z : i ≡ indexIn n = eqb-true i (indexIn n) h in
@@ -156,7 +116,7 @@ module _ {loaded : ℕ} {s : State} (r : Running loaded s) (n : ℕ) where
         has-open s₁ n a (own-login h) e ∙ rw (has-none s n (loginAt s i) (ap (loginAt s) (sym z)) was, z))
         (λ h. other-session h ∙ rw (other-number i a (login-set-few r d) h) (sym (or-false _)))
 
-    shuts : a .isOpen ≡ false → hasSession s₁ n ≡ (hasSession s n && not (eqb (sessionNumber i (loginAt s i)) n))
+    shuts : a .isOpen ≡ false → isOpenNumber s₁ n ≡ (isOpenNumber s n && not (eqb (sessionNumber i (loginAt s i)) n))
     shuts e = by-cases (eqb i (indexIn n))
         (λ h.
         let z : i ≡ indexIn n = eqb-true i (indexIn n) h in
@@ -185,12 +145,13 @@ module _ {loaded : ℕ} {s : State} (r : Running loaded s) (n : ℕ) where
     login-turns : Turns s s₁ n (inSet (only n) (sessionIn (answerOf (setsLogin i a)))) (inSet (only n) (numberIn q))
     login-turns = by-cases (a .isOpen)
         (λ e. rw (given-is true e, shut-is true e) (record { after = opens e ∙ sym (and-true _); last = λ h. never (sym h) }))
-        (λ e. rw (given-is false e, shut-is false e) (record { after = shuts e ∙ rw (or-false (hasSession s n)); last = shut-last e }))
+        (λ e. rw (given-is false e, shut-is false e) (record { after = shuts e ∙ rw (or-false (isOpenNumber s n)); last = shut-last e }))
 
-  stored-session : {q : Option Request} {i : ℕ} {a : LoginState} {f : Field} → Stored s q i a f → hasSession (apply (stores i a f) s) n ≡ hasSession s n
-  unfolding hasSession isSession sessionNumber apply loginAt creating
-  stored-session {i = i} {a = a} d =
-      after-set (λ b. isSession (indexIn n) b n ≡ isSession (indexIn n) (getD (s .loginStates) (indexIn n) emptyLogin) n) (s .loginStates) i a (indexIn n) refl (λ e. rw (d .after, e))
+  stored-session : {q : Option Request} {i : ℕ} {a : LoginState} {f : Field} → Stored s q i a f → isOpenNumber (apply (stores i a f) s) n ≡ isOpenNumber s n
+  unfolding isOpenNumber isSession sessionNumber apply loginAt creating
+  stored-session {i = i} {a = a} d = by-cases (eqb i (indexIn n))
+      (λ e. let z : i ≡ indexIn n = eqb-true i (indexIn n) e in rw (← z, login-own s i a (stored-place r d), d .after))
+      (λ e. rw (login-other s i a (indexIn n) (λ k. eqb-false _ _ e (sym k))))
 
   turns-done : (q : Option Request) (c : Change) → Decided s q c →
       Turns s (apply c s) n (inSet (only n) (sessionIn (answerOf c))) (inSet (only n) (numberIn q) && isAccepted (answerOf c))
@@ -213,7 +174,7 @@ module _ (loaded n : ℕ) where
   none-given : (s : State) (acts : List Act) → Running loaded s → Past s n → All (λ e. gives n e ≡ false) (events s acts)
   unfolding events
   none-given s [] r p = tt
-  none-given s (a ∷ acts) r p = (past-not-given r n p a, none-given (outcome s a .state) acts (run-act s a r) (past-later s n a p))
+  none-given s (a ∷ acts) r p = (past-not-given r n p a, none-given (outcome s a .state) acts (run-act s a r) (past-later r n a p))
 
   pub given-once : (s : State) (acts : List Act) → Running loaded s → length (keep (gives n) (events s acts)) ≤ 1
   unfolding events
@@ -232,7 +193,7 @@ module _ (loaded n : ℕ) where
   turn false g false h₁ G C e k = rw (e, and-true g)
 
   pub open-run : (s : State) (acts : List Act) → Running loaded s →
-      hasSession (end s acts) n ≡ ((hasSession s n || any (gives n) (events s acts)) && not (any (closes n) (events s acts)))
+      isOpenNumber (end s acts) n ≡ ((isOpenNumber s n || any (gives n) (events s acts)) && not (any (closes n) (events s acts)))
   unfolding events end any
   open-run s [] r = sym (and-true _ ∙ or-false _)
   open-run s (a ∷ acts) r =
@@ -240,7 +201,7 @@ module _ (loaded n : ℕ) where
       let r₁ = run-act s a r in
       let t = act-turns r n a in
       open-run s₁ acts r₁
-      ∙ turn (hasSession s n) (gives n (eventIn s a)) (closes n (eventIn s a)) (hasSession s₁ n) (any (gives n) (events s₁ acts)) (any (closes n) (events s₁ acts))
+      ∙ turn (isOpenNumber s n) (gives n (eventIn s a)) (closes n (eventIn s a)) (isOpenNumber s₁ n) (any (gives n) (events s₁ acts)) (any (closes n) (events s₁ acts))
       (t .after) (λ e. false-any (gives n) (events s₁ acts) (none-given s₁ acts r₁ (last-past s₁ n (t .last e))))
 
   pub closed-past : (s : State) (acts : List Act) → Running loaded s → any (closes n) (events s acts) ≡ true → Past (end s acts) n
@@ -249,7 +210,7 @@ module _ (loaded n : ℕ) where
   closed-past s (a ∷ acts) r h =
       let s₁ : State = outcome s a .state in
       by-cases (closes n (eventIn s a))
-      (λ e. past-end s₁ n acts (last-past s₁ n (act-turns r n a .last e)))
+      (λ e. past-end (run-act s a r) n acts (last-past s₁ n (act-turns r n a .last e)))
       (λ e. closed-past s₁ acts (run-act s a r) (rw e at h))
 
 -- ── A number without a session ──
@@ -258,40 +219,29 @@ unfolding _>>=_ _or_
 or-refused none e f h = refl
 or-refused (some a) e f h = h a
 
-module _ (s : State) (n : ℕ) (none-open : hasSession s n ≡ false) where
+module _ (s : State) (n : ℕ) (none-open : isOpenNumber s n ≡ false) where
   nobody-asks : asker s n ≡ refused 14
-  unfolding asker hasSession _>>_ refuse_if_
+  unfolding asker isOpenNumber _>>_ refuse_if_
   nobody-asks = or-refused _ _ _ λ u. rw none-open
 
-  -- each word is refused 14; but a list that is too short comes before
-  refused-with : (q : Ask) (room : ℕ) → (e : ℕ) × (decide s (inSession n q) room ≡ refused e)
-  unfolding decide decideGet decidePush decideLogout _>>=_ _>>_ refuse_if_
-  refused-with get room = (14, rw nobody-asks)
-  refused-with (push p v) room = by-cases (ltb room listRoom) (λ e. (15, rw e)) (λ e. (14, rw (e, nobody-asks)))
-  refused-with logout room = (14, rw nobody-asks)
+  -- each word is refused; for a push a list that is too short comes before
+  refused-without : (q : Ask) (b : Bytes) (l : List ℕ) → decide s (inSession n q) (roomFor (inSession n q) b l) ≡ refused (groundWithout q l)
+  unfolding groundWithout decide decideGet decidePush decideLogout roomFor _>>=_ _>>_ refuse_if_
+  refused-without get b l = rw nobody-asks
+  refused-without (push p v) b l = by-cases (ltb (length l) listRoom) (λ e. rw e) (λ e. rw (e, nobody-asks))
+  refused-without logout b l = rw nobody-asks
 
-  refused-14 : (q : Ask) (b : Bytes) (l : List ℕ) → listRoom ≤ length l → decide s (inSession n q) (roomFor (inSession n q) b l) ≡ refused 14
-  unfolding decide decideGet decidePush decideLogout roomFor _>>=_ _>>_ refuse_if_
-  refused-14 get b l h = rw nobody-asks
-  refused-14 (push p v) b l h = rw (le-ltb (length l) listRoom h, nobody-asks)
-  refused-14 logout b l h = rw nobody-asks
-
-  module _ (x b : Bytes) (l : List ℕ) (q : Ask) (is : requestOf x ≡ some (inSession n q)) where
-    pub shut-refuses : isAccepted (outcome s (line x b l) .answer) ≡ false
-    unfolding outcome decision decideLine conclude unchanged isAccepted
-    shut-refuses = let (e, h) = refused-with q (roomFor (inSession n q) b l) in rw (is, h)
-
-    pub shut-ground : listRoom ≤ length l → outcome s (line x b l) .answer ≡ refusal 14
-    unfolding outcome decision decideLine conclude unchanged
-    shut-ground h = rw (is, refused-14 q b l h)
+  pub shut-refuses : (x b : Bytes) (l : List ℕ) (q : Ask) → requestOf x ≡ some (inSession n q) → outcome s (line x b l) .answer ≡ refusal (groundWithout q l)
+  unfolding outcome decision decideLine conclude unchanged
+  shut-refuses x b l q is = rw (is, refused-without q b l)
 
 -- what a list receives are numbers of open sessions
 module _ {loaded : ℕ} {s : State} (r : Running loaded s) where
-  receiver-open : (j : ℕ) → loginAt s j .isOpen ≡ true → hasSession s (sessionNumber j (loginAt s j)) ≡ true
-  unfolding hasSession isSession
+  receiver-open : (j : ℕ) → loginAt s j .isOpen ≡ true → isOpenNumber s (sessionNumber j (loginAt s j)) ≡ true
+  unfolding isOpenNumber isSession
   receiver-open j h = rw (index-of j (loginAt s j) (few-at r j)) (both-and _ _ h (eq-eqb (sessionNumber j (loginAt s j)) _ refl))
 
-  told-open : (c : Change) → All (λ m. hasSession s m ≡ true) (notified s c)
+  told-open : (c : Change) → All (λ m. isOpenNumber s m ≡ true) (notified s c)
   unfolding notified receivers
   told-open (setsLogin i a) = tt
   told-open (shows t) = tt
@@ -299,14 +249,14 @@ module _ {loaded : ℕ} {s : State} (r : Running loaded s) where
       let number : ℕ → ℕ = λ j. sessionNumber j (loginAt s j) in
       let test : ℕ → Bool = λ j. loginAt s j .isOpen && not (eqb j i) && readsAt (s .tables) j (f .path) in
       let js : List ℕ = keep test (range 0 (length (s .tables .users))) in
-      all-map (λ m. hasSession s m ≡ true) number js
-      (all-imp (λ j. test j ≡ true) (λ j. hasSession s (number j) ≡ true) (λ j h. receiver-open j (and-first (loginAt s j .isOpen) _ _ h)) js (all-kept test _))
+      all-map (λ m. isOpenNumber s m ≡ true) number js
+      (all-imp (λ j. test j ≡ true) (λ j. isOpenNumber s (number j) ≡ true) (λ j h. receiver-open j (and-first (loginAt s j .isOpen) _ _ h)) js (all-kept test _))
 
-  pub shut-not-told : (n : ℕ) → hasSession s n ≡ false → (a : Act) → any (eqb n) (take (outcome s a .told) (outcome s a .list)) ≡ false
+  pub shut-not-told : (n : ℕ) → isOpenNumber s n ≡ false → (a : Act) → any (eqb n) (take (outcome s a .told) (outcome s a .list)) ≡ false
   unfolding conclude unchanged
   shut-not-told n none-open a = by-decision (λ x. any (eqb n) (take (x .told) (x .list)) ≡ false) s a
       (λ e. unfold any in refl)
-      (λ c d. rw over-take (false-any (eqb n) (notified s c) (all-imp (λ m. hasSession s m ≡ true) (λ m. eqb n m ≡ false) (λ m h. ne-eqb n m λ k. never (sym h ∙ ap (hasSession s) (sym k) ∙ none-open)) (notified s c) (told-open c))))
+      (λ c d. rw over-take (false-any (eqb n) (notified s c) (all-imp (λ m. isOpenNumber s m ≡ true) (λ m. eqb n m ≡ false) (λ m h. ne-eqb n m λ k. never (sym h ∙ ap (isOpenNumber s) (sym k) ∙ none-open)) (notified s c) (told-open c))))
 
 -- ── A user who left logs in again ──
 -- with no login since, the login state is as it was left: closed, with the number's count
@@ -315,14 +265,17 @@ module _ {loaded : ℕ} {s : State} (r : Running loaded s) (n : ℕ) (number : s
   same-count : loginAt (end s acts) (indexIn n) .logins ≡ loginAt s (indexIn n) .logins
   same-count = logins-grow (indexIn n) s acts r ∙ rw (keep-none (loginBy (indexIn n)) (events s acts) (any-false _ _ no-login)) (add-zero _)
 
-  pub still-shut : loginAt (end s acts) (indexIn n) .isOpen ≡ false
-  still-shut = by-cases (loginAt (end s acts) (indexIn n) .isOpen)
-      (λ e. absurd (omega (arith, same-count, end-later s (indexIn n) acts .opened shut e)))
-      (λ e. e)
-
   pub still-number : sessionNumber (indexIn n) (loginAt (end s acts) (indexIn n)) ≡ n
   unfolding sessionNumber
   still-number = omega (arith, number, same-count)
+
+  none-since : isOpenNumber (end s acts) n ≡ false
+  none-since = open-run _ n s acts r ∙ rw (has-none s n _ refl shut, false-any _ _ (none-given _ n s acts r (last-past s n number)))
+
+  pub still-shut : loginAt (end s acts) (indexIn n) .isOpen ≡ false
+  still-shut = by-cases (loginAt (end s acts) (indexIn n) .isOpen)
+      (λ e. never (sym (has-open (end s acts) n _ refl e ∙ eq-eqb _ n still-number) ∙ none-since))
+      (λ e. e)
 
   pub count-is : n % perUser ≡ loginAt (end s acts) (indexIn n) .logins
   unfolding sessionNumber indexIn
@@ -336,3 +289,11 @@ unfolding outcome decision decideLine decide decideLogin conclude unchanged answ
 lets-in s name i u named shut x b l is = by-cases (leb maxLogins (loginAt s i .logins))
     (λ e. rw (is, named, bytes-refl (u .key), shut, e))
     (λ e. rw (is, named, bytes-refl (u .key), shut, e) (ap session (omega arith)))
+
+-- an open number is some user's, whom LOGOUT lets go
+pub lets-out : {loaded : ℕ} {s : State} → Running loaded s → (n : ℕ) → isOpenNumber s n ≡ true →
+    (x b : Bytes) (l : List ℕ) → requestOf x ≡ some (inSession n logout) → outcome s (line x b l) .answer ≡ accepted
+unfolding outcome decision decideLine decide decideLogout asker conclude unchanged answerOf isOpenNumber isSession userAt _>>=_ _>>_ refuse_if_ _or_
+lets-out {s = s} r n isOpen x b l is =
+    let (u, at) = elem-at (s .tables .users) (indexIn n) (r .seated (indexIn n) (and-both _ _ isOpen .0)) in
+    rw (is, at, isOpen)

@@ -17,9 +17,9 @@ use Rattle.model.specs.Tables.{User, Rule, Tables}
 use Rattle.model.specs.Rights.{matches, isWrite, isFor, mayWrite, overlap, isAbove, conflict, conflictsWith}
 use Rattle.model.specs.Opening.{LoginState, State, emptyLogin, emptyLogins, Texts, opened}
 use Rattle.model.specs.Requests.{Ask, Request, inSession, get, logout, readLogin, readAsk, readGet, readPush, readLogout, readers, firstOf, requestOf, pushOf}
-use Rattle.model.specs.Serving.{Change, setsLogin, shows, stores, apply, Act, line, save, outcome}
+use Rattle.model.specs.Serving.{loginAt, Change, setsLogin, shows, stores, apply, Act, line, save, outcome}
 use Rattle.model.specs.Runs.{requestOfAct, eventIn, pushIn}
-use Rattle.model.proofs.Lists.{by-cases, never, none-some, and-both, or-neither, bytes-eq, bytes-refl, all-imp, all-replicate, any-true, any-false}
+use Rattle.model.proofs.Lists.{by-cases, never, none-some, and-both, or-neither, bytes-eq, bytes-refl, all-imp, all-getD, all-replicate, any-true, any-false}
 use Rattle.model.proofs.Order.{Sorted, by-three, lt-eq, eq-gt, path-orders, put-same, put-more, all-put, value-less, value-same, value-more, behind-trans}
 use Rattle.model.proofs.Valid.{Valid}
 use Rattle.model.proofs.Diverge.{diverge, DivergesFrom, Diverging, diverging-put}
@@ -232,6 +232,13 @@ no-logins : emptyLogin .logins ≡ 0
 unfolding emptyLogin
 no-logins = refl
 
+no-session : (s : State) → s .loginStates ≡ replicate maxUsers emptyLogin → (j : ℕ) → loginAt s j .isOpen ≡ false
+unfolding loginAt emptyLogin
+no-session s e j = rw e (all-getD Shut (replicate maxUsers emptyLogin) j emptyLogin refl (all-replicate Shut maxUsers emptyLogin refl))
+  where
+    Shut : LoginState → Type 0
+    Shut a = a .isOpen ≡ false
+
 pub ran-opened : (t : Texts) (s : State) → opened t ≡ done s → Ran (length (s .fields)) s
 ran-opened t s h =
     let o = opened-inv t s h in
@@ -243,6 +250,7 @@ ran-opened t s h =
       running = record {
         sorted = rw (f .stored) at (stored-sorted [] (f .tree) [] tt);
         few = rw empty (all-replicate (λ a. a .logins ≤ maxLogins) maxUsers emptyLogin (omega (arith, no-logins)));
+        seated = λ j h. never (sym h ∙ no-session s empty j);
         places = rw empty (length-replicate maxUsers emptyLogin);
         users = v .users .few;
         within = rw empty (within-empty (s .tables .users) maxUsers);

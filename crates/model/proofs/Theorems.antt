@@ -20,9 +20,9 @@ use Rattle.model.specs.Table.{Line, lines}
 use Rattle.model.specs.Tables.{User, Access, Rule, Tables, userAt}
 use Rattle.model.specs.Rights.{mayRead}
 use Rattle.model.specs.Opening.{LoginState, State, emptyLogin, emptyLogins, Texts, Fault, openRecord, opened}
-use Rattle.model.specs.Requests.{logoutOf}
+use Rattle.model.specs.Requests.{logout, logoutOf}
 use Rattle.model.specs.Serving.{sessionNumber, indexIn, isSession, loginAt, readable, copyFor, readsBy, readsAt, Change, setsLogin, shows, stores, apply, Act, line, outcome}
-use Rattle.model.specs.Runs.{requestOfAct, events, end, inSet, only, seen, seenFields, isAccepted, hasSession, gives, closes}
+use Rattle.model.specs.Runs.{requestOfAct, events, end, inSet, only, seen, seenFields, isAccepted, isOpenNumber, gives, closes}
 use Rattle.model.specs.Program.{lineBytes, printRun, serveWith, serve}
 use Rattle.model.specs.Claims
 use Rattle.model.specs.Claims.{Reached, spelled, SameTables, isValid, isSorted, begins, noneBegins, withRecord, SavedFor, LeftSince, LongEnough, TwoRuns}
@@ -39,7 +39,7 @@ use Rattle.model.proofs.CopyLength.{savedText, copy-length}
 use Rattle.model.proofs.Decisions.{decided}
 use Rattle.model.proofs.Invariant.{Running, Within, totalCreated, within-at, few-at, few-fields, store-is-put, next-state, at-end, run-act}
 use Rattle.model.proofs.Changes.{login-changes, logout-changes, push-changes}
-use Rattle.model.proofs.Sessions.{act-turns, past-not-given, given-once, open-run, closed-past, shut-refuses, shut-ground, shut-not-told, still-shut, still-number, count-is, lets-in}
+use Rattle.model.proofs.Sessions.{act-turns, past-not-given, given-once, open-run, closed-past, shut-refuses, shut-not-told, still-shut, still-number, count-is, lets-in, lets-out}
 use Rattle.model.proofs.Growth.{fields-grow, created-grow, logins-grow, login-number}
 use Rattle.model.proofs.TwoRuns.{view, same-view, replay, one-run}
 use Rattle.model.proofs.Notified.{told-ascends}
@@ -228,8 +228,8 @@ number-divides t s acts h a n k =
 
 -- ── Condition 2: sessions ──
 -- no session is open at the start
-start-shut : (t : Texts) (s : State) → opened t ≡ done s → (n : ℕ) → hasSession s n ≡ false
-unfolding hasSession isSession emptyLogin
+start-shut : (t : Texts) (s : State) → opened t ≡ done s → (n : ℕ) → isOpenNumber s n ≡ false
+unfolding isOpenNumber isSession emptyLogin
 start-shut t s h n = rw (start-empty t s h (indexIn n))
 
 pub answered-once : Claims.AnsweredOnce
@@ -238,16 +238,22 @@ answered-once t s acts h n = given-once _ n s acts (ran-opened t s h .running)
 pub open-between : Claims.OpenBetween
 open-between t s acts h n = open-run _ n s acts (ran-opened t s h .running) ∙ rw (start-shut t s h n)
 
+pub logout-answers : Claims.LogoutAnswers
+unfolding Claims.groundWithout
+logout-answers t s acts h x b l n is = rw (← open-between t s acts h n) (by-cases (isOpenNumber (end s acts) n)
+    (λ e. rw e (lets-out (ran-end t s acts h .running) n e x b l is))
+    (λ e. rw e (shut-refuses (end s acts) n e x b l logout is)))
+
+pub others-shut : Claims.OthersShut
+others-shut t s acts h n k =
+    let shut : isOpenNumber (end s acts) n ≡ false = open-between t s acts h n ∙ k in
+    record { refuses = shut-refuses (end s acts) n shut; notTold = shut-not-told (ran-end t s acts h .running) n shut }
+
 pub stays-closed : Claims.StaysClosed
-stays-closed t s acts h n k =
-    let r = ran-end t s acts h .running in
-    let shut : hasSession (end s acts) n ≡ false = open-between t s acts h n ∙ rw k (and-false (any (gives n) (events s acts))) in
-    record {
-      refuses = shut-refuses (end s acts) n shut;
-      ground = shut-ground (end s acts) n shut;
-      notGiven = past-not-given r n (closed-past _ n s acts (ran-opened t s h .running) k);
-      notTold = shut-not-told r n shut;
-    }
+stays-closed t s acts h n k = (
+  others-shut t s acts h n (rw k (and-false (any (gives n) (events s acts)))),
+  past-not-given (ran-end t s acts h .running) n (closed-past _ n s acts (ran-opened t s h .running) k),
+)
 
 module _ (s : State) (n : ℕ) (w : LeftSince s n) where
   leaving : Act
@@ -258,11 +264,11 @@ module _ (s : State) (n : ℕ) (w : LeftSince s n) where
 
   left-shut : loginAt (outcome (w .former) leaving .state) (indexIn n) .isOpen ≡ false
   unfolding leaving
-  left-shut = ap (λ (a : LoginState). a .isOpen) (logout-changes before-leaving (w .content) (w .buffer) (w .list) n (w .isLogout) (w .isAccepted) .ownLogin)
+  left-shut = ap (λ (a : LoginState). a .isOpen) (logout-changes before-leaving (w .content) (w .buffer) (w .list) n (w .isLogout) (w .leaves) .ownLogin)
 
   left-number : sessionNumber (indexIn n) (loginAt (outcome (w .former) leaving .state) (indexIn n)) ≡ n
   unfolding leaving closes requestOfAct logoutOf inSet only isAccepted Base._>>=_
-  left-number = act-turns before-leaving n leaving .last (rw (w .isLogout, w .isAccepted, eq-eqb n n refl))
+  left-number = act-turns before-leaving n leaving .last (rw (w .isLogout, w .leaves, eq-eqb n n refl))
 
 pub logs-in-again : Claims.LogsInAgain
 unfolding leaving

@@ -195,6 +195,7 @@ handedOn : serve workshopTexts (rows (
     "LOGIN;bob;k2" ∷
     "PUSH;1;$['e9']['cv']['3'];10" ∷
     "LOGOUT;1" ∷
+    "GET;1" ∷
     "PUSH;65537;$['e7']['cv']['29'];38" ∷
     "LOGIN;ann;k1" ∷
     "GET;1" ∷
@@ -209,6 +210,7 @@ handedOn : serve workshopTexts (rows (
     "OK;65537" ∷
     "OK" ∷ "TO;65537;$['e9']['cv']['3'];10" ∷
     "OK" ∷
+    "NO;14" ∷
     "OK" ∷
     "OK;2" ∷
     "NO;14" ∷

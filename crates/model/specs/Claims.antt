@@ -16,9 +16,9 @@ use Rattle.model.specs.Paths.{Steps, stepsText, keysText, stepsOf, keysO
 use Rattle.model.specs.Refusals.{refused, done}
 use Rattle.model.specs.Tables.{User, Access, Rule, Tables, userAt, userNamed}
 use Rattle.model.specs.Opening.{LoginState, State, emptyLogins, Texts, Fault, fault, quotas, opened, afterOpening}
-use Rattle.model.specs.Requests.{Ask, Request, login, inSession, push, logout, requestOf}
+use Rattle.model.specs.Requests.{Ask, Request, login, inSession, get, push, logout, requestOf}
 use Rattle.model.specs.Serving.{indexIn, loginAt, readable, copyFor, stores, decide, refusal, session, length-is, accepted, Act, line, bufferOf, listOf, Outcome, outcome}
-use Rattle.model.specs.Runs.{eventIn, events, end, ownerIn, only, seenFields, isAccepted, sequence, got, creates, createdBy, hasSession, gives, loginBy, closes}
+use Rattle.model.specs.Runs.{eventIn, events, end, ownerIn, only, seenFields, sequence, got, creates, createdBy, isOpenNumber, gives, loginBy, closes}
 use Rattle.model.specs.Program.{printed, serveWith, serve}
 
 -- a state that a run from these texts reaches
@@ -217,20 +217,37 @@ AnsweredOnce =
 abbrev pub OpenBetween : Type 0
 OpenBetween =
     (t : Texts) (s : State) (acts : List Act) → opened t ≡ done s → (n : ℕ) →
-    hasSession (end s acts) n ≡ (any (gives n) (events s acts) && not (any (closes n) (events s acts)))
+    isOpenNumber (end s acts) n ≡ (any (gives n) (events s acts) && not (any (closes n) (events s acts)))
 
--- a number with which nothing is done: lines with it are refused, 14 unless a list is too short, no login answers it, and no list receives it
+-- "LOGOUT gives 11, then 14": accepted exactly where the number is open
+abbrev pub LogoutAnswers : Type 0
+LogoutAnswers =
+    (t : Texts) (s : State) (acts : List Act) → opened t ≡ done s → (x b : Bytes) (l : List ℕ) (n : ℕ) → requestOf x ≡ some (inSession n logout) →
+    outcome (end s acts) (line x b l) .answer ≡ (if any (gives n) (events s acts) && not (any (closes n) (events s acts)) then accepted else refusal 14)
+
+-- "14 no open session has this number"; a PUSH is refused 15 before, where its list is too short
+unfoldable pub groundWithout : Ask → List ℕ → ℕ
+groundWithout get l = 14
+groundWithout (push p v) l = if ltb (length l) listRoom then 15 else 14
+groundWithout logout l = 14
+
+-- a number with which nothing is done: each line that carries it is refused, and no list receives it
 pub record Shut (s : State) (n : ℕ) : Type 0 where
-  pub refuses : (x b : Bytes) (l : List ℕ) (q : Ask) → requestOf x ≡ some (inSession n q) → isAccepted (outcome s (line x b l) .answer) ≡ false
-  pub ground : (x b : Bytes) (l : List ℕ) (q : Ask) → requestOf x ≡ some (inSession n q) → listRoom ≤ length l → outcome s (line x b l) .answer ≡ refusal 14
-  pub notGiven : (a : Act) → gives n (eventIn s a) ≡ false
+  pub refuses : (x b : Bytes) (l : List ℕ) (q : Ask) → requestOf x ≡ some (inSession n q) → outcome s (line x b l) .answer ≡ refusal (groundWithout q l)
   pub notTold : (a : Act) → any (eqb n) (take (outcome s a .told) (outcome s a .list)) ≡ false
 
--- "A closed number stays closed until the next accepted opening of the four texts", "and deliveries stop with it"
+-- so it is with every number that is not open: past, still to come, or nobody's
+abbrev pub OthersShut : Type 0
+OthersShut =
+    (t : Texts) (s : State) (acts : List Act) → opened t ≡ done s → (n : ℕ) →
+    (any (gives n) (events s acts) && not (any (closes n) (events s acts))) ≡ false →
+    Shut (end s acts) n
+
+-- "A closed number stays closed until the next accepted opening of the four texts", "and deliveries stop with it": nor does a login answer it
 abbrev pub StaysClosed : Type 0
 StaysClosed =
     (t : Texts) (s : State) (acts : List Act) → opened t ≡ done s → (n : ℕ) → any (closes n) (events s acts) ≡ true →
-    Shut (end s acts) n
+    Shut (end s acts) n × ((a : Act) → gives n (eventIn (end s acts) a) ≡ false)
 
 -- a LOGOUT that was accepted, and what came after it with no login of that user among it
 pub record LeftSince (s : State) (n : ℕ) : Type 0 where
@@ -241,7 +258,7 @@ pub record LeftSince (s : State) (n : ℕ) : Type 0 where
   pub buffer : Bytes
   pub list : List ℕ
   pub isLogout : requestOf content ≡ some (inSession n logout)
-  pub isAccepted : outcome former (line content buffer list) .answer ≡ accepted
+  pub leaves : outcome former (line content buffer list) .answer ≡ accepted
   pub later : List Act
   pub noLogin : any (loginBy (indexIn n)) (events (outcome former (line content buffer list) .state) later) ≡ false
   pub isEnd : end (outcome former (line content buffer list) .state) later ≡ s

@@ -1,4 +1,4 @@
--- The limits that document 01 sets, each stated once, with its words.
+-- The limits that documents 01 and 02 set, each stated once, with its words.
 use Prim.Native.Nat.{ℕ}
 
 -- "A name is 1 to 16 of them": users, roles, login keys and the names of environment lines

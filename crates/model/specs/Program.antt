@@ -18,7 +18,7 @@ unfoldable pub printDeliveries : Outcome → Option Field → Bytes
 printDeliveries o none = []
 printDeliveries o (some f) = joined (map (λ m. deliveryLine (f .path) (f .value) m ++ text "\n") (take (o .told) (o .list)))
 
--- "`OK;session` for a login, `OK;length` and the copy for GET, `OK` .. for PUSH, `NO;number` for a refusal"
+-- "`OK;session` for a login, `OK;length` and the copy for GET, `OK` .. for PUSH, `NO;number` for a refusal"; "prints `OK`" for LOGOUT (02, 1)
 unfoldable pub printAnswer : Bytes → Answer → Bytes
 printAnswer b (refusal e) = tableLine (text "NO" ∷ decimal e ∷ [])
 printAnswer b (session n) = tableLine (text "OK" ∷ decimal n ∷ [])

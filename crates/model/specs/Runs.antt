@@ -160,8 +160,8 @@ createdBy i e = inSet (only i) (ownerIn e) && creates e
 
 -- ── Sessions ──
 -- an open session has this number
-unfoldable pub hasSession : State → ℕ → Bool
-hasSession s n = isSession (indexIn n) (loginAt s (indexIn n)) n
+unfoldable pub isOpenNumber : State → ℕ → Bool
+isOpenNumber s n = isSession (indexIn n) (loginAt s (indexIn n)) n
 
 -- the session number that is answered
 unfoldable pub sessionIn : Answer → Option ℕ
@@ -183,5 +183,5 @@ unfoldable pub closes : ℕ → Event → Bool
 closes n e = inSet (only n) (e .request >>= logoutOf) && isAccepted (e .result .answer)
 
 unfoldable pub Opened : Unit {0}
-unfolding Serving.Opened requestOfAct events end indexOf ifUser owner ownerIn pushIn inSet only seen seenFields isAccepted ownRequest othersPush items sequence deliveryLine copies answers deliveries gotIn got createsBy creates createdBy hasSession sessionIn gives loginBy closes
+unfolding Serving.Opened requestOfAct events end indexOf ifUser owner ownerIn pushIn inSet only seen seenFields isAccepted ownRequest othersPush items sequence deliveryLine copies answers deliveries gotIn got createsBy creates createdBy isOpenNumber sessionIn gives loginBy closes
 Opened = tt

@@ -195,7 +195,7 @@ pub data Answer : Type 0 where
   length-is : ℕ → Answer
   accepted : Answer
 
--- "The answer is the session number", "the copy's length", "the sender's answer shows neither list nor its length"; nothing more for a session closed
+-- "The answer is the session number", "the copy's length", "the sender's answer shows neither list nor its length"; bare acceptance where a session is closed
 unfoldable pub answerOf : Change → Answer
 answerOf (setsLogin i a) = if a .isOpen then session (sessionNumber i a) else accepted
 answerOf (shows c) = length-is (length c)

@@ -1,1 +1,1 @@
-// What document 01 means, as definitions and claims in specs/, and no code.
+// What documents 01 and 02 mean, as definitions and claims in specs/, and no code.

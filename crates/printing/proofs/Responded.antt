@@ -24,7 +24,7 @@ use Rattle.model.proofs.Lists.{all-every, map-agree}
 use Rattle.model.proofs.Reading.{check-some}
 use Rattle.model.proofs.Decisions.{answers-length, decided, shown-fits}
 use Rattle.model.proofs.Decisions as decisions
-use Rattle.requests.specs.Lines.{pushedText, PushStands}
+use Rattle.requests.specs.Lines.{pushedText}
 use Rattle.deliveries.specs.Receivers.{deliveryOf}
 use Rattle.deliveries.proofs.Received.{receivers-of, receivers-few}
 use Rattle.deliveries.proofs.Delivered.{delivery-as}
@@ -110,7 +110,7 @@ module _ (s : State) (b : Bytes) (l : List ℕ) (t : Bytes) (at : ℕ) where
   accepts : (room : ℕ) (q : Request) (c : Change) → requestOf t ≡ some q → decide s q room ≡ done c → answerOf c ≡ accepted → StandsAt (done c) t at →
       Speaks t at (conclude s b l (done c))
   unfolding answerOf conclude notified printDeliveries joined
-  accepts room q (setsLogin i a) asks h is stands = record { within = stands; short = asks-short asks; tells = rw (asks, decided s q room _ h .quiet) }
+  accepts room q (setsLogin i a) asks h is stands = record { within = omega (arith, stands); short = asks-short asks; tells = rw (asks, decided s q room _ h .quiet) }
   accepts room q (shows x) asks h is stands = let z : _≡_ {A = ℕ} 0 1 = cc in absurd (omega arith)
   accepts room q (stores i a f) asks h is stands = record {
     within = stands .within;

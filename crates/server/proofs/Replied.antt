@@ -143,7 +143,7 @@ module _ (tables : Bytes) (logins : List ℕ) (fields : Bytes) (n : ℕ) {o : Se
       is = rw (stored .states, shut);
       logins = stored .numbers;
       fields = refl;
-      position = omega arith;
+      position = refl;
     })
 
 -- ── Save: the saved text of all fields is shown ──

@@ -60,11 +60,11 @@ fieldsAfter (done (setsLogin i a)) before = before
 fieldsAfter (done (shows c)) before = before
 fieldsAfter (done (stores i a f)) before = storedField f before
 
--- from the position on stands what is pushed
+-- from the position on stands what is pushed; 0 where nothing is
 abbrev pub StandsAt : Result ℕ Change → Bytes → ℕ → Type 0
-StandsAt (refused e) text at = at ≤ length text
-StandsAt (done (setsLogin i a)) text at = at ≤ length text
-StandsAt (done (shows c)) text at = at ≤ length text
+StandsAt (refused e) text at = at ≡ 0
+StandsAt (done (setsLogin i a)) text at = at ≡ 0
+StandsAt (done (shows c)) text at = at ≡ 0
 StandsAt (done (stores i a f)) text at = PushStands text (f .path) at (f .value)
 
 -- only an accepted request speaks of a part of the line

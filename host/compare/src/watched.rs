@@ -187,6 +187,7 @@ impl Watched {
         let mut logins = self.former.logins;
         let state = state_of(&mut logins, number)?;
         ensure(state[1] != 0, "no session was open")?;
+        ensure(number % RANGE == usize::from(state[0]), "the number is not that of the session")?;
         state[1] = 0;
         ensure(logins == self.lent.memory.logins, "the login states are not those of a logout")?;
         self.check_fields_kept()

@@ -1,5 +1,6 @@
 -- No session of the number: 14. Else the login state of the session's user is closed and put back.
 use mathlib.Core.Path.{refl}
+use native.Mathlib.Omega.{arith}
 use borrow.Author.Needs.{needs}
 use Rattle.sessions.proofs.Known.{session-below}
 use Rattle.server.proofs.Replied.{left-refused, logout-unknown, logout-left}
@@ -22,7 +23,7 @@ returns c text fields b l =
     left-refused (logout-unknown (a .tables .now) (a .logins .now) fields (a .n) (s .session .ensures) (c .enum-told .given .1) _) text _ b l refl
 
 state-at-requires : tie.Need-state-at-requires
-state-at-requires c κs = session-below _ _ _ (c .before .before .before .before .session .ensures) (c .before .before .i .given .1)
+state-at-requires c κs = omega (arith, session-below _ _ _ (c .before .before .before .before .session .ensures) (c .before .before .i .given .1))
 
 closed-requires : tie.Need-closed-requires
 closed-requires c κs = search needs
@@ -30,7 +31,7 @@ closed-requires c κs = search needs
 put-state-requires : tie.Need-put-state-requires
 put-state-requires c κs =
     let i = c .before .before .before .before .before in
-    session-below _ _ _ (i .before .before .session .ensures) (i .i .given .1)
+    omega (arith, session-below _ _ _ (i .before .before .session .ensures) (i .i .given .1))
 
 returns-2 : tie.Need-returns-2
 returns-2 c text fields b l =
