@@ -1,25 +1,24 @@
 -- Sessions in a run (02, 1): a number is answered once, and is open exactly from the login that answers it to the LOGOUT that closes it.
-use Prim.Native.Nat.{ℕ, suc, _/_, _%_, _≤_}
+use Prim.Native.Nat.{ℕ, suc, _≤_}
 use mathlib.Core.Path.{_≡_, refl, sym, ap, _∙_}
 use mathlib.Core.Option.{Option, none, some}
 use mathlib.Core.List.{List, [], _∷_}
 use mathlib.Core.Bool.{Bool, true, false, not, _&&_, _||_, and-true, and-false, or-false}
 use lib.Dec.{leb, ltb, eqb}
 use lib.ListN.{length, take}
-use native.Mathlib.Nat.{add-zero}
 use native.Mathlib.Omega.{arith}
 use borrow.Author.Tests.{eqb-true, eqb-false, eq-eqb, ne-eqb}
 use Rattle.model.specs.Base.{Bytes, if_then_else_, any, keep, range, All}
-use Rattle.model.specs.Limits.{listRoom, perUser, maxLogins}
+use Rattle.model.specs.Limits.{listRoom, maxLogins}
 use Rattle.model.specs.Fields.{Field}
 use Rattle.model.specs.Refusals.{Result, refused, _>>=_, _>>_, refuse_if_, _or_}
 use Rattle.model.specs.Tables.{User, userAt, userNamed}
 use Rattle.model.specs.Opening.{LoginState, State}
 use Rattle.model.specs.Requests.{Ask, Request, inSession, login, get, push, logout, requestOf}
 use Rattle.model.specs.Serving.{sessionNumber, indexIn, isSession, loginAt, Change, setsLogin, shows, stores, asker, decideLogin, decideGet, creating, decidePush, decideLogout, roomFor, decide, apply, readsAt, receivers, notified, answerOf, Answer, refusal, session, length-is, accepted, Act, line, decideLine, decision, unchanged, conclude, outcome}
-use Rattle.model.specs.Runs.{requestOfAct, eventIn, events, end, inSet, only, isAccepted, isOpenNumber, sessionIn, gives, loginBy, closes}
+use Rattle.model.specs.Runs.{requestOfAct, eventIn, events, end, inSet, only, isAccepted, isOpenNumber, sessionIn, gives, closes}
 use Rattle.model.specs.Claims.{groundWithout}
-use Rattle.model.proofs.Lists.{by-cases, never, bytes-refl, both-and, all-imp, all-map, all-kept, keep-yes, keep-no, keep-none, any-false, false-any, and-both, elem-at}
+use Rattle.model.proofs.Lists.{by-cases, never, bytes-refl, both-and, all-imp, all-map, all-kept, keep-yes, keep-no, keep-none, false-any, and-both, elem-at}
 use Rattle.model.proofs.Order.{one}
 use Rattle.model.proofs.Decisions.{index-of, numberIn, LoginSet, Stored, Decided, by-decision}
 use Rattle.model.proofs.Invariant.{Running, few-at, login-set-place, login-set-few, stored-place, run-act}
@@ -258,28 +257,12 @@ module _ {loaded : ℕ} {s : State} (r : Running loaded s) where
       (λ e. unfold any in refl)
       (λ c d. rw over-take (false-any (eqb n) (notified s c) (all-imp (λ m. isOpenNumber s m ≡ true) (λ m. eqb n m ≡ false) (λ m h. ne-eqb n m λ k. never (sym h ∙ ap (isOpenNumber s) (sym k) ∙ none-open)) (notified s c) (told-open c))))
 
--- ── A user who left logs in again ──
--- with no login since, the login state is as it was left: closed, with the number's count
-module _ {loaded : ℕ} {s : State} (r : Running loaded s) (n : ℕ) (number : sessionNumber (indexIn n) (loginAt s (indexIn n)) ≡ n) (shut : loginAt s (indexIn n) .isOpen ≡ false)
-    (acts : List Act) (no-login : any (loginBy (indexIn n)) (events s acts) ≡ false) where
-  same-count : loginAt (end s acts) (indexIn n) .logins ≡ loginAt s (indexIn n) .logins
-  same-count = logins-grow (indexIn n) s acts r ∙ rw (keep-none (loginBy (indexIn n)) (events s acts) (any-false _ _ no-login)) (add-zero _)
-
-  pub still-number : sessionNumber (indexIn n) (loginAt (end s acts) (indexIn n)) ≡ n
-  unfolding sessionNumber
-  still-number = omega (arith, number, same-count)
-
-  none-since : isOpenNumber (end s acts) n ≡ false
-  none-since = open-run _ n s acts r ∙ rw (has-none s n _ refl shut, false-any _ _ (none-given _ n s acts r (last-past s n number)))
-
-  pub still-shut : loginAt (end s acts) (indexIn n) .isOpen ≡ false
-  still-shut = by-cases (loginAt (end s acts) (indexIn n) .isOpen)
-      (λ e. never (sym (has-open (end s acts) n _ refl e ∙ eq-eqb _ n still-number) ∙ none-since))
-      (λ e. e)
-
-  pub count-is : n % perUser ≡ loginAt (end s acts) (indexIn n) .logins
-  unfolding sessionNumber indexIn
-  count-is = omega (arith, number, same-count, few-at r (n / perUser))
+-- ── A user logs in again, and out ──
+-- the session of a number that is its user's last is open as the number is
+pub last-open : (s : State) (n : ℕ) → sessionNumber (indexIn n) (loginAt s (indexIn n)) ≡ n → isOpenNumber s n ≡ false → loginAt s (indexIn n) .isOpen ≡ false
+last-open s n last shut = by-cases (loginAt s (indexIn n) .isOpen)
+    (λ e. never (sym (has-open s n _ refl e ∙ eq-eqb _ n last) ∙ shut))
+    (λ e. e)
 
 -- a user without a session who gives the key is let in, until the last login
 pub lets-in : (s : State) (name : Bytes) (i : ℕ) (u : User) → userNamed name (s .tables .users) ≡ some (i, u) → loginAt s i .isOpen ≡ false →

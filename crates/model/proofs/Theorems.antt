@@ -1,5 +1,5 @@
 -- The claims of specs/Claims, proved, in their order; some stand where their argument does (Changes, Spelling, Loads).
-use Prim.Native.Nat.{ℕ, zero, suc, _+_, _*_, _≤_}
+use Prim.Native.Nat.{ℕ, zero, suc, _+_, _*_, _%_, _≤_}
 use mathlib.Core.Path.{_≡_, refl, sym, ap, ap₂, _∙_}
 use mathlib.Core.Option.{some}
 use mathlib.Core.List.{List, [], _∷_, map, map-map}
@@ -9,7 +9,6 @@ use lib.ListN.{length, getD, replicate}
 use native.Mathlib.Omega.{arith}
 use native.Mathlib.Nat.{zero-add}
 use borrow.Author.Tests.{eqb-true, eq-eqb, le-ltb}
-use Rattle.model.specs.Base
 use Rattle.model.specs.Base.{Bytes, any, keep, sum, range, _==_, All}
 use Rattle.model.specs.Limits.{maxFields, maxUsers, maxText, maxCopy, listRoom, perUser}
 use Rattle.model.specs.Fields.{Keys, Field, Fields, orderPath, byOrder, valueAt, fieldOf}
@@ -20,12 +19,12 @@ use Rattle.model.specs.Table.{Line, lines}
 use Rattle.model.specs.Tables.{User, Access, Rule, Tables, userAt}
 use Rattle.model.specs.Rights.{mayRead}
 use Rattle.model.specs.Opening.{LoginState, State, emptyLogin, emptyLogins, Texts, Fault, openRecord, opened}
-use Rattle.model.specs.Requests.{logout, logoutOf}
-use Rattle.model.specs.Serving.{sessionNumber, indexIn, isSession, loginAt, readable, copyFor, readsBy, readsAt, Change, setsLogin, shows, stores, apply, Act, line, outcome}
-use Rattle.model.specs.Runs.{requestOfAct, events, end, inSet, only, seen, seenFields, isAccepted, isOpenNumber, gives, closes}
+use Rattle.model.specs.Requests.{logout}
+use Rattle.model.specs.Serving.{sessionNumber, indexIn, isSession, loginAt, readable, copyFor, readsBy, readsAt, Change, setsLogin, shows, stores, apply, Act}
+use Rattle.model.specs.Runs.{Event, events, end, only, seen, seenFields, isOpenNumber, gives, closes, isOpenAfter}
 use Rattle.model.specs.Program.{lineBytes, printRun, serveWith, serve}
 use Rattle.model.specs.Claims
-use Rattle.model.specs.Claims.{Reached, spelled, SameTables, isValid, isSorted, begins, noneBegins, withRecord, SavedFor, LeftSince, LongEnough, TwoRuns}
+use Rattle.model.specs.Claims.{Reached, spelled, SameTables, isValid, isSorted, begins, noneBegins, withRecord, SavedFor, LongEnough, TwoRuns}
 use Rattle.model.proofs.Lists.{by-cases, never, both-and, none-some, true-all, all-every, all-getD, all-replicate, all-keep, all-imp, all-range, any-range, false-any, elem-below, keep-agree, map-agree, length-keep-le}
 use Rattle.model.proofs.Order.{path-orders, by-three, after-before, Before, Sorted, behind-trans, value-less, value-same, value-more, value-behind}
 use Rattle.model.proofs.Valid.{Valid}
@@ -37,9 +36,9 @@ use Rattle.model.proofs.SavedTree.{SavedAs, saved-reads}
 use Rattle.model.proofs.SavedLength.{saved-length, saved-length-some}
 use Rattle.model.proofs.CopyLength.{savedText, copy-length}
 use Rattle.model.proofs.Decisions.{decided}
-use Rattle.model.proofs.Invariant.{Running, Within, totalCreated, within-at, few-at, few-fields, store-is-put, next-state, at-end, run-act}
+use Rattle.model.proofs.Invariant.{Within, totalCreated, within-at, few-at, few-fields, store-is-put, next-state, at-end}
 use Rattle.model.proofs.Changes.{login-changes, logout-changes, push-changes}
-use Rattle.model.proofs.Sessions.{act-turns, past-not-given, given-once, open-run, closed-past, shut-refuses, shut-not-told, still-shut, still-number, count-is, lets-in, lets-out}
+use Rattle.model.proofs.Sessions.{past-not-given, given-once, open-run, closed-past, shut-refuses, shut-not-told, last-open, lets-in, lets-out}
 use Rattle.model.proofs.Growth.{fields-grow, created-grow, logins-grow, login-number}
 use Rattle.model.proofs.TwoRuns.{view, same-view, replay, one-run}
 use Rattle.model.proofs.Notified.{told-ascends}
@@ -232,10 +231,16 @@ start-shut : (t : Texts) (s : State) → opened t ≡ done s → (n : ℕ) → i
 unfolding isOpenNumber isSession emptyLogin
 start-shut t s h n = rw (start-empty t s h (indexIn n))
 
+-- a number that was closed is not open
+closed-shut : (es : List Event) (n : ℕ) → any (closes n) es ≡ true → isOpenAfter es n ≡ false
+unfolding isOpenAfter
+closed-shut es n k = rw k (and-false (any (gives n) es))
+
 pub answered-once : Claims.AnsweredOnce
 answered-once t s acts h n = given-once _ n s acts (ran-opened t s h .running)
 
 pub open-between : Claims.OpenBetween
+unfolding isOpenAfter
 open-between t s acts h n = open-run _ n s acts (ran-opened t s h .running) ∙ rw (start-shut t s h n)
 
 pub logout-answers : Claims.LogoutAnswers
@@ -251,34 +256,18 @@ others-shut t s acts h n k =
 
 pub stays-closed : Claims.StaysClosed
 stays-closed t s acts h n k = (
-  others-shut t s acts h n (rw k (and-false (any (gives n) (events s acts)))),
+  others-shut t s acts h n (closed-shut (events s acts) n k),
   past-not-given (ran-end t s acts h .running) n (closed-past _ n s acts (ran-opened t s h .running) k),
 )
 
-module _ (s : State) (n : ℕ) (w : LeftSince s n) where
-  leaving : Act
-  leaving = line (w .content) (w .buffer) (w .list)
-
-  before-leaving : Running (length (w .reached .start .fields)) (w .former)
-  before-leaving = ran (w .texts) (w .former) (w .reached) .running
-
-  left-shut : loginAt (outcome (w .former) leaving .state) (indexIn n) .isOpen ≡ false
-  unfolding leaving
-  left-shut = ap (λ (a : LoginState). a .isOpen) (logout-changes before-leaving (w .content) (w .buffer) (w .list) n (w .isLogout) (w .leaves) .ownLogin)
-
-  left-number : sessionNumber (indexIn n) (loginAt (outcome (w .former) leaving .state) (indexIn n)) ≡ n
-  unfolding leaving closes requestOfAct logoutOf inSet only isAccepted Base._>>=_
-  left-number = act-turns before-leaving n leaving .last (rw (w .isLogout, w .leaves, eq-eqb n n refl))
-
 pub logs-in-again : Claims.LogsInAgain
-unfolding leaving
-logs-in-again s n w name u named x b l is =
-    let s₁ = outcome (w .former) (leaving s n w) .state in
-    let r₁ = run-act (w .former) (leaving s n w) (before-leaving s n w) in
-    let number = left-number s n w in
-    let shut = left-shut s n w in
-    let a = lets-in (end s₁ (w .later)) name (indexIn n) u (rw (w .isEnd) named) (still-shut r₁ n number shut (w .later) (w .noLogin)) x b l is in
-    rw (still-number r₁ n number shut (w .later) (w .noLogin), ← count-is r₁ n number shut (w .later) (w .noLogin), w .isEnd) at a
+unfolding indexIn sessionNumber
+logs-in-again t s acts h n k last name u named x b l is =
+    let e = end s acts in
+    let count : loginAt e (indexIn n) .logins ≡ n % perUser = counts-own-logins t s acts h (indexIn n) ∙ sym last in
+    let number : sessionNumber (indexIn n) (loginAt e (indexIn n)) ≡ n = omega (arith, count) in
+    let shut : isOpenNumber e n ≡ false = open-between t s acts h n ∙ closed-shut (events s acts) n k in
+    rw (number, count) at (lets-in e name (indexIn n) u (rw (same-tables-end s acts) named) (last-open e n number shut) x b l is)
 
 -- ── Condition 2: growth ──
 pub grows-by-pushes : Claims.GrowsByPushes

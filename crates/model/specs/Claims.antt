@@ -18,7 +18,7 @@ use Rattle.model.specs.Tables.{User, Access, Rule, Tables, userAt, userN
 use Rattle.model.specs.Opening.{LoginState, State, emptyLogins, Texts, Fault, fault, quotas, opened, afterOpening}
 use Rattle.model.specs.Requests.{Ask, Request, login, inSession, get, push, logout, requestOf}
 use Rattle.model.specs.Serving.{indexIn, loginAt, readable, copyFor, stores, decide, refusal, session, length-is, accepted, Act, line, bufferOf, listOf, Outcome, outcome}
-use Rattle.model.specs.Runs.{eventIn, events, end, ownerIn, only, seenFields, sequence, got, creates, createdBy, isOpenNumber, gives, loginBy, closes}
+use Rattle.model.specs.Runs.{eventIn, events, end, ownerIn, only, seenFields, sequence, got, creates, createdBy, isOpenNumber, gives, loginBy, closes, isOpenAfter}
 use Rattle.model.specs.Program.{printed, serveWith, serve}
 
 -- a state that a run from these texts reaches
@@ -217,13 +217,13 @@ AnsweredOnce =
 abbrev pub OpenBetween : Type 0
 OpenBetween =
     (t : Texts) (s : State) (acts : List Act) → opened t ≡ done s → (n : ℕ) →
-    isOpenNumber (end s acts) n ≡ (any (gives n) (events s acts) && not (any (closes n) (events s acts)))
+    isOpenNumber (end s acts) n ≡ isOpenAfter (events s acts) n
 
 -- "LOGOUT gives 11, then 14": accepted exactly where the number is open
 abbrev pub LogoutAnswers : Type 0
 LogoutAnswers =
     (t : Texts) (s : State) (acts : List Act) → opened t ≡ done s → (x b : Bytes) (l : List ℕ) (n : ℕ) → requestOf x ≡ some (inSession n logout) →
-    outcome (end s acts) (line x b l) .answer ≡ (if any (gives n) (events s acts) && not (any (closes n) (events s acts)) then accepted else refusal 14)
+    outcome (end s acts) (line x b l) .answer ≡ (if isOpenAfter (events s acts) n then accepted else refusal 14)
 
 -- "14 no open session has this number"; a PUSH is refused 15 before, where its list is too short
 unfoldable pub groundWithout : Ask → List ℕ → ℕ
@@ -239,8 +239,7 @@ pub record Shut (s : State) (n : ℕ) : Type 0 where
 -- so it is with every number that is not open: past, still to come, or nobody's
 abbrev pub OthersShut : Type 0
 OthersShut =
-    (t : Texts) (s : State) (acts : List Act) → opened t ≡ done s → (n : ℕ) →
-    (any (gives n) (events s acts) && not (any (closes n) (events s acts))) ≡ false →
+    (t : Texts) (s : State) (acts : List Act) → opened t ≡ done s → (n : ℕ) → isOpenAfter (events s acts) n ≡ false →
     Shut (end s acts) n
 
 -- "A closed number stays closed until the next accepted opening of the four texts", "and deliveries stop with it": nor does a login answer it
@@ -249,26 +248,15 @@ StaysClosed =
     (t : Texts) (s : State) (acts : List Act) → opened t ≡ done s → (n : ℕ) → any (closes n) (events s acts) ≡ true →
     Shut (end s acts) n × ((a : Act) → gives n (eventIn (end s acts) a) ≡ false)
 
--- a LOGOUT that was accepted, and what came after it with no login of that user among it
-pub record LeftSince (s : State) (n : ℕ) : Type 0 where
-  pub texts : Texts
-  pub former : State
-  pub reached : Reached texts former
-  pub content : Bytes
-  pub buffer : Bytes
-  pub list : List ℕ
-  pub isLogout : requestOf content ≡ some (inSession n logout)
-  pub leaves : outcome former (line content buffer list) .answer ≡ accepted
-  pub later : List Act
-  pub noLogin : any (loginBy (indexIn n)) (events (outcome former (line content buffer list) .state) later) ≡ false
-  pub isEnd : end (outcome former (line content buffer list) .state) later ≡ s
-
--- "that user may then log in again and gets a number with the login count one higher"; "LOGIN gives 18, .. when the user has had 65,535 logins"
+-- "that user may then log in again and gets a number with the login count one higher"; "LOGIN gives 18, .. when the user has had 65,535 logins":
+-- once the number of a user's last login is closed
 abbrev pub LogsInAgain : Type 0
 LogsInAgain =
-    (s : State) (n : ℕ) → LeftSince s n → (name : Bytes) (u : User) → userNamed name (s .tables .users) ≡ some (indexIn n, u) →
+    (t : Texts) (s : State) (acts : List Act) → opened t ≡ done s →
+    (n : ℕ) → any (closes n) (events s acts) ≡ true → n % perUser ≡ length (keep (loginBy (indexIn n)) (events s acts)) →
+    (name : Bytes) (u : User) → userNamed name (s .tables .users) ≡ some (indexIn n, u) →
     (x b : Bytes) (l : List ℕ) → requestOf x ≡ some (login name (u .key)) →
-    outcome s (line x b l) .answer ≡ (if leb maxLogins (n % perUser) then refusal 18 else session (suc n))
+    outcome (end s acts) (line x b l) .answer ≡ (if leb maxLogins (n % perUser) then refusal 18 else session (suc n))
 
 -- ── Condition 2: growth ──
 -- fields held less fields loaded are the accepted pushes that named an absent field

@@ -182,6 +182,10 @@ loginBy i e = inSet (only i) (ownerIn e) && isSome (sessionIn (e .result .answer
 unfoldable pub closes : ℕ → Event → Bool
 closes n e = inSet (only n) (e .request >>= logoutOf) && isAccepted (e .result .answer)
 
+-- a login answered the number n, and no LOGOUT closed it
+unfoldable pub isOpenAfter : List Event → ℕ → Bool
+isOpenAfter es n = any (gives n) es && not (any (closes n) es)
+
 unfoldable pub Opened : Unit {0}
-unfolding Serving.Opened requestOfAct events end indexOf ifUser owner ownerIn pushIn inSet only seen seenFields isAccepted ownRequest othersPush items sequence deliveryLine copies answers deliveries gotIn got createsBy creates createdBy isOpenNumber sessionIn gives loginBy closes
+unfolding Serving.Opened requestOfAct events end indexOf ifUser owner ownerIn pushIn inSet only seen seenFields isAccepted ownRequest othersPush items sequence deliveryLine copies answers deliveries gotIn got createsBy creates createdBy isOpenNumber sessionIn gives loginBy closes isOpenAfter
 Opened = tt
