@@ -8,7 +8,7 @@
 
 #define JESOVANGA_TABLES 47200 /* bytes: users, environment lines and policy lines */
 #define JESOVANGA_LOGINS 96    /* numbers: logins, whether a session is open, fields created, for each of 32 users */
-#define JESOVANGA_RECORD 35328 /* bytes: 256 fields */
+#define JESOVANGA_RECORD 36352 /* bytes: 256 fields */
 #define JESOVANGA_COPY 51069   /* bytes: no copy and no saved text of a run is longer */
 #define JESOVANGA_LIST 32      /* numbers that a list has to have room for */
 

@@ -1,4 +1,2 @@
--- Laws of a copy as it is written, and of the fields that it shows.
+-- Laws of a copy as it is written.
 pub mod Lines
-pub mod Sharing
-pub mod Reading

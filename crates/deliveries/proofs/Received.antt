@@ -1,101 +1,113 @@
--- Whom a push reaches: the test for one user, and how a loop over the users fills the list.
+-- Whom a push reaches: by the policy and by the mask that it gives, and how a loop over the user places fills the list.
 use Prim.Native.Nat.{ℕ, zero, suc, _+_, _-_, _≤_, _<_}
-use mathlib.Core.Path.{_≡_, refl, sym, _∙_}
-use mathlib.Core.Bool.{Bool, true, false, not, _&&_}
-use mathlib.Core.List.{List, _∷_, map}
-use native.Mathlib.Nat.{zero-add, sub-zero}
+use mathlib.Core.Path.{_≡_, refl, sym, ap, _∙_}
+use mathlib.Core.Bool.{Bool, true, false, not, _&&_, and-false}
+use mathlib.Core.Option.{none}
+use mathlib.Core.List.{List, [], _∷_, map}
+use native.Mathlib.Nat.{zero-add}
 use native.Mathlib.Numerals.{add-one}
 use native.Mathlib.Omega.{arith}
 use lib.Dec.{eqb}
-use lib.ListN.{length, getD, set, length-map}
+use lib.ListN.{length, getD, getElem?, set, length-map}
 use lib.Seq.{sets-eq}
 use Rattle.rows.specs.Rows.{written}
 use Rattle.rows.proofs.Writing.{written-none, written-cons}
-use Rattle.model.specs.Base.{Bytes, keep, range}
+use Rattle.model.specs.Base.{keep, range}
 use Rattle.model.specs.Limits.{maxUsers}
 use Rattle.model.specs.Fields.{Keys}
-use Rattle.model.specs.Tables.{Tables}
+use Rattle.model.specs.Tables.{Tables, userAt}
 use Rattle.model.specs.Opening.{LoginState, State, emptyLogin}
-use Rattle.model.specs.Serving.{sessionNumber, loginAt, readsAt, receivers, over}
+use Rattle.model.specs.Serving.{sessionNumber, loginAt, readsBy, readsAt, receivers, over}
 use Rattle.model.proofs.Lists.{by-cases, keep-yes, keep-no}
-use Rattle.layout.specs.Layout.{inUse}
-use Rattle.tables.specs.Memory.{userRow, userIn, usersIn, tablesIn}
-use Rattle.layout.proofs.Used.{length-table, counted-fit}
+use Rattle.masks.specs.Readers.{readersOf}
+use Rattle.masks.proofs.Bits.{mask-bit}
 use Rattle.deliveries.specs.Receivers.{receives, receiversOf}
 
--- the document's receivers look at the tables and the login states only
-pub receivers-of : (s : State) (i : ℕ) (p : Keys) → receivers s i p ≡ receiversOf (s .tables) (s .loginStates) i p
-unfolding receivers receiversOf receives loginAt
-receivers-of s i p = refl
+-- ── The document's receivers are those whom the policy's mask marks ──
+-- two tests that agree on m places, and hold nowhere behind the first n, keep the same of the m as of the n
+kept-same : (f g : ℕ → Bool) (k n m : ℕ) → n ≤ m → ((j : ℕ) → j < k + m → f j ≡ g j) → ((j : ℕ) → k + n ≤ j → g j ≡ false)
+    → keep f (range k m) ≡ keep g (range k n)
+unfolding keep range
+kept-same f g k zero zero h same past = refl
+kept-same f g k zero (suc m) h same past =
+    rw (same k (omega arith), past k (omega arith)) (kept-same f g (suc k) zero m (omega arith) (λ j l. same j (omega arith)) (λ j l. past j (omega arith)))
+kept-same f g k (suc n) zero h same past = absurd (omega arith)
+kept-same f g k (suc n) (suc m) h same past =
+    let rest = kept-same f g (suc k) n m (omega arith) (λ j l. same j (omega arith)) (λ j l. past j (omega arith)) in
+    rw (same k (omega arith), rest)
 
--- stored from the first place on, numbers that the list has room for stand at its start
-written-start : (xs l : List ℕ) → length xs ≤ length l → written 0 xs l ≡ over xs l
-unfolding written over
-written-start xs l h = sets-eq xs l 0 (rw zero-add h) ∙ rw zero-add
+elem-past : {A : Type 0} (xs : List A) (j : ℕ) → length xs ≤ j → getElem? xs j ≡ none
+elem-past [] j h = refl
+elem-past (x ∷ xs) zero h = absurd (omega arith)
+elem-past (x ∷ xs) (suc j) h = elem-past xs j (omega arith)
 
--- m users were counted
-pub users-fit : (s : Bytes) {m : ℕ} → m ≡ length (inUse userRow maxUsers s) → m ≤ maxUsers
-users-fit s counted = counted-fit userRow maxUsers s counted
+-- where there is no user, nobody reads
+reads-past : (t : Tables) (p : Keys) (j : ℕ) → length (t .users) ≤ j → readsAt t j p ≡ false
+unfolding readsAt readsBy userAt
+reads-past t p j h = rw (elem-past (t .users) j h)
 
-module _ (t : Tables) (ls : List LoginState) (i : ℕ) (p : Keys) where
-  -- the test for the user at j, whose login state is a, and m says whether it may read the path
-  pub received : (j : ℕ) {a : LoginState} {m b : Bool} → a ≡ getD ls j emptyLogin → m ≡ readsAt t j p → b ≡ (a .isOpen && not (eqb j i) && m)
-      → b ≡ receives t ls i p j
-  unfolding receives
-  received j state reads test = rw (← state, ← reads) test
+pub receivers-of : (s : State) → length (s .tables .users) ≤ maxUsers → (i : ℕ) (p : Keys)
+    → receiversOf (s .loginStates) i (readersOf (s .tables) p) ≡ receivers s i p
+unfolding receivers receiversOf receives loginAt readersOf
+receivers-of s few i p =
+    ap (map (λ j. sessionNumber j (loginAt s j)))
+    (kept-same (receives (s .loginStates) i (readersOf (s .tables) p)) (λ j. loginAt s j .isOpen && not (eqb j i) && readsAt (s .tables) j p)
+    0 (length (s .tables .users)) maxUsers few
+    (λ j h. rw (mask-bit (λ k. readsAt (s .tables) k p) maxUsers j h))
+    (λ j h. rw (reads-past (s .tables) p j (omega arith), and-false)))
 
-  -- ── The loop over n users ──
-  -- the numbers of the receivers from the user at j on
-  abbrev pub receiversFrom : ℕ → ℕ → List ℕ
-  receiversFrom n j = map (λ k. sessionNumber k (getD ls k emptyLogin)) (keep (receives t ls i p) (range j (n - j)))
-
-  -- the first k numbers are in the list: those that remain, stored behind them, complete it
-  abbrev pub Listed : ℕ → List ℕ → ℕ → ℕ → List ℕ → Type 0
-  Listed n l₀ k j l =
-      (k + length (receiversFrom n j) ≡ length (receiversFrom n 0)) × (written k (receiversFrom n j) l ≡ written 0 (receiversFrom n 0) l₀)
-
-  module _ (n : ℕ) (l₀ : List ℕ) (k j : ℕ) (l : List ℕ) (listed : Listed n l₀ k j l) where
-    -- b says whether the user at j receives the push: in the session r, or not
-    module _ (below : j < n) {b : Bool} (test : b ≡ receives t ls i p j) where
-      users-left : range j (n - j) ≡ j ∷ range (j + 1) (n - (j + 1))
-      unfolding range
-      users-left = let e : n - j ≡ suc (n - (j + 1)) = omega arith in rw (e, add-one j)
-
-      pub listed-more : b ≡ true → {a : LoginState} → a ≡ getD ls j emptyLogin → {r : ℕ} → r ≡ sessionNumber j a
-          → Listed n l₀ (k + 1) (j + 1) (set l k r)
-      listed-more told state number =
-          let first = keep-yes (receives t ls i p) j (range (j + 1) (n - (j + 1))) (sym test ∙ told) in
-          let step : receiversFrom n j ≡ sessionNumber j (getD ls j emptyLogin) ∷ receiversFrom n (j + 1) = rw (users-left, first) in
-          let now = rw (step, ← state, ← number) at listed in
-          (omega arith, written-cons k _ (receiversFrom n (j + 1)) l ∙ now .1)
-
-      pub listed-same : b ≡ false → Listed n l₀ k (j + 1) l
-      listed-same not-told = rw (users-left, keep-no (receives t ls i p) j (range (j + 1) (n - (j + 1))) (sym test ∙ not-told)) at listed
-
-    -- behind the last user nothing remains
-    pub listed-all : n ≤ j → k ≤ length l₀ → (l ≡ over (receiversFrom n 0) l₀) × (k ≡ length (receiversFrom n 0))
-    unfolding range keep
-    listed-all h room =
-        let e : n - j ≡ 0 = omega arith in
-        let now = rw e at listed in
-        let full : k ≡ length (receiversFrom n 0) = omega arith in
-        (sym (written-none k l) ∙ now .1 ∙ written-start (receiversFrom n 0) l₀ (omega arith), full)
-
--- the loop over the users that were counted goes over all of them
-pub receivers-from : (s : Bytes) (ls : List LoginState) (i : ℕ) (p : Keys) {m : ℕ} → m ≡ length (inUse userRow maxUsers s)
-    → receiversFrom (tablesIn s) ls i p m 0 ≡ receiversOf (tablesIn s) ls i p
-unfolding receiversOf tablesIn usersIn
-receivers-from s ls i p counted = rw (sub-zero, counted, length-table userIn userRow maxUsers s)
-
--- ── For a caller: there are at most as many receivers as users ──
+-- ── There are at most as many receivers as user places ──
 length-kept : (f : ℕ → Bool) (i n : ℕ) → length (keep f (range i n)) ≤ n
 unfolding range keep
 length-kept f i zero = omega arith
 length-kept f i (suc n) =
     by-cases (f i) (λ e. rw e (omega (arith, length-kept f (suc i) n))) (λ e. rw e (omega (arith, length-kept f (suc i) n)))
 
-pub receivers-few : (s : Bytes) (ls : List LoginState) (i : ℕ) (p : Keys) → length (receiversOf (tablesIn s) ls i p) ≤ maxUsers
-unfolding receiversOf tablesIn usersIn
-receivers-few s ls i p =
-    let n = length-table userIn userRow maxUsers s in
-    rw (length-map, n) (omega (arith, length-kept (receives (tablesIn s) ls i p) 0 (length (inUse userRow maxUsers s)), users-fit s refl))
+pub receivers-few : (ls : List LoginState) (i m : ℕ) → length (receiversOf ls i m) ≤ maxUsers
+unfolding receiversOf
+receivers-few ls i m = rw length-map (length-kept (receives ls i m) 0 maxUsers)
+
+-- ── The loop over the user places ──
+-- stored from the first place on, numbers that the list has room for stand at its start
+written-start : (xs l : List ℕ) → length xs ≤ length l → written 0 xs l ≡ over xs l
+unfolding written over
+written-start xs l h = sets-eq xs l 0 (rw zero-add h) ∙ rw zero-add
+
+module _ (ls : List LoginState) (i m : ℕ) (l₀ : List ℕ) where
+  -- the numbers of the receivers from the place j on
+  abbrev pub receiversFrom : ℕ → List ℕ
+  receiversFrom j = map (λ k. sessionNumber k (getD ls k emptyLogin)) (keep (receives ls i m) (range j (maxUsers - j)))
+
+  -- the first k numbers are in the list: those that remain, stored behind them, complete it
+  abbrev pub ListedFrom : ℕ → ℕ → List ℕ → Type 0
+  ListedFrom k j l =
+      (k + length (receiversFrom j) ≡ length (receiversOf ls i m)) × (written k (receiversFrom j) l ≡ over (receiversOf ls i m) l₀)
+
+  pub listed-start : maxUsers ≤ length l₀ → ListedFrom 0 0 l₀
+  unfolding receiversOf
+  listed-start room = (zero-add _, written-start (receiversOf ls i m) l₀ (omega (arith, receivers-few ls i m)))
+
+  module _ (k j : ℕ) (l : List ℕ) (listed : ListedFrom k j l) where
+    -- b says whether the user at j receives the push: in the session r, or not
+    module _ (below : j < maxUsers) {b : Bool} (test : b ≡ receives ls i m j) where
+      places-left : range j (maxUsers - j) ≡ j ∷ range (j + 1) (maxUsers - (j + 1))
+      unfolding range
+      places-left = let e : maxUsers - j ≡ suc (maxUsers - (j + 1)) = omega arith in rw (e, add-one j)
+
+      pub listed-more : b ≡ true → {a : LoginState} → a ≡ getD ls j emptyLogin → {r : ℕ} → r ≡ sessionNumber j a → ListedFrom (k + 1) (j + 1) (set l k r)
+      listed-more told state number =
+          let first = keep-yes (receives ls i m) j (range (j + 1) (maxUsers - (j + 1))) (sym test ∙ told) in
+          let step : receiversFrom j ≡ sessionNumber j (getD ls j emptyLogin) ∷ receiversFrom (j + 1) = rw (places-left, first) in
+          let now = rw (step, ← state, ← number) at listed in
+          (omega arith, written-cons k _ (receiversFrom (j + 1)) l ∙ now .1)
+
+      pub listed-same : b ≡ false → ListedFrom k (j + 1) l
+      listed-same not-told = rw (places-left, keep-no (receives ls i m) j (range (j + 1) (maxUsers - (j + 1))) (sym test ∙ not-told)) at listed
+
+    -- behind the last place nothing remains
+    pub listed-all : maxUsers ≤ j → (l ≡ over (receiversOf ls i m) l₀) × (k ≡ length (receiversOf ls i m))
+    unfolding range keep
+    listed-all h =
+        let e : maxUsers - j ≡ 0 = omega arith in
+        let now = rw e at listed in
+        (sym (written-none k l) ∙ now .1, omega arith)

@@ -1,4 +1,4 @@
--- Whom a push reaches, from the tables and the login states alone, and the line that is sent.
+-- Whom a push reaches, from the login states and the mask of the field's readers, and the line that is sent.
 use Prim.Native.Nat.{ℕ, _+_, _*_}
 use mathlib.Core.Path.{_≡_}
 use mathlib.Core.Bool.{Bool, not, _&&_}
@@ -7,27 +7,24 @@ use lib.Dec.{eqb}
 use lib.ListN.{length, getD, take}
 use Rattle.model.specs.Base.{Bytes, text, joined, keep, range, decimal}
 use Rattle.model.specs.Limits.{maxUsers, maxLine}
-use Rattle.model.specs.Fields.{Keys}
-use Rattle.model.specs.Tables.{Tables}
 use Rattle.model.specs.Opening.{LoginState, emptyLogin}
-use Rattle.model.specs.Serving.{sessionNumber, readsAt, over, tableLine}
-use Rattle.paths.specs.Layout.{pathIn}
-use Rattle.tables.specs.Memory.{tablesIn}
+use Rattle.model.specs.Serving.{sessionNumber, over, tableLine}
+use Rattle.masks.specs.Bits.{bitAt}
 use Rattle.sessions.specs.Logins.{loginsIn}
 
 -- ── Whom a push reaches ──
--- the user at j has an open session, is not the sender at i, and may read the path
-unfoldable pub receives : Tables → List LoginState → ℕ → Keys → ℕ → Bool
-receives t ls i p j = getD ls j emptyLogin .isOpen && not (eqb j i) && readsAt t j p
+-- the user at j has an open session, is not the sender at i, and is marked
+unfoldable pub receives : List LoginState → ℕ → ℕ → ℕ → Bool
+receives ls i m j = getD ls j emptyLogin .isOpen && not (eqb j i) && bitAt m j
 
--- "ascending, the numbers of all other open sessions whose user may read the path": `receivers` without the fields, which it does not look at
-unfoldable pub receiversOf : Tables → List LoginState → ℕ → Keys → List ℕ
-receiversOf t ls i p = map (λ j. sessionNumber j (getD ls j emptyLogin)) (keep (receives t ls i p) (range 0 (length (t .users))))
+-- "ascending, the numbers of all other open sessions whose user may read the path", where the mask m says who may
+unfoldable pub receiversOf : List LoginState → ℕ → ℕ → List ℕ
+receiversOf ls i m = map (λ j. sessionNumber j (getD ls j emptyLogin)) (keep (receives ls i m) (range 0 maxUsers))
 
 -- a push by the user at i: the numbers of all whom it reaches stand at the start of the list, whose rest is as it was; `told` counts them
-pub record Listed (tables : Bytes) (logins : List ℕ) (i : ℕ) (path : Bytes) (before : List ℕ) (told : ℕ) (after : List ℕ) : Type 0 where
-  pub listed : after ≡ over (receiversOf (tablesIn tables) (loginsIn logins) i (pathIn path)) before
-  pub counted : told ≡ length (receiversOf (tablesIn tables) (loginsIn logins) i (pathIn path))
+pub record Listed (logins : List ℕ) (i mask : ℕ) (before : List ℕ) (told : ℕ) (after : List ℕ) : Type 0 where
+  pub listed : after ≡ over (receiversOf (loginsIn logins) i mask) before
+  pub counted : told ≡ length (receiversOf (loginsIn logins) i mask)
 
 -- ── The lines that are sent ──
 -- a session's number has at most ten digits

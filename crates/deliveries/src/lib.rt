@@ -2,58 +2,43 @@
 use buffers::put;
 use buffers::put_byte;
 use buffers::put_decimal;
-use layout::table::row_count;
-use paths::field::PATH;
+use lexical::limits::MAX_USERS;
+use masks::has_bit;
 use sessions::LOGINS;
-use sessions::LoginState;
 use sessions::number;
 use sessions::state_at;
-use tables::memory::TABLES;
-use tables::memory::USER;
-use tables::memory::USERS;
-use tables::rights::readers;
 ghost use mathlib.Core.Path.{_≡_};
-ghost use mathlib.Core.Bool.{not, _&&_};
 ghost use Prim.Native.Nat.{_+_, _≤_, _<_, _^_};
-ghost use lib.Dec.{eqb};
 ghost use lib.ListN.{length};
 ghost use Rattle.rows.specs.Rows.{Wrote};
 ghost use Rattle.model.specs.Limits.{maxUsers, maxLine};
-ghost use Rattle.deliveries.specs.Receivers.{Listed, deliveryText, deliveryOf, deliveriesText, deliveriesOf};
+ghost use Rattle.sessions.specs.Logins.{loginsIn};
+ghost use Rattle.deliveries.specs.Receivers.{receives, Listed, deliveryText, deliveryOf, deliveriesText, deliveriesOf};
 
-// Whether a push by the user at i reaches the one at j, who has this login state and may read the path or not.
-fn receives(i: usize, j: usize, state: LoginState, reads: bool) -> bool
-    ensures { λ r. ⌜ r ≡ (state .is_open && not (eqb j i) && reads) ⌝ }
+// Whether a push by the user at i reaches the one at j. The mask is asked first: it is at hand, and a login state is then looked up only where it counts.
+fn receives(logins: &[u16; LOGINS], i: usize, mask: u32, j: usize) -> bool
+    requires { ⌜ j < maxUsers ⌝ }
+    ensures { λ r. ⌜ r ≡ receives (loginsIn (now (logins .entry))) i mask j ⌝ }
 {
-    if !state.is_open {
+    if !has_bit(mask, j) {
         return false;
     }
     if j == i {
         return false;
     }
-    reads
+    state_at(logins, j).is_open
 }
 
-// The session numbers that a push by the user at i reaches, ascending, at the start of the list; how many they are.
-pub fn put_receivers(
-    list: &mut [u32],
-    tables: &[u8; TABLES],
-    logins: &[u16; LOGINS],
-    i: usize,
-    path: &[u8; PATH],
-) -> usize
+// The session numbers that a push by the user at i reaches, of the users whom the mask marks, ascending, at the start of the list; how many they are.
+pub fn put_receivers(list: &mut [u32], logins: &[u16; LOGINS], i: usize, mask: u32) -> usize
     requires { ⌜ maxUsers ≤ length (now list) ⌝ }
-    ensures { λ r. ⌜ Listed (now (tables .entry)) (now (logins .entry))
-        i (now (path .entry)) (now (list .entry)) r (now (list .exit)) ⌝ }
+    ensures { λ r. ⌜ Listed (now (logins .entry)) i mask (now (list .entry)) r (now (list .exit)) ⌝ }
 {
-    let n = row_count(tables, USER, USERS);
-    let marks = readers(tables, path);
     let mut told: usize = 0;
     let mut j: usize = 0;
-    while j < n {
-        let state = state_at(logins, j);
-        if receives(i, j, state, marks[j] != 0) {
-            list[told] = number(j, state);
+    while j < MAX_USERS {
+        if receives(logins, i, mask, j) {
+            list[told] = number(j, state_at(logins, j));
             told += 1;
         }
         j += 1;

@@ -10,14 +10,21 @@ use Rattle.opening.specs.declared.answer.Opening.the-variants as opening
 use Rattle.opening.specs.Answers.{openingAnswer}
 use Rattle.model.specs.Serving.{Outcome}
 use Rattle.server.specs.declared.answer.Reply.{Reply}
-use Rattle.server.specs.Replies.{answerIn, toldIn, outcomeIn}
-use Rattle.exports.specs.Numbers.{faultNumber, faultText, faultLine, kindOf, numberOf, Tells}
+use Rattle.opening.specs.Memory.{Arrays}
+use Rattle.server.specs.Masked.{Effect}
+use Rattle.server.specs.Replies.{answerIn, toldIn, outcomeIn, Lent, Leaves}
+use Rattle.exports.specs.Numbers.{faultNumber, faultText, faultLine, kindOf, numberOf, Tells, ServesAs}
 
 -- a reply's kind and number, where the reply with what it left is an outcome
 pub reply-tells : (r : Reply) (s : State) (b : Bytes) (l : List ℕ) {o : Outcome} {kind number : ℕ} → outcomeIn r s b l ≡ o
     → kind ≡ kindOf (answerIn r) → number ≡ numberOf (answerIn r) (toldIn r) → Tells o kind number s b l
 unfolding outcomeIn
 reply-tells r s b l is k n = rw (← is) (record { kind-is = k; number-is = n; state-is = refl; buffer-is = refl; list-is = refl })
+
+-- a reply to a line with this effect
+pub serves-as : (r : Reply) {w : Effect} {text : Bytes} {before after : Arrays} {left : Lent} {kind number : ℕ} → Leaves w text before r after left
+    → kind ≡ kindOf (answerIn r) → number ≡ numberOf (answerIn r) (toldIn r) → ServesAs w before kind number after (left .buffer) (left .list)
+serves-as r l k n = record { tells = reply-tells r _ _ _ (l .is) k n; logins = l .logins; fields = l .fields; masks = l .masks }
 
 -- an opening that was accepted, and one that was refused
 pub done-as : (o : Result Fault State) → opening.Done ≡ openingAnswer o → (0 ≡ faultNumber o) × (0 ≡ faultText o) × (0 ≡ faultLine o)
@@ -30,3 +37,10 @@ pub refused-as : (o : Result Fault State) (n t l : ℕ) → opening.Refused n t 
 unfolding faultNumber faultText faultLine
 refused-as (refused f) n t l e = (cc, cc, cc)
 refused-as (done s) n t l e = let z : _≡_ {A = ℕ} 0 1 = cc in absurd (omega arith)
+
+pub refused-nonzero : {C : Type 0} (o : Result Fault State) (n t l : ℕ) → opening.Refused n t l ≡ openingAnswer o → (s : State) → o ≡ done s → C
+refused-nonzero o n t l e s is = go o e is
+  where
+    go : {C : Type 0} (o : Result Fault State) → opening.Refused n t l ≡ openingAnswer o → o ≡ done s → C
+    go (refused f) e h = let z : _≡_ {A = ℕ} 0 1 = cc in absurd (omega arith)
+    go (done s) e h = let z : _≡_ {A = ℕ} 0 1 = cc in absurd (omega arith)

@@ -5,10 +5,11 @@ use mathlib.Core.List.{List, []}
 use Rattle.model.specs.Base.{Bytes}
 use Rattle.model.specs.Refusals.{Result, refused, done}
 use Rattle.model.specs.Opening.{State, Texts, Fault, opened, afterOpening}
-use Rattle.model.specs.Serving.{Answer, refusal, session, length-is, accepted, Act, save, decision, Outcome, outcome}
-use Rattle.opening.specs.Memory.{Arrays, stateIn, stateOf}
+use Rattle.model.specs.Serving.{Answer, refusal, session, length-is, accepted, Act, save, Outcome, outcome}
+use Rattle.opening.specs.Memory.{Arrays, stateIn, stateOf, masksOf, Agree}
 use Rattle.opening.specs.Answers.{arraysAfter}
 use Rattle.sessions.specs.Logins.{numbersAfter}
+use Rattle.server.specs.Masked.{Effect, effectMasked, effectSaid}
 use Rattle.server.specs.Replies.{fieldsAfter}
 
 -- an opening's refusal: its number, its text and its line; 0 where it is accepted
@@ -39,7 +40,7 @@ numberOf (length-is n) told = n
 numberOf accepted told = told
 
 -- ── What each function promises ──
--- four texts opened: 0 or the number of the refusal, its text and its line, and what the arrays are afterwards; 0 only where they are accepted
+-- four texts opened: 0 or the number of the refusal, its text and its line, and what the arrays are afterwards; 0 only where they are accepted, and then the masks agree with the policy
 pub record OpensAs (before : Arrays) (texts : Texts) (r inText inLine : ℕ) (after : Arrays) : Type 0 where
   pub number : r ≡ faultNumber (opened texts)
   pub source : inText ≡ faultText (opened texts)
@@ -47,6 +48,7 @@ pub record OpensAs (before : Arrays) (texts : Texts) (r inText inLine : ℕ) (af
   pub state : stateOf after ≡ afterOpening (stateOf before) texts
   pub bytes : after ≡ arraysAfter before (opened texts)
   pub zero-done : r ≡ 0 → (s : State) × (opened texts ≡ done s)
+  pub agrees : r ≡ 0 → Agree after
 
 -- a kind and a number are those of an outcome, and so is what was left
 pub record Tells (o : Outcome) (kind r : ℕ) (after : State) (buffer : Bytes) (list : List ℕ) : Type 0 where
@@ -56,11 +58,20 @@ pub record Tells (o : Outcome) (kind r : ℕ) (after : State) (buffer : Bytes) (
   pub buffer-is : buffer ≡ o .buffer
   pub list-is : list ≡ o .list
 
--- an act served: the kind and the number of its outcome, and what the arrays, the buffer and the list are afterwards
-pub record ServesAs (before : Arrays) (act : Act) (kind r : ℕ) (after : Arrays) (buffer : Bytes) (list : List ℕ) : Type 0 where
-  pub tells : Tells (outcome (stateOf before) act) kind r (stateOf after) buffer list
-  pub logins : after .logins ≡ numbersAfter (decision (stateOf before) act) (before .logins)
-  pub fields : after .fields ≡ fieldsAfter (decision (stateOf before) act) (before .fields)
+-- an act has its effect: the kind and the number of its outcome, and what the arrays, the buffer and the list are afterwards
+pub record ServesAs (w : Effect) (before : Arrays) (kind r : ℕ) (after : Arrays) (buffer : Bytes) (list : List ℕ) : Type 0 where
+  pub tells : Tells (w .outcome) kind r (stateOf after) buffer list
+  pub logins : after .logins ≡ numbersAfter (w .decided) (before .logins)
+  pub fields : after .fields ≡ fieldsAfter (w .mask) (w .decided) (before .fields)
+  pub masks : masksOf after ≡ w .masks
+
+-- by the masks, whatever the arrays hold
+abbrev pub ServesMasked : Arrays → Act → ℕ → ℕ → Arrays → Bytes → List ℕ → Type 0
+ServesMasked before act kind r after buffer list = ServesAs (effectMasked (stateOf before) (masksOf before) act) before kind r after buffer list
+
+-- where the masks agree with the policy as documents 01 and 02 say, and they agree again
+abbrev pub ServesSaid : Arrays → Act → ℕ → ℕ → Arrays → Bytes → List ℕ → Type 0
+ServesSaid before act kind r after buffer list = Agree before → ServesAs (effectSaid (stateOf before) act) before kind r after buffer list × Agree after
 
 -- fields saved, whatever the tables and the login states are
 abbrev pub SavesAs : Bytes → Bytes → ℕ → ℕ → Bytes → Type 0

@@ -55,7 +55,7 @@ module _ {A : Type 0} (encode : A → Bytes) (decode : Bytes → A) where
         h .0 ∙ rw (all-encoded rs (h .1), length-map)
 
 -- ── What keeps a table so ──
-all-drop : {A : Type 0} (P : A → Type 0) (i : ℕ) (xs : List A) → All P xs → All P (drop i xs)
+pub all-drop : {A : Type 0} (P : A → Type 0) (i : ℕ) (xs : List A) → All P xs → All P (drop i xs)
 all-drop P zero xs h = h
 all-drop P (suc i) [] h = h
 all-drop P (suc i) (x ∷ xs) h = all-drop P i xs (h .1)

@@ -63,6 +63,12 @@ module _ (k n : ℕ) (s : Bytes) where
       (λ t. used-last 0 (ltb-true 0 n t) (omega arith) (byte-empty 0 size (rw zero-mul e)))
       (λ f. omega (arith, used-fit, ltb-false 0 n f)))
 
+  -- a row in use is not empty
+  pub used-full : (i : ℕ) → i < length (inUse k n s) → isEmpty (take k (drop (i * k) s)) ≡ false
+  used-full i h = by-cases (isEmpty (take k (drop (i * k) s)))
+      (λ e. absurd (omega (arith, used-last i (omega (arith, used-fit)) (omega arith) e)))
+      (λ e. e)
+
   -- the row at i, where it is in use
   pub used-at : (i : ℕ) (z : Bytes) → i < length (inUse k n s) → getD (inUse k n s) i z ≡ take k (drop (i * k) s)
   used-at i z h =

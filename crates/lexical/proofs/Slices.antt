@@ -2,7 +2,7 @@
 use Prim.Native.Nat.{ℕ, _+_, _-_, _≤_, _<_, compare, Ordering, Ordering·lt, Ordering·eq, Ordering·gt}
 use mathlib.Core.Path.{_≡_, refl, sym, ap, _∙_}
 use mathlib.Core.Option.{Option, none, some}
-use mathlib.Core.Bool.{true, false}
+use mathlib.Core.Bool.{Bool, true, false}
 use mathlib.Core.List.{List}
 use native.Mathlib.Nat.{add-assoc}
 use native.Mathlib.Omega.{arith}
@@ -12,7 +12,7 @@ use lib.Seq.{drop-append-seam, drop-drop}
 use borrow.Author.Tests.{eq-eqb, ne-eqb, eqb-true, eqb-false, leb-true, leb-false}
 use Rattle.rows.proofs.Positions.{here, over}
 use Rattle.model.specs.Base.{Bytes, _==_, after, isSome}
-use Rattle.model.specs.Fields.{andThen, lex}
+use Rattle.model.specs.Fields.{andThen, lex, byOrder}
 use Rattle.model.proofs.Lists.{by-cases, never, bytes-eq, bytes-refl}
 use Rattle.model.proofs.Order.{by-three}
 use Rattle.model.proofs.Reading.{after-some}
@@ -107,6 +107,27 @@ order-told o h e = told o ∙ ap orderIn (sym h ∙ e)
     told Ordering·lt = refl
     told Ordering·eq = refl
     told Ordering·gt = refl
+
+-- whether it tells that the first is behind
+abbrev pub tellsBehind : Order → Bool
+tellsBehind Less = false
+tellsBehind Equal = false
+tellsBehind Greater = true
+
+pub behind-told : (o : Ordering) {r v : Order} → r ≡ orderOf o → r ≡ v → tellsBehind v ≡ byOrder o false false true
+unfolding byOrder
+behind-told o {r} {v} h e = rw (order-told o h e) (told v)
+  where
+    told : (v : Order) → tellsBehind v ≡ byOrder (orderIn v) false false true
+    told Less = refl
+    told Equal = refl
+    told Greater = refl
+
+pub behind-order : (o : Ordering) → byOrder o false false true ≡ true → o ≡ Ordering·gt
+unfolding byOrder
+behind-order Ordering·lt h = never (sym h)
+behind-order Ordering·eq h = never (sym h)
+behind-order Ordering·gt h = refl
 
 -- ── A word at the position `at` of a text ──
 module _ (w s : Bytes) (at i : ℕ) where

@@ -1,15 +1,16 @@
 -- First bytes as one number: numbers in order are texts in order.
 use Prim.Native.Nat.{ℕ, zero, suc, _+_, _*_, _^_, _≤_, _<_, compare, Ordering, Ordering·lt, Ordering·eq, Ordering·gt}
-use mathlib.Core.Path.{_≡_, refl}
+use mathlib.Core.Path.{_≡_, refl, ap, _∙_}
+use mathlib.Core.Bool.{true, false}
 use mathlib.Core.List.{[], _∷_}
 use native.Mathlib.Nat.{mul-suc, pow-zero, pow-suc, mul-le-mul-left, le-of-suc-le-suc}
 use native.Mathlib.Omega.{arith}
-use borrow.Author.Tests.{ltb-true, ltb-false, eqb-true, eqb-false}
+use borrow.Author.Tests.{ltb-true, ltb-false, eqb-true, eqb-false, le-ltb, lt-ltb}
 use lib.Dec.{ltb, eqb}
-use lib.ListN.{length, getD, drop}
-use lib.Seq.{getD-drop}
+use lib.ListN.{length, getD, drop, length-drop}
+use lib.Seq.{getD-drop, drop-drop}
 use Rattle.model.specs.Base.{Bytes}
-use Rattle.model.specs.Fields.{andThen, lex}
+use Rattle.model.specs.Fields.{andThen, lex, byOrder}
 use Rattle.model.proofs.Lists.{by-cases}
 use Rattle.lexical.specs.Orders.{bigEndian}
 use Rattle.lexical.proofs.Slices.{compare-less, compare-same, compare-more}
@@ -31,19 +32,26 @@ compare-scaled p x y m n h k = by-order x y
     (λ l. rw (compare-more m n l, compare-more (p * y + m) (p * y + n) (omega arith)))))
     (λ l. rw (compare-more x y l, compare-more (p * x + m) (p * y + n) (omega (arith, mul-le-mul-left p l, mul-suc p y))))
 
+-- so equal numbers have equal parts
+scaled-same : (p x y m n : ℕ) → m < p → n < p → p * x + m ≡ p * y + n → (x ≡ y) × (m ≡ n)
+scaled-same p x y m n h k e = by-order x y
+    (λ l. absurd (omega (arith, mul-le-mul-left p l, mul-suc p x)))
+    (λ f. (f, omega (arith, ap (λ (z : ℕ). p * z) f)))
+    (λ l. absurd (omega (arith, mul-le-mul-left p l, mul-suc p y)))
+
 -- bytes
 abbrev pub AreBytes : Bytes → Type 0
 AreBytes s = (i : ℕ) → getD s i 0 < 256
 
-later-bytes : (s : Bytes) → AreBytes s → AreBytes (drop 1 s)
-later-bytes s h i = rw getD-drop (h (1 + i))
+later-bytes : (k : ℕ) (s : Bytes) → AreBytes s → AreBytes (drop k s)
+later-bytes k s h i = rw getD-drop (h (k + i))
 
 word-small : (n : ℕ) (s : Bytes) → AreBytes s → bigEndian n s < 256 ^ n
 unfolding bigEndian
 word-small zero s h = rw pow-zero (omega arith)
 word-small (suc n) s h =
     let first : 256 ^ n * getD s 0 0 ≤ 256 ^ n * 255 = mul-le-mul-left (256 ^ n) (omega (arith, h 0)) in
-    rw pow-suc (omega (arith, word-small n (drop 1 s) (later-bytes s h)))
+    rw pow-suc (omega (arith, word-small n (drop 1 s) (later-bytes 1 s h)))
 
 and-then : (o p q : Ordering) → andThen o (andThen p q) ≡ andThen (andThen o p) q
 unfolding andThen
@@ -62,3 +70,38 @@ order-words (suc n) (x ∷ s) (y ∷ t) p q b c =
     let later = order-words n s t (le-of-suc-le-suc p) (le-of-suc-le-suc q) (λ i. b (suc i)) (λ i. c (suc i)) in
     let scaled = compare-scaled (256 ^ n) x y (bigEndian n s) (bigEndian n t) (word-small n s (λ i. b (suc i))) (word-small n t (λ i. c (suc i))) in
     rw (later, scaled) (and-then (compare x y) (compare (bigEndian n s) (bigEndian n t)) (lex compare (drop n s) (drop n t)))
+
+-- equal words begin with equal words
+front-same : (j n : ℕ) (s t : Bytes) → j ≤ n → AreBytes s → AreBytes t → bigEndian n s ≡ bigEndian n t → bigEndian j s ≡ bigEndian j t
+unfolding bigEndian
+front-same zero n s t h b c e = refl
+front-same (suc j) zero s t h b c e = absurd (omega arith)
+front-same (suc j) (suc n) s t h b c e =
+    let (first, later) = scaled-same (256 ^ n) (getD s 0 0) (getD t 0 0) (bigEndian n (drop 1 s)) (bigEndian n (drop 1 t))
+    (word-small n (drop 1 s) (later-bytes 1 s b)) (word-small n (drop 1 t) (later-bytes 1 t c)) e in
+    rw (first, front-same j n (drop 1 s) (drop 1 t) (le-of-suc-le-suc h) (later-bytes 1 s b) (later-bytes 1 t c) later)
+
+module _ (n : ℕ) (s t : Bytes) (p : n ≤ length s) (q : n ≤ length t) (b : AreBytes s) (c : AreBytes t) where
+  -- where the words of n bytes are equal, what stands from within them on decides
+  pub order-within : (at : ℕ) → at ≤ n → bigEndian n s ≡ bigEndian n t → lex compare s t ≡ lex compare (drop at s) (drop at t)
+  unfolding andThen
+  order-within at h e = order-words at s t (omega arith) (omega arith) b c ∙ rw (compare-same (bigEndian at s) (bigEndian at t) (front-same at n s t h b c e))
+
+  -- where they differ, they decide
+  pub word-behind : (bigEndian n s ≡ bigEndian n t → ⊥) → ltb (bigEndian n t) (bigEndian n s) ≡ byOrder (lex compare s t) false false true
+  unfolding andThen byOrder
+  word-behind d = rw (order-words n s t p q b c) (by-order (bigEndian n s) (bigEndian n t)
+      (λ l. rw (compare-less (bigEndian n s) (bigEndian n t) l, le-ltb (bigEndian n t) (bigEndian n s) (omega arith)))
+      (λ e. absurd (d e))
+      (λ l. rw (compare-more (bigEndian n s) (bigEndian n t) l, lt-ltb (bigEndian n t) (bigEndian n s) l)))
+
+module _ (n : ℕ) (s t : Bytes) (p : n ≤ length s) (q : n ≤ length t) (b : AreBytes s) (c : AreBytes t) where
+  -- where they are equal, the words from `at` within them on decide
+  module _ (at : ℕ) (h : at ≤ n) (e : bigEndian n s ≡ bigEndian n t) (p2 : at + n ≤ length s) (q2 : at + n ≤ length t) where
+    pub second-behind : (bigEndian n (drop at s) ≡ bigEndian n (drop at t) → ⊥)
+        → ltb (bigEndian n (drop at t)) (bigEndian n (drop at s)) ≡ byOrder (lex compare s t) false false true
+    second-behind d = rw (order-within n s t p q b c at h e) (word-behind n (drop at s) (drop at t) (rw length-drop (omega arith)) (rw length-drop (omega arith)) (later-bytes at s b) (later-bytes at t c) d)
+
+    pub second-same : bigEndian n (drop at s) ≡ bigEndian n (drop at t) → lex compare s t ≡ lex compare (drop (at + n) s) (drop (at + n) t)
+    second-same f = order-within n s t p q b c at h e
+        ∙ rw (order-within n (drop at s) (drop at t) (rw length-drop (omega arith)) (rw length-drop (omega arith)) (later-bytes at s b) (later-bytes at t c) n (omega arith) f, drop-drop n at s, drop-drop n at t)

@@ -10,6 +10,10 @@ orderOf Ordering·lt = Less
 orderOf Ordering·eq = Equal
 orderOf Ordering·gt = Greater
 
+-- bytes that are compared at once
+abbrev pub wordBytes : ℕ
+wordBytes = 8
+
 -- the first n bytes as one number, in which the first byte counts most
 unfoldable pub bigEndian : ℕ → Bytes → ℕ
 bigEndian zero s = 0

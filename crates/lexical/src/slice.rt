@@ -1,14 +1,18 @@
 // Comparing slices.
 use crate::bounds::least;
 ghost use mathlib.Core.Path.{_≡_};
+ghost use mathlib.Core.Bool.{true, false};
 ghost use mathlib.Core.List.{[], _∷_};
 ghost use Prim.Native.Nat.{_≤_, compare};
 ghost use lib.ListN.{length, drop};
 ghost use Rattle.rows.specs.Positions.{runEnd};
 ghost use Rattle.model.specs.Base.{_==_, after, isSome};
-ghost use Rattle.model.specs.Fields.{lex, orderKey};
+ghost use Rattle.model.specs.Fields.{lex, orderKey, byOrder};
 ghost use Rattle.lexical.specs.Classes.{isNot};
-ghost use Rattle.lexical.specs.Orders.{orderOf, bigEndian};
+ghost use Rattle.lexical.specs.Orders.{orderOf, wordBytes, bigEndian};
+
+// Bytes that are compared at once, as one number.
+const WORD: usize = 8;
 
 pub enum Order {
     Less,
@@ -33,10 +37,10 @@ pub fn same(a: &[u8], b: &[u8]) -> bool
     true
 }
 
-// The first eight bytes as one number, in which the first counts most: sums of products, which the compiler turns into one load.
+// The first bytes, a word of them, as one number, in which the first counts most: sums of products, which the compiler turns into one load.
 fn word(a: &[u8]) -> u64
-    requires { ⌜ 8 ≤ length (now a) ⌝ }
-    ensures { λ r. ⌜ r ≡ bigEndian 8 (now (a .entry)) ⌝ }
+    requires { ⌜ wordBytes ≤ length (now a) ⌝ }
+    ensures { λ r. ⌜ r ≡ bigEndian wordBytes (now (a .entry)) ⌝ }
 {
     let p = 72057594037927936 * (a[0] as u64) + 281474976710656 * (a[1] as u64);
     let q = 1099511627776 * (a[2] as u64) + 4294967296 * (a[3] as u64);
@@ -72,11 +76,11 @@ fn compare_from(a: &[u8], b: &[u8], from: usize) -> Order
     Order::Equal
 }
 
-// By byte value, a shorter slice before a longer one that it begins. Where both have eight bytes, these are compared as two numbers.
+// By byte value, a shorter slice before a longer one that it begins. Where both have a word, the first ones are compared as two numbers.
 pub fn compare(a: &[u8], b: &[u8]) -> Order
     ensures { λ r. ⌜ r ≡ orderOf (orderKey (now (a .entry)) (now (b .entry))) ⌝ }
 {
-    if least(a.len(), b.len()) < 8 {
+    if least(a.len(), b.len()) < WORD {
         return compare_from(a, b, 0);
     }
     let x = word(a);
@@ -87,7 +91,42 @@ pub fn compare(a: &[u8], b: &[u8]) -> Order
     if y < x {
         return Order::Greater;
     }
-    compare_from(a, b, 8)
+    compare_from(a, b, WORD)
+}
+
+// Whether what stands from a position on puts a behind b.
+fn is_behind_from(a: &[u8], b: &[u8], from: usize) -> bool
+    requires { ⌜ (from ≤ length (now a)) × (from ≤ length (now b)) ⌝ }
+    ensures { λ r. ⌜ r ≡ byOrder (lex compare (drop from (now (a .entry))) (drop from (now (b .entry)))) false false true ⌝ }
+{
+    match compare_from(a, b, from) {
+        Order::Less => false,
+        Order::Equal => false,
+        Order::Greater => true,
+    }
+}
+
+// Whether a stands behind b in this order: `compare` for a search, short enough to stand in its loop. Names that begin alike differ in their second words:
+// these begin behind the first ones, or earlier, so that they end with the shorter slice.
+pub fn is_behind(a: &[u8], b: &[u8]) -> bool
+    ensures { λ r. ⌜ r ≡ byOrder (orderKey (now (a .entry)) (now (b .entry))) false false true ⌝ }
+{
+    let n = least(a.len(), b.len());
+    if n < WORD {
+        return is_behind_from(a, b, 0);
+    }
+    let x = word(a);
+    let y = word(b);
+    if x != y {
+        return y < x;
+    }
+    let second = least(n - WORD, WORD);
+    let v = word(&a[second..]);
+    let w = word(&b[second..]);
+    if v != w {
+        return w < v;
+    }
+    is_behind_from(a, b, second + WORD)
 }
 
 // Whether the word w stands at the position.

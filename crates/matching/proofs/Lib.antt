@@ -1,4 +1,3 @@
--- Laws that the proofs cite: what a step admits, how far a path does, and which steps overlap.
+-- Laws that the proofs cite: what a step admits, and which steps overlap.
 pub mod Matched
-pub mod Admitted
 pub mod Conflicts

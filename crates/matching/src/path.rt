@@ -26,7 +26,6 @@ ghost use Rattle.paths.specs.Layout.{pathSlot, pathIn};
 ghost use Rattle.steps.specs.Steps.{namesSlot, stepRow, stepsSlot, operatorOf, namesIn, stepIn, stepsIn};
 ghost use Rattle.steps.specs.Environments.{bindingsBytes, bindingsIn};
 ghost use Rattle.matching.specs.Parts.{decides, mayAdmit, isMet, mayMatch};
-ghost use Rattle.matching.specs.Admitted.{admitted};
 
 // Whether the key is one of the names.
 pub fn has_name(names: &[u8], key: &[u8]) -> bool
@@ -156,21 +155,4 @@ pub fn matches(lines: &[u8], steps: &[u8], slot: &[u8]) -> bool
         return false;
     }
     lines_match(lines, steps, slot)
-}
-
-// How many first steps admit the first keys, one each, where the first `from` do.
-pub fn admitted(lines: &[u8], steps: &[u8], slot: &[u8], from: usize) -> usize
-    requires { ⌜ (bindingsBytes ≤ length (now lines)) × (stepsSlot ≤ length (now steps)) × (pathSlot ≤ length (now slot)) ⌝ }
-    requires { ⌜ from ≤ admitted (bindingsIn (now lines)) (stepsIn (now steps)) (pathIn (now slot)) ⌝ }
-    ensures { λ r. ⌜ r ≡ admitted (bindingsIn (now (lines .entry))) (stepsIn (now (steps .entry))) (pathIn (now (slot .entry))) ⌝ }
-{
-    let n = count(slot, count(steps, MAX_DEPTH));
-    let mut i = from;
-    while i < n {
-        if !admits(lines, row_at(steps, STEP, i), key_at(slot, i)) {
-            return i;
-        }
-        i += 1;
-    }
-    i
 }

@@ -17,12 +17,13 @@ use Rattle.model.proofs.Lists.{by-cases}
 use Rattle.layout.proofs.Tight.{zeros}
 use Rattle.tables.specs.Memory.{tablesIn, CanonicalTables}
 use Rattle.tables.proofs.Encoded.{tables-encoded}
-use Rattle.record.specs.Slots.{fieldsIn, CanonicalFields}
+use Rattle.masks.specs.Readers.{readersOf, Agreed}
+use Rattle.record.specs.Slots.{fieldsIn, masksIn, CanonicalFields}
 use Rattle.record.proofs.Canonical.{fields-encoded}
 use Rattle.opening.specs.declared.answer.Opening.{Opening}
 use Rattle.opening.specs.declared.answer.Opening.the-variants.{Done, Refused}
 use Rattle.sessions.specs.Logins.{loginNumbers}
-use Rattle.opening.specs.Memory.{Arrays, arrays, stateIn, encodeOpened}
+use Rattle.opening.specs.Memory.{Arrays, arrays, stateIn, Agree, encodeOpened}
 use Rattle.opening.specs.Answers.{textsOf, tooLong, openingResult, openingAnswer, arraysAfter, Opens}
 use Rattle.opening.proofs.Zeros.{no-logins}
 
@@ -83,16 +84,16 @@ module _ (u e p r : Bytes) where
 pub refusal : (texts : Texts) (a : Arrays) {answer : Opening} {k t l : ℕ} → answer ≡ Refused k t l → opened texts ≡ refused (fault k t l)
     → Opens a texts answer a
 unfolding afterOpening kept fault
-refusal texts a i h = record { answered = rw (i, h); state = rw h; bytes = rw h }
+refusal texts a i h = record { answered = rw (i, h); state = rw h; bytes = rw h; agrees = rw i tt }
 
 -- what an accepted opening answers and leaves
 pub acceptance : (texts : Texts) (before : Arrays) (tables fields : Bytes) → opened texts ≡ done (fresh (tablesIn tables) (fieldsIn fields))
-    → CanonicalTables tables → CanonicalFields fields → Opens before texts Done (arrays tables (zeros loginNumbers) fields)
+    → CanonicalTables tables → CanonicalFields fields → Agreed (tablesIn tables) (fieldsIn fields) (masksIn fields) → Opens before texts Done (arrays tables (zeros loginNumbers) fields)
 unfolding afterOpening kept stateIn encodeOpened
-acceptance texts before tables fields h t f =
+acceptance texts before tables fields h t f a =
     let written = tables-encoded tables t in
-    let stored = fields-encoded fields f in
-    record { answered = rw h; state = rw (h, no-logins); bytes = rw h (ap₂ (λ (x y : Bytes). arrays x (zeros loginNumbers) y) written stored) }
+    let stored = fields-encoded fields (readersOf (tablesIn tables)) f a in
+    record { answered = rw h; state = rw (h, no-logins); bytes = rw h (ap₂ (λ (x y : Bytes). arrays x (zeros loginNumbers) y) written stored); agrees = a }
 
 -- so the same texts leave the same bytes, whatever the arrays held
 pub same-bytes : (texts : Texts) (a b x y : Arrays) → Opens a texts Done x → Opens b texts Done y → x ≡ y
@@ -101,3 +102,12 @@ same-bytes texts a b x y one two = one .bytes ∙ go (opened texts) (one .answer
     go : (o : Result Fault State) → Done ≡ openingAnswer o → arraysAfter a o ≡ arraysAfter b o
     go (refused f) e = let z : _≡_ {A = ℕ} 0 1 = cc in absurd (omega arith)
     go (done s) e = refl
+
+-- an opening, accepted or refused, leaves masks that agree with the policy where they did
+pub opening-agrees : (texts : Texts) (before after : Arrays) (answer : Opening) → Opens before texts answer after → Agree before → Agree after
+opening-agrees texts before after Done o a = o .agrees
+opening-agrees texts before after (Refused n t l) o a = rw (o .bytes) (go (opened texts) (o .answered))
+  where
+    go : (d : Result Fault State) → Refused n t l ≡ openingAnswer d → Agree (arraysAfter before d)
+    go (refused f) e = a
+    go (done s) e = let z : _≡_ {A = ℕ} 0 1 = cc in absurd (omega arith)

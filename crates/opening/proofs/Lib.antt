@@ -4,5 +4,6 @@ pub mod Conflicting
 pub mod Opened
 pub mod TablesOpened
 pub mod Stored
+pub mod Marked
 pub mod Zeros
 pub mod AllOpened

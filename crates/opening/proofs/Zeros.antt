@@ -11,8 +11,8 @@ use Rattle.model.specs.Limits.{maxFields, maxUsers, maxRules}
 use Rattle.model.specs.Opening.{emptyLogin, emptyLogins, initial}
 use Rattle.tables.specs.Memory.{userRow, usersBytes, ruleRow, tablesBytes, userIn, usersIn, ruleIn, policyIn, tablesIn}
 use Rattle.sessions.specs.Logins.{loginNumbers, loginIn, loginsIn}
-use Rattle.record.specs.Slots.{slotBytes, recordBytes, fieldIn, fieldsIn}
-use Rattle.opening.specs.Memory.{stateIn}
+use Rattle.record.specs.Slots.{slotBytes, recordBytes, fieldIn, readersIn, fieldsIn, masksIn}
+use Rattle.opening.specs.Memory.{arrays, stateIn, Agree}
 use Rattle.opening.proofs.TablesOpened.{noTables}
 
 pub no-tables : tablesIn (zeros tablesBytes) ≡ noTables
@@ -33,3 +33,9 @@ no-fields = table-none fieldIn slotBytes maxFields (zeros recordBytes) (omega ar
 pub zeros-initial : stateIn (zeros tablesBytes) (zeros loginNumbers) (zeros recordBytes) ≡ initial
 unfolding stateIn initial
 zeros-initial = rw (no-tables, no-logins, no-fields)
+
+-- and their masks agree with the policy: there are none
+pub zeros-agree : Agree (arrays (zeros tablesBytes) (zeros loginNumbers) (zeros recordBytes))
+unfolding masksIn
+zeros-agree =
+    rw (no-fields, table-none readersIn slotBytes maxFields (zeros recordBytes) (omega arith) (zero-at recordBytes 0))

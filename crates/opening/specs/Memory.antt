@@ -4,8 +4,9 @@ use mathlib.Core.List.{List}
 use lib.ListN.{replicate}
 use Rattle.model.specs.Base.{Bytes}
 use Rattle.model.specs.Opening.{State}
+use Rattle.masks.specs.Readers.{readersOf, Agreed}
 use Rattle.tables.specs.Memory.{tablesIn, encodeTables}
-use Rattle.record.specs.Slots.{fieldsIn, encodeFields}
+use Rattle.record.specs.Slots.{fieldsIn, masksIn, encodeFields}
 use Rattle.sessions.specs.Logins.{loginNumbers, loginsIn}
 
 -- the three arrays that a caller lends
@@ -24,6 +25,14 @@ stateIn tables logins fields = record { tables = tablesIn tables; loginStates = 
 abbrev pub stateOf : Arrays → State
 stateOf a = stateIn (a .tables) (a .logins) (a .fields)
 
--- the arrays of a state in which nobody has logged in yet: tables and fields byte for byte, with zeros wherever nothing is said
+-- the masks beside the fields, which are no part of the meaning
+abbrev pub masksOf : Arrays → List ℕ
+masksOf a = masksIn (a .fields)
+
+-- "they agree with the policy" (02, 2): each mask has the bits of those who may read its field, and no others
+abbrev pub Agree : Arrays → Type 0
+Agree a = Agreed (tablesIn (a .tables)) (fieldsIn (a .fields)) (masksIn (a .fields))
+
+-- the arrays of a state in which nobody has logged in yet: tables, fields and masks byte for byte, with zeros wherever nothing is said
 unfoldable pub encodeOpened : State → Arrays
-encodeOpened s = arrays (encodeTables (s .tables)) (replicate loginNumbers 0) (encodeFields (s .fields))
+encodeOpened s = arrays (encodeTables (s .tables)) (replicate loginNumbers 0) (encodeFields (readersOf (s .tables)) (s .fields))

@@ -5,6 +5,7 @@ use layout::table::row_count;
 use loader::read_record;
 use matching::conflict::steps_of;
 use reader::grammar::RecordRead;
+use record::slot::set_readers;
 use record::table::RECORD;
 use record::table::SLOTS;
 use record::table::count;
@@ -16,6 +17,7 @@ use tables::memory::USER;
 use tables::memory::USERS;
 use tables::memory::policy_of;
 use tables::memory::quota;
+use tables::rights::readers;
 ghost use mathlib.Core.Path.{_≡_};
 ghost use Prim.Native.Nat.{_≤_};
 ghost use lib.ListN.{length, replicate};
@@ -24,7 +26,9 @@ ghost use Rattle.model.specs.Limits.{maxText};
 ghost use Rattle.model.specs.Paths.{asSteps};
 ghost use Rattle.model.specs.Rights.{conflictsWith};
 ghost use Rattle.model.specs.Opening.{quotas, openRecord};
-ghost use Rattle.record.specs.Slots.{recordBytes, fieldsIn, CanonicalFields};
+ghost use Rattle.layout.specs.Layout.{Keeps};
+ghost use Rattle.masks.specs.Readers.{Agreed};
+ghost use Rattle.record.specs.Slots.{recordBytes, fieldsIn, masksIn, CanonicalFields};
 ghost use Rattle.tables.specs.Memory.{usersBytes, policyBytes, usersIn, policyIn, tablesIn};
 ghost use Rattle.opening.specs.Answers.{openingResult};
 
@@ -82,4 +86,19 @@ pub fn open_record(tables: &[u8; TABLES], table: &mut [u8; RECORD], s: &[u8]) ->
         return Opening::Refused(5, 4, 0);
     }
     Opening::Done
+}
+
+// Beside each field the mask of those who may read it.
+pub fn mark_fields(tables: &[u8; TABLES], table: &mut [u8; RECORD])
+    ensures { λ _. ⌜ fieldsIn (now (table .exit)) ≡ fieldsIn (now (table .entry)) ⌝ }
+    ensures { λ _. ⌜ Agreed (tablesIn (now (tables .entry))) (fieldsIn (now (table .entry))) (masksIn (now (table .exit))) ⌝ }
+    ensures { λ _. ⌜ Keeps CanonicalFields (now (table .entry)) (now (table .exit)) ⌝ }
+{
+    let n = count(table);
+    let mut i: usize = 0;
+    while i < n {
+        let mask = readers(tables, slot_at(table, i));
+        set_readers(table, i, mask);
+        i += 1;
+    }
 }

@@ -1,5 +1,6 @@
 // Opening the four texts: all or nothing.
 use crate::answer::Opening;
+use crate::fields::mark_fields;
 use crate::fields::open_record;
 use crate::store::copy_fields;
 use crate::store::copy_tables;
@@ -31,7 +32,7 @@ fn too_long(users: &[u8], environments: &[u8], policy: &[u8], text: &[u8]) -> us
     0
 }
 
-// The four texts opened together: refused, the three arrays are as they were; accepted, they are those of the new state, byte for byte.
+// The four texts opened together: refused, the three arrays are as they were; accepted, they are those of the new state, byte for byte, with the masks that the policy gives.
 pub fn open(
     tables: &mut [u8; TABLES],
     logins: &mut [u16; LOGINS],
@@ -61,6 +62,7 @@ pub fn open(
     let Opening::Done = loaded else {
         return loaded;
     };
+    mark_fields(&memory, &mut table);
     copy_tables(tables, &memory);
     copy_fields(fields, &table);
     *logins = [0u16; LOGINS];

@@ -1,16 +1,20 @@
 -- The order of two slots' paths from the key i on: a path that ends first is before the other, else the two keys decide, or what stands behind them.
 use Prim.Native.Nat.{ℕ, _+_, _*_, _≤_, _<_, min, Ordering·lt, Ordering·eq, Ordering·gt}
-use mathlib.Core.Path.{_≡_}
+use mathlib.Core.Path.{_≡_, refl, sym, ap}
+use mathlib.Core.Bool.{true, false}
 use mathlib.Core.List.{[]}
+use native.Mathlib.Omega.{arith}
+use borrow.Author.Tests.{eqb-false}
 use lib.ListN.{getD, take, drop}
 use Rattle.model.specs.Limits.{maxDepth}
 use Rattle.model.specs.Base.{Bytes}
-use Rattle.model.specs.Fields.{andThen, lex, orderKey}
+use Rattle.model.specs.Fields.{andThen, lex, orderKey, orderPath, byOrder}
 use Rattle.lexical.specs.Orders.{orderOf}
 use Rattle.lexical.specs.declared.slice.Order.{Order}
-use Rattle.lexical.proofs.Slices.{lex-shorter, lex-longer, lex-end, orderIn, order-told}
+use Rattle.lexical.specs.declared.slice.Order.the-variants.{Greater}
+use Rattle.lexical.proofs.Slices.{lex-shorter, lex-longer, lex-end, orderIn, order-told, behind-order}
 use Rattle.paths.specs.Layout.{pathIn}
-use Rattle.layout.specs.Layout.{keyRow, nameIn}
+use Rattle.layout.specs.Layout.{keyRow, nameIn, isEmpty}
 use Rattle.layout.proofs.Counts.{length-counted, counted-step}
 
 module _ (a b : Bytes) (i : ℕ) where
@@ -33,3 +37,12 @@ module _ (a b : Bytes) (i : ℕ) where
   unfolding pathIn lex
   paths-step {x} {y} p q e f h t =
       rw (counted-step nameIn keyRow maxDepth a i p, counted-step nameIn keyRow maxDepth b i q, ← e, ← f, order-told (orderKey x y) h t)
+
+-- x and y are the first keys, and x is behind y
+pub paths-behind : (a b : Bytes) {x y : Bytes} → isEmpty a ≡ false → isEmpty b ≡ false
+    → x ≡ nameIn (take keyRow (drop (0 * keyRow + 1) a)) → y ≡ nameIn (take keyRow (drop (0 * keyRow + 1) b))
+    → byOrder (orderKey x y) false false true ≡ true → orderPath (pathIn a) (pathIn b) ≡ Ordering·gt
+unfolding orderPath andThen isEmpty
+paths-behind a b {x} {y} p q e f h =
+    paths-step a b 0 {v = Greater} (omega (arith, eqb-false (getD a 0 0) 0 p)) (omega (arith, eqb-false (getD b 0 0) 0 q)) e f
+    (ap orderOf (sym (behind-order (orderKey x y) h))) refl

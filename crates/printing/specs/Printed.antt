@@ -5,18 +5,19 @@ use mathlib.Core.List.{[], _++_}
 use Rattle.model.specs.Base.{Bytes, text, decimal}
 use Rattle.model.specs.Limits.{maxCopy}
 use Rattle.model.specs.Opening.{State, fault}
-use Rattle.model.specs.Serving.{Act, line, decision, Outcome, outcome}
-use Rattle.model.specs.Runs.{eventIn}
+use Rattle.model.specs.Serving.{Act, Outcome}
+use Rattle.model.specs.Runs.{requestOfAct, Event}
 use Rattle.model.specs.Program.{printFault, printed}
 use Rattle.rows.specs.Rows.{Wrote}
 use Rattle.sessions.specs.Logins.{numbersAfter}
 use Rattle.deliveries.specs.Receivers.{deliveriesText}
-use Rattle.opening.specs.Memory.{Arrays, stateOf}
+use Rattle.opening.specs.Memory.{Arrays, stateOf, masksOf, Agree}
 use Rattle.opening.specs.declared.answer.Opening.{Opening}
 use Rattle.opening.specs.declared.answer.Opening.the-variants as opening
 use Rattle.server.specs.declared.answer.Reply.{Reply}
 use Rattle.server.specs.declared.answer.Reply.the-variants as reply
-use Rattle.server.specs.Replies.{Lent, fieldsAfter}
+use Rattle.server.specs.Masked.{Effect, effectMasked, effectSaid}
+use Rattle.server.specs.Replies.{Lent, fieldsAfter, act}
 
 -- ── Lengths, in bytes ──
 -- `OK;` and `NO;`
@@ -60,14 +61,25 @@ Inside (reply.Accepted k at) room = Unit {0}
 abbrev pub Left : Outcome → State → Lent → Type 0
 Left o s left = (s ≡ o .state) × (left .buffer ≡ o .buffer) × (left .list ≡ o .list)
 
--- a line with what is lent to it
-abbrev pub act : Bytes → Lent → Act
-act text given = line text (given .buffer) (given .list)
+-- what happened to a line, where this is its outcome
+abbrev pub eventOf : State → Act → Outcome → Event
+eventOf s a o = record { before = s; act = a; request = requestOfAct a; result = o }
 
--- a line: what it leaves, in meaning and in memory, and what is printed for it, n bytes, written over the start of `over` as far as there is room
-pub record Responds (before : Arrays) (text : Bytes) (given : Lent) (after : Arrays) (left : Lent) (over : Bytes) (n : ℕ) (out : Bytes) : Type 0 where
-  pub leaves : Left (outcome (stateOf before) (act text given)) (stateOf after) left
-  pub logins : after .logins ≡ numbersAfter (decision (stateOf before) (act text given)) (before .logins)
-  pub fields : after .fields ≡ fieldsAfter (decision (stateOf before) (act text given)) (before .fields)
-  pub wrote : Wrote 0 (printed (eventIn (stateOf before) (act text given))) over n out
+-- a line has its effect: what it leaves, in meaning and in memory, and what is printed for it, n bytes, written over the start of `over` as far as there is room
+pub record Responds (w : Effect) (text : Bytes) (before : Arrays) (given : Lent) (after : Arrays) (left : Lent) (over : Bytes) (n : ℕ) (out : Bytes) : Type 0 where
+  pub leaves : Left (w .outcome) (stateOf after) left
+  pub logins : after .logins ≡ numbersAfter (w .decided) (before .logins)
+  pub fields : after .fields ≡ fieldsAfter (w .mask) (w .decided) (before .fields)
+  pub masks : masksOf after ≡ w .masks
+  pub wrote : Wrote 0 (printed (eventOf (stateOf before) (act text given) (w .outcome))) over n out
   pub short : n ≤ mostPrinted
+
+-- by the masks, whatever the arrays hold
+abbrev pub RespondsMasked : Arrays → Bytes → Lent → Arrays → Lent → Bytes → ℕ → Bytes → Type 0
+RespondsMasked before text given after left over n out =
+    Responds (effectMasked (stateOf before) (masksOf before) (act text given)) text before given after left over n out
+
+-- where the masks agree with the policy as documents 01 and 02 say, and they agree again
+abbrev pub RespondsSaid : Arrays → Bytes → Lent → Arrays → Lent → Bytes → ℕ → Bytes → Type 0
+RespondsSaid before text given after left over n out =
+    Agree before → Responds (effectSaid (stateOf before) (act text given)) text before given after left over n out × Agree after

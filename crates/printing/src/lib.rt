@@ -19,7 +19,7 @@ ghost use Rattle.model.specs.Limits.{maxCopy};
 ghost use Rattle.model.specs.Program.{printAnswer};
 ghost use Rattle.opening.specs.Memory.{arrays};
 ghost use Rattle.server.specs.Replies.{answerIn, lent};
-ghost use Rattle.printing.specs.Printed.{markLength, mostNumbered, mostFault, numbered, openingText, Inside, Responds};
+ghost use Rattle.printing.specs.Printed.{markLength, mostNumbered, mostFault, numbered, openingText, Inside, RespondsMasked, RespondsSaid};
 
 // The list that a push is lent.
 pub const LIST: usize = LIST_ROOM;
@@ -62,7 +62,13 @@ pub fn respond(
     list: &mut [u32; LIST],
     out: &mut [u8],
 ) -> usize
-    ensures { λ r. ⌜ Responds
+    ensures { λ r. ⌜ RespondsMasked
+        (arrays (now (tables .entry)) (now (logins .entry)) (now (fields .entry)))
+        (now (line .entry)) (lent (now (buffer .entry)) (now (list .entry)))
+        (arrays (now (tables .entry)) (now (logins .exit)) (now (fields .exit)))
+        (lent (now (buffer .exit)) (now (list .exit)))
+        (now (out .entry)) r (now (out .exit)) ⌝ }
+    ensures { λ r. ⌜ RespondsSaid
         (arrays (now (tables .entry)) (now (logins .entry)) (now (fields .entry)))
         (now (line .entry)) (lent (now (buffer .entry)) (now (list .entry)))
         (arrays (now (tables .entry)) (now (logins .exit)) (now (fields .exit)))

@@ -1,20 +1,22 @@
 -- A table of fields with every byte said: without fields, and once a slot is stored.
-use Prim.Native.Nat.{_≤_, _<_}
-use mathlib.Core.Path.{_≡_, sym, ap}
+use Prim.Native.Nat.{ℕ, _*_, _≤_, _<_}
+use mathlib.Core.Path.{_≡_, refl, sym, ap, ap₂, _∙_}
+use mathlib.Core.List.{List, [], _∷_, map}
 use mathlib.Core.Bool.{false}
 use native.Mathlib.Omega.{arith}
 use borrow.Author.Tests.{ltb-true}
 use lib.Dec.{ltb}
 use lib.ListN.{length, replicate, length-append, length-replicate}
-use Rattle.model.specs.Base.{Bytes}
+use Rattle.model.specs.Base.{Bytes, joined}
+use Rattle.model.specs.Fields.{Keys, Field}
 use Rattle.model.specs.Limits.{maxFields}
 use Rattle.model.proofs.Lists.{by-cases}
 use Rattle.paths.specs.Layout.{pathIn}
-use Rattle.layout.specs.Layout.{isEmpty, inUse, Holds, Keeps}
+use Rattle.layout.specs.Layout.{isEmpty, inUse, table, Holds, padded, encodeTable, Keeps}
 use Rattle.layout.proofs.Canonical.{table-encoded, canonical-none, canonical-set, canonical-inserted}
 use Rattle.record.specs.declared.table.Place.{Place}
 use Rattle.record.specs.declared.table.Place.the-variants.{At, Before}
-use Rattle.record.specs.Slots.{slotBytes, recordBytes, fieldIn, fieldsIn, encodeField, encodeFields, CanonicalField, CanonicalFields}
+use Rattle.record.specs.Slots.{slotBytes, recordBytes, fieldIn, readersIn, fieldsIn, masksIn, encodeField, encodeFields, CanonicalField, CanonicalFields}
 use Rattle.record.specs.Search.{placeIn, storedBytes}
 use Rattle.record.proofs.Places.{at-below, before-within}
 use Rattle.record.proofs.Search.{fields-used}
@@ -23,10 +25,27 @@ use Rattle.record.proofs.Search.{fields-used}
 pub none-canonical : CanonicalFields (replicate recordBytes 0)
 none-canonical = canonical-none CanonicalField slotBytes maxFields (omega arith)
 
--- a table so written has the bytes that its fields are written as, and no others
-pub fields-encoded : (s : Bytes) → CanonicalFields s → s ≡ encodeFields (fieldsIn s)
-unfolding encodeFields fieldsIn
-fields-encoded s h = table-encoded encodeField fieldIn slotBytes maxFields s h
+-- a slot's mask and field
+abbrev markedIn : Bytes → ℕ × Field
+markedIn slot = (readersIn slot, fieldIn slot)
+
+abbrev encodeMarked : ℕ × Field → Bytes
+encodeMarked t = encodeField (t .0) (t .1)
+
+same-masks : (mask : Keys → ℕ) (rs : List Bytes) → map readersIn rs ≡ map (λ f. mask (f .path)) (map fieldIn rs)
+    → map encodeMarked (map markedIn rs) ≡ map (λ f. encodeField (mask (f .path)) f) (map fieldIn rs)
+same-masks mask [] h = refl
+same-masks mask (r ∷ rs) h =
+    let first : readersIn r ≡ mask (fieldIn r .path) = cc in
+    let rest : map readersIn rs ≡ map (λ f. mask (f .path)) (map fieldIn rs) = cc in
+    ap₂ _∷_ (ap (λ (m : ℕ). encodeField m (fieldIn r)) first) (same-masks mask rs rest)
+
+-- a table so written has the bytes that its fields are written as, each with its mask, and no others
+pub fields-encoded : (s : Bytes) (mask : Keys → ℕ) → CanonicalFields s → masksIn s ≡ map (λ f. mask (f .path)) (fieldsIn s) → s ≡ encodeFields mask (fieldsIn s)
+unfolding encodeFields fieldsIn masksIn table encodeTable
+fields-encoded s mask h is =
+    table-encoded encodeMarked markedIn slotBytes maxFields s h
+    ∙ ap (λ (rs : List Bytes). padded (maxFields * slotBytes) (joined rs)) (same-masks mask (inUse slotBytes maxFields s) is)
 
 -- there are bytes for every slot
 all-slots : (s : Bytes) → CanonicalFields s → Holds slotBytes maxFields s

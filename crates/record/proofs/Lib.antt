@@ -3,4 +3,5 @@ pub mod Search
 pub mod Places
 pub mod Stores
 pub mod Slots
+pub mod Masks
 pub mod Canonical

@@ -10,7 +10,7 @@ use Rattle.rows.specs.Rows.{insertAt}
 use Rattle.model.specs.Base.{isSome}
 use Rattle.model.specs.Values.{Value, truth}
 use Rattle.model.specs.Fields.{Keys, Field, Fields, orderPath, byOrder, valueAt, holds, put, fieldOf}
-use Rattle.model.proofs.Order.{by-three, put-less, put-same, put-more, value-less, value-same, value-more}
+use Rattle.model.proofs.Order.{by-three, path-orders, put-less, put-same, put-more, value-less, value-same, value-more}
 use Rattle.record.specs.declared.table.Place.the-variants.{At, Before}
 use Rattle.record.specs.Search.{placeIn}
 
@@ -19,6 +19,7 @@ record FoundAt (p : Keys) (fs : Fields) (j i : ℕ) : Type 0 where
   d : ℕ
   place : i ≡ j + d
   within : d < length fs
+  path : (z : Field) → getD fs d z .path ≡ p
   value : (z : Field) → valueAt p fs ≡ some (getD fs d z .value)
   stored : (v : Value) → put (fieldOf p v) fs ≡ set fs d (fieldOf p v)
 
@@ -52,12 +53,13 @@ module _ (p : Keys) where
       (λ o. at-before i j (sym e ∙ place-less g gs j o))
       (λ o. let h = sym (place-same g gs j o) ∙ e in
       let s : j ≡ i = cc in
-      record { d = 0; place = omega arith; within = omega arith; value = λ z. value-same p g gs o; stored = λ v. put-same (fieldOf p v) g gs o })
+      record { d = 0; place = omega arith; within = omega arith; path = λ z. sym (path-orders .same p (g .path) o); value = λ z. value-same p g gs o; stored = λ v. put-same (fieldOf p v) g gs o })
       (λ o. let r = found-at gs (suc j) i (sym (place-more g gs j o) ∙ e) in
       record {
         d = suc (r .d);
         place = omega (arith, r .place);
         within = omega (arith, r .within);
+        path = r .path;
         value = λ z. value-more p g gs o ∙ r .value z;
         stored = λ v. put-more (fieldOf p v) g gs o ∙ ap (λ (l : Fields). g ∷ l) (r .stored v);
       })
@@ -92,6 +94,9 @@ module _ (p : Keys) (fs : Fields) (i : ℕ) where
 
     pub at-below : i < length fs
     at-below = omega (arith, at-place, at-found .within)
+
+    pub at-path : (z : Field) → getD fs i z .path ≡ p
+    at-path z = rw at-place at (at-found .path z)
 
     pub at-value : (z : Field) → valueAt p fs ≡ some (getD fs i z .value)
     at-value z = at-found .value z ∙ rw at-place

@@ -1,5 +1,5 @@
 -- The fields of a table, and a search through them: the steps of a loop over the slots.
-use Prim.Native.Nat.{ℕ, _+_, _*_, _≤_, _<_}
+use Prim.Native.Nat.{ℕ, _+_, _*_, _≤_, _<_, Ordering·gt}
 use mathlib.Core.Path.{_≡_, refl, sym, ap, _∙_}
 use mathlib.Core.Bool.{true, false}
 use mathlib.Core.List.{_∷_}
@@ -13,6 +13,7 @@ use Rattle.model.specs.Limits.{maxFields}
 use Rattle.model.specs.Fields.{Keys, orderPath, byOrder}
 use Rattle.lexical.specs.Orders.{orderOf}
 use Rattle.lexical.specs.declared.slice.Order.{Order}
+use Rattle.lexical.specs.declared.slice.Order.the-variants.{Greater}
 use Rattle.lexical.proofs.Slices.{orderIn, order-told}
 use Rattle.paths.specs.Layout.{pathIn}
 use Rattle.record.specs.declared.table.Place.the-variants.{At, Before}
@@ -42,3 +43,9 @@ module _ (s : Bytes) where
         → placeIn i p (drop i (fieldsIn s)) ≡ byOrder (orderIn v) (Before i) (At i) (placeIn (i + 1) p (drop (i + 1) (fieldsIn s)))
     unfolding placeIn fieldIn
     place-step p e q t = rw (fields-step e, order-told (orderPath p (pathIn slot)) q t, add-one)
+
+    -- the path is behind the slot's
+    pub place-passed : (p : Keys) → isEmpty slot ≡ false → orderPath p (pathIn slot) ≡ Ordering·gt
+        → placeIn i p (drop i (fieldsIn s)) ≡ placeIn (i + 1) p (drop (i + 1) (fieldsIn s))
+    unfolding byOrder
+    place-passed p e o = place-step p {v = Greater} e (ap orderOf (sym o)) refl

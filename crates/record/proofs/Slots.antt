@@ -1,7 +1,8 @@
 -- A slot: the value that its text says, and what it holds once a path, a value's text and the length of the text are written into it.
-use Prim.Native.Nat.{ℕ, suc, _+_, _*_, _-_, _≤_, _<_, min}
-use mathlib.Core.Path.{_≡_, sym, ap, _∙_}
+use Prim.Native.Nat.{ℕ, suc, _+_, _*_, _-_, _^_, _≤_, _<_, min}
+use mathlib.Core.Path.{_≡_, refl, sym, ap, _∙_}
 use mathlib.Core.Bool.{true, false}
+use mathlib.Core.Option.{Option, none, some}
 use mathlib.Core.List.{[], _∷_, _++_, append-assoc, append-nil}
 use native.Mathlib.Nat.{add-sub-cancel-left, zero-add}
 use native.Mathlib.Omega.{arith}
@@ -15,7 +16,7 @@ use Rattle.rows.proofs.Parts.{part-at, tail-part, tail-replaced}
 use Rattle.rows.proofs.Writing.{written-clipped}
 use Rattle.rows.specs.Positions.{placed}
 use Rattle.model.specs.Base.{Bytes}
-use Rattle.model.specs.Limits.{maxDepth, maxFields}
+use Rattle.model.specs.Limits.{maxDepth, maxFields, maxUsers}
 use Rattle.model.specs.Fields.{Fields, fieldOf}
 use Rattle.model.specs.Values.{Value, truth, readValue, valueText, validValue}
 use Rattle.model.proofs.Spelling as spelling
@@ -23,15 +24,17 @@ use Rattle.values.specs.declared.value.ValueAt.{ValueAt}
 use Rattle.values.specs.declared.value.ValueAt.the-variants.{Bad}
 use Rattle.values.specs.Scalars as scalars
 use Rattle.values.proofs.Values.{value-bad}
+use Rattle.masks.specs.Bits.{encodeMask}
+use Rattle.masks.proofs.Bits.{mask-long, mask-back}
 use Rattle.paths.specs.Layout.{pathSlot, pathIn}
 use Rattle.layout.specs.Layout.{keyRow, nameIn, isEmpty, encodeName}
-use Rattle.record.specs.Slots.{valueRoom, slotBytes, textIn, valueIn, heldText, heldValue, fieldIn, fieldsIn, fieldAt, encodeField, CanonicalField, slotOf, Proper}
+use Rattle.record.specs.Slots.{valueRoom, lengthAt, slotBytes, textIn, valueOr, valueIn, heldText, heldValue, fieldIn, readersIn, fieldsIn, fieldAt, encodeField, CanonicalField, slotOf, Proper}
 use Rattle.record.specs.Search.{storedIn, storedAt}
 
 -- ── The value's text, and the value ──
-pub text-part : (s : Bytes) (n : ℕ) → pathSlot < length s → n ≡ min (getD (take (length s - pathSlot) (drop pathSlot s)) 0 0) valueRoom → take ((1 + pathSlot) + n - (1 + pathSlot)) (drop (1 + pathSlot) s) ≡ textIn s
+pub text-part : (s : Bytes) (n : ℕ) → lengthAt < length s → n ≡ min (getD (take (length s - lengthAt) (drop lengthAt s)) 0 0) valueRoom → take ((1 + lengthAt) + n - (1 + lengthAt)) (drop (1 + lengthAt) s) ≡ textIn s
 unfolding textIn
-text-part s n h e = rw (add-sub-cancel-left, e, part-at pathSlot (length s - pathSlot) s 0 0 (omega arith))
+text-part s n h e = rw (add-sub-cancel-left, e, part-at lengthAt (length s - lengthAt) s 0 0 (omega arith))
 
 pub text-short : (s : Bytes) → length (textIn s) ≤ valueRoom
 unfolding textIn
@@ -42,6 +45,20 @@ module _ (s t : Bytes) (is : t ≡ textIn s) (r : ValueAt) (answer : scalars.val
   pub value-none : r ≡ Bad → truth false ≡ valueIn s
   unfolding valueIn
   value-none i = rw (← is, value-bad t 0 r answer i)
+
+-- the value of a slot is spelled within its room
+pub value-short : (s : Bytes) → length (valueText (valueIn s)) ≤ valueRoom
+unfolding valueIn
+value-short s = go (readValue (textIn s)) refl
+  where
+    go : (o : Option (Value × Bytes)) → readValue (textIn s) ≡ o → length (valueText (valueOr o)) ≤ valueRoom
+    go none e = spelling.value-length _ (unfold validValue in refl)
+    go (some t) e = spelling.value-length (t .0) (spelling.value-valid (textIn s) (t .1) (t .0) e)
+
+-- so it fills its room with zeros behind it
+pub value-long : (s : Bytes) → length (encodeName (1 + valueRoom) (valueText (valueIn s))) ≡ 1 + valueRoom
+unfolding encodeName
+value-long s = simp (length-append, length-replicate) (omega (arith, value-short s))
 
 -- ── The path is in the first bytes of a slot ──
 module _ (s p : Bytes) (same : take pathSlot s ≡ take pathSlot p) where
@@ -72,100 +89,116 @@ held-valid v valid =
     let all = take-all valueRoom (valueText v) (spelling.value-length v valid) in
     rw all (rw (rw append-nil at (spelling.value-reads v [] valid tt)))
 
--- ── A slot made of the path p and the value v ──
+-- ── A slot made of the path p, the mask m and the value v ──
 held-short : (v : Value) → length (heldText v) ≤ valueRoom
 held-short v = rw length-take (omega arith)
 
-module _ (p : Bytes) (v : Value) where
-  module _ (l : length p ≡ pathSlot) where
-    pub slot-long : length (slotOf p v) ≡ slotBytes
-    unfolding slotOf encodeName
-    slot-long = simp (length-append, length-replicate) (omega (arith, held-short v))
+module _ (p : Bytes) (m : ℕ) (v : Value) where
+  -- what stands before the value
+  abbrev head : Bytes
+  head = p ++ encodeMask m
 
-    slot-path : take pathSlot (slotOf p v) ≡ take pathSlot p
+  module _ (l : length p ≡ pathSlot) where
+    head-long : length head ≡ lengthAt
+    head-long = rw (length-append, mask-long) (omega arith)
+
+    pub slot-long : length (slotOf p m v) ≡ slotBytes
+    unfolding slotOf encodeName
+    slot-long = simp (length-append, length-replicate, mask-long) (omega (arith, held-short v))
+
+    slot-path : take pathSlot (slotOf p m v) ≡ take pathSlot p
     unfolding slotOf
-    slot-path = take-append-le pathSlot p _ (omega arith)
+    slot-path = take-append-le pathSlot head _ (omega (arith, head-long)) ∙ take-append-le pathSlot p _ (omega arith)
 
     -- the path's keys
-    pub slot-keys : pathIn (slotOf p v) ≡ pathIn p
-    slot-keys = path-same (slotOf p v) p slot-path
+    pub slot-keys : pathIn (slotOf p m v) ≡ pathIn p
+    slot-keys = path-same (slotOf p m v) p slot-path
 
-    pub slot-empty : isEmpty (slotOf p v) ≡ isEmpty p
-    slot-empty = empty-same (slotOf p v) p slot-path
+    pub slot-empty : isEmpty (slotOf p m v) ≡ isEmpty p
+    slot-empty = empty-same (slotOf p m v) p slot-path
 
-    slot-text : textIn (slotOf p v) ≡ heldText v
+    slot-text : textIn (slotOf p m v) ≡ heldText v
     unfolding slotOf textIn encodeName
     slot-text =
         let n = length (heldText v) in
         let rest = heldText v ++ replicate (1 + valueRoom - length (n ∷ heldText v)) 0 in
         let fits : min n valueRoom ≡ n = omega (arith, held-short v) in
-        rw (getD-at p n rest 0 pathSlot l, fits, ← drop-drop 1 pathSlot (p ++ n ∷ rest), drop-at p (n ∷ rest) pathSlot l)
+        rw (getD-at head n rest 0 lengthAt head-long, fits, ← drop-drop 1 lengthAt (head ++ n ∷ rest), drop-at head (n ∷ rest) lengthAt head-long)
         (take-append-seam (heldText v) _)
 
     -- the field of the keys, and of what is held of the value
-    pub slot-field : fieldIn (slotOf p v) ≡ fieldOf (pathIn p) (heldValue v)
+    pub slot-field : fieldIn (slotOf p m v) ≡ fieldOf (pathIn p) (heldValue v)
     unfolding fieldIn valueIn heldValue
     slot-field = rw (slot-keys, slot-text)
 
+    -- the mask
+    pub slot-readers : m < 2 ^ maxUsers → readersIn (slotOf p m v) ≡ m
+    unfolding slotOf readersIn
+    slot-readers h = rw (append-assoc p (encodeMask m) _, drop-at p _ pathSlot l) (mask-back m _ h)
+
     -- to store the slot is to store the value at the path
-    pub slot-stored : (fs : Fields) → storedIn (slotOf p v) fs ≡ storedAt p v fs
+    pub slot-stored : (fs : Fields) → storedIn (slotOf p m v) fs ≡ storedAt p v fs
     unfolding storedIn storedAt
     slot-stored fs = rw (slot-empty, slot-field)
 
   -- where the path is written as its keys are, and the value is within its limits
   module _ (proper : Proper p v) where
     -- the slot has the bytes that their field is written as
-    pub slot-encoded : slotOf p v ≡ encodeField (fieldOf (pathIn p) v)
+    pub slot-encoded : slotOf p m v ≡ encodeField m (fieldOf (pathIn p) v)
     unfolding slotOf encodeField
     slot-encoded =
         rw (take-all valueRoom (valueText v) (spelling.value-length v (proper .1)))
-        (ap (λ (q : Bytes). q ++ encodeName (1 + valueRoom) (valueText v)) (proper .0))
+        (ap (λ (q : Bytes). q ++ encodeMask m ++ encodeName (1 + valueRoom) (valueText v)) (proper .0))
 
-    pub slot-canonical : length p ≡ pathSlot → CanonicalField (slotOf p v)
-    slot-canonical l = slot-encoded ∙ rw (slot-field l, held-valid v (proper .1))
+    pub slot-canonical : length p ≡ pathSlot → m < 2 ^ maxUsers → CanonicalField (slotOf p m v)
+    slot-canonical l h = slot-encoded ∙ rw (slot-field l, slot-readers l h, held-valid v (proper .1))
 
--- ── A slot s of zeros that is filled with the path p and the value v ──
-pub record Filled (s p : Bytes) (v : Value) (out : Bytes) : Type 0 where
-  pub is : out ≡ slotOf p v
+-- ── A slot s of zeros that is filled with the path p, the mask m and the value v ──
+pub record Filled (s p : Bytes) (m : ℕ) (v : Value) (out : Bytes) : Type 0 where
+  pub is : out ≡ slotOf p m v
   pub long : length out ≡ length s
 
--- the path is copied, which gives q; the room for a text comes back as ys, with v's text up to e; n, which says its length, stands before it
+-- the path and the mask are written, which gives q; the room for a text comes back as ys, with v's text up to e; n, which says its length, stands before it
 module _
     (s p q ys : Bytes)
+    (m : ℕ)
     (v : Value)
-    (e n : ℕ)
+    (to e n : ℕ)
     (clean : s ≡ zeros slotBytes)
     (l : length p ≡ pathSlot)
-    (copied : q ≡ p ++ drop (length p) s)
-    (put : Wrote 0 (valueText v) (take (length q - (1 + pathSlot)) (drop (1 + pathSlot) q)) e ys)
+    (begun : Wrote 0 (head p m v) s to q)
+    (put : Wrote 0 (valueText v) (take (length q - (1 + lengthAt)) (drop (1 + lengthAt) q)) e ys)
     (byte : n ≡ min e valueRoom)
   where
-    -- the path and the byte behind it
+    -- the path, the mask and the byte behind them
     abbrev start : Bytes
-    start = p ++ 0 ∷ []
+    start = head p m v ++ 0 ∷ []
 
-    start-long : length start ≡ 1 + pathSlot
-    start-long = rw length-append (omega arith)
+    start-long : length start ≡ 1 + lengthAt
+    start-long = rw length-append (omega (arith, head-long p m v l))
 
-    copied-is : q ≡ start ++ zeros valueRoom
-    copied-is = copied ∙ rw (clean, l, drop-zeros pathSlot slotBytes, append-assoc)
+    begun-is : q ≡ start ++ zeros valueRoom
+    begun-is =
+        let h = head p m v in
+        let all : take (length s - 0) h ≡ h = take-all (length s - 0) h (omega (arith, head-long p m v l, ap length clean, length-replicate {A = ℕ} slotBytes 0)) in
+        begun .1 ∙ rw (written-clipped 0 h s, all, zero-add, clean, head-long p m v l, drop-zeros lengthAt slotBytes, append-assoc h)
 
-    room-is : take (length q - (1 + pathSlot)) (drop (1 + pathSlot) q) ≡ zeros valueRoom
-    room-is = tail-part (1 + pathSlot) q ∙ rw (copied-is, drop-at start (zeros valueRoom) (1 + pathSlot) start-long)
+    room-is : take (length q - (1 + lengthAt)) (drop (1 + lengthAt) q) ≡ zeros valueRoom
+    room-is = tail-part (1 + lengthAt) q ∙ rw (begun-is, drop-at start (zeros valueRoom) (1 + lengthAt) start-long)
 
     text-is : ys ≡ heldText v ++ zeros (valueRoom - length (valueText v))
     text-is = put .1 ∙ rw (room-is, written-clipped, zero-add, drop-zeros)
 
     abbrev out : Bytes
-    out = set (replaced (1 + pathSlot) (length q - (1 + pathSlot)) ys q) pathSlot n
+    out = set (replaced (1 + lengthAt) (length q - (1 + lengthAt)) ys q) lengthAt n
 
-    out-is : out ≡ slotOf p v
+    out-is : out ≡ slotOf p m v
     unfolding slotOf encodeName
     out-is =
         let says : n ≡ length (heldText v) = rw length-take (omega (arith, put .0)) in
         let rest : 1 + valueRoom - suc (length (heldText v)) ≡ valueRoom - length (valueText v) = rw length-take (omega arith) in
-        rw (tail-replaced (1 + pathSlot) q ys, copied-is, take-at start (zeros valueRoom) (1 + pathSlot) start-long)
-        (rw (append-assoc p (0 ∷ []) ys, set-at p 0 ys n pathSlot l, text-is, says, rest))
+        rw (tail-replaced (1 + lengthAt) q ys, begun-is, take-at start (zeros valueRoom) (1 + lengthAt) start-long)
+        (rw (append-assoc (head p m v) (0 ∷ []) ys, set-at (head p m v) 0 ys n lengthAt (head-long p m v l), text-is, says, rest))
 
-    pub filled : Filled s p v out
-    filled = record { is = out-is; long = ap length out-is ∙ slot-long p v l ∙ sym (ap length clean) }
+    pub filled : Filled s p m v out
+    filled = record { is = out-is; long = ap length out-is ∙ slot-long p m v l ∙ sym (ap length clean) }

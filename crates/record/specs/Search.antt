@@ -1,7 +1,9 @@
 -- Where the search for a path ends, and what is stored of a slot.
 use Prim.Native.Nat.{ℕ, suc}
-use mathlib.Core.List.{[], _∷_}
+use mathlib.Core.List.{List, [], _∷_}
 use lib.Dec.{ltb}
+use lib.ListN.{take, set}
+use Rattle.rows.specs.Rows.{insertAt}
 use Rattle.model.specs.Base.{Bytes, if_then_else_}
 use Rattle.model.specs.Limits.{maxFields}
 use Rattle.model.specs.Values.{Value}
@@ -23,9 +25,14 @@ unfoldable pub storedBytes : Place → Bytes → Bytes → Bytes
 storedBytes (At i) slot s = overRow slotBytes i slot s
 storedBytes (Before i) slot s = if ltb i maxFields then insertedRow slotBytes maxFields i slot s else s
 
--- and once a field is stored where the search for its path ends
-unfoldable pub storedField : Field → Bytes → Bytes
-storedField f s = storedBytes (placeIn 0 (f .path) (fieldsIn s)) (encodeField f) s
+-- and once a field is stored with a mask where the search for its path ends
+unfoldable pub storedField : ℕ → Field → Bytes → Bytes
+storedField m f s = storedBytes (placeIn 0 (f .path) (fieldsIn s)) (encodeField m f) s
+
+-- the masks, once a slot with a mask is stored
+unfoldable pub storedMasks : Place → ℕ → List ℕ → List ℕ
+storedMasks (At i) m ms = set ms i m
+storedMasks (Before i) m ms = take maxFields (insertAt i m ms)
 
 -- the fields, once a slot is stored; an empty slot changes nothing
 unfoldable pub storedIn : Bytes → Fields → Fields

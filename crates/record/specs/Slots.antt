@@ -3,13 +3,14 @@ use Prim.Native.Nat.{ℕ, _+_, _*_, min}
 use mathlib.Core.Path.{_≡_}
 use mathlib.Core.Option.{Option, none, some}
 use mathlib.Core.Bool.{true, false}
-use mathlib.Core.List.{[], _++_}
+use mathlib.Core.List.{List, [], _++_}
 use lib.ListN.{getD, take, drop}
-use Rattle.layout.specs.Layout.{table, encodeName, encodeTable, Canonical, CanonicalTable}
+use Rattle.layout.specs.Layout.{table, encodeName, encodeTable, CanonicalTable}
 use Rattle.model.specs.Base.{Bytes}
 use Rattle.model.specs.Limits.{maxString, maxFields}
 use Rattle.model.specs.Values.{Value, truth, readValue, valueText, validValue}
-use Rattle.model.specs.Fields.{Field, Fields, fieldOf}
+use Rattle.model.specs.Fields.{Keys, Field, Fields, fieldOf}
+use Rattle.masks.specs.Bits.{maskBytes, maskIn, encodeMask}
 use Rattle.paths.specs.Layout.{pathSlot, pathIn, encodePath, CanonicalPath}
 
 -- ── Sizes, in bytes ──
@@ -17,9 +18,12 @@ use Rattle.paths.specs.Layout.{pathSlot, pathIn, encodePath, CanonicalPath}
 abbrev pub valueRoom : ℕ
 valueRoom = maxString + 2
 
--- a slot: the path, how long the value's text is, and the text
+-- a slot: the path, the readers mask, how long the value's text is, and the text
+abbrev pub lengthAt : ℕ
+lengthAt = pathSlot + maskBytes
+
 abbrev pub slotBytes : ℕ
-slotBytes = pathSlot + 1 + valueRoom
+slotBytes = lengthAt + 1 + valueRoom
 
 abbrev pub recordBytes : ℕ
 recordBytes = maxFields * slotBytes
@@ -32,7 +36,7 @@ valueOr (some t) = t .0
 
 -- the text of a slot's value
 unfoldable pub textIn : Bytes → Bytes
-textIn s = take (min (getD s pathSlot 0) valueRoom) (drop (1 + pathSlot) s)
+textIn s = take (min (getD s lengthAt 0) valueRoom) (drop (1 + lengthAt) s)
 
 unfoldable pub valueIn : Bytes → Value
 valueIn s = valueOr (readValue (textIn s))
@@ -48,31 +52,44 @@ heldValue v = valueOr (readValue (heldText v))
 unfoldable pub fieldIn : Bytes → Field
 fieldIn s = fieldOf (pathIn s) (valueIn s)
 
+-- the mask of those who may read the field
+unfoldable pub readersIn : Bytes → ℕ
+readersIn s = maskIn (drop pathSlot s)
+
 -- the fields of a table: those of the slots before the first that is empty
 unfoldable pub fieldsIn : Bytes → Fields
 fieldsIn s = table fieldIn slotBytes maxFields s
+
+-- the masks that stand beside them
+unfoldable pub masksIn : Bytes → List ℕ
+masksIn s = table readersIn slotBytes maxFields s
 
 -- the i-th of some fields, where there is one
 unfoldable pub fieldAt : ℕ → Fields → Field
 fieldAt i fs = getD fs i (fieldOf [] (truth false))
 
 -- ── Every byte ──
--- a field: its path, and its value's text
-unfoldable pub encodeField : Field → Bytes
-encodeField f = encodePath (f .path) ++ encodeName (1 + valueRoom) (valueText (f .value))
+-- a field with a mask: its path, the mask, and its value's text
+unfoldable pub encodeField : ℕ → Field → Bytes
+encodeField m f = encodePath (f .path) ++ encodeMask m ++ encodeName (1 + valueRoom) (valueText (f .value))
 
-unfoldable pub encodeFields : Fields → Bytes
-encodeFields fs = encodeTable encodeField slotBytes maxFields fs
+-- fields, each with the mask of its path
+unfoldable pub encodeFields : (Keys → ℕ) → Fields → Bytes
+encodeFields mask fs = encodeTable (λ f. encodeField (mask (f .path)) f) slotBytes maxFields fs
 
 abbrev pub CanonicalField : Bytes → Type 0
-CanonicalField slot = Canonical encodeField fieldIn slot
+CanonicalField slot = slot ≡ encodeField (readersIn slot) (fieldIn slot)
 
 abbrev pub CanonicalFields : Bytes → Type 0
 CanonicalFields s = CanonicalTable CanonicalField slotBytes maxFields s
 
--- a slot made of a path's bytes and a value, as much of it as is held
-unfoldable pub slotOf : Bytes → Value → Bytes
-slotOf path v = path ++ encodeName (1 + valueRoom) (heldText v)
+-- a slot made of a path's bytes, a mask and a value, as much of it as is held
+unfoldable pub slotOf : Bytes → ℕ → Value → Bytes
+slotOf path m v = path ++ encodeMask m ++ encodeName (1 + valueRoom) (heldText v)
+
+-- a slot with another mask
+unfoldable pub withMask : ℕ → Bytes → Bytes
+withMask m slot = take pathSlot slot ++ encodeMask m ++ drop lengthAt slot
 
 -- a path written as its keys are, and a value within its limits
 abbrev pub Proper : Bytes → Value → Type 0

@@ -7,8 +7,11 @@ use layout::table::row_count;
 use lexical::limits::MAX_FIELDS;
 use lexical::limits::MAX_STRING;
 use lexical::slice::Order;
+use lexical::slice::is_behind;
+use masks::MASK;
 use paths::field::PATH;
 use paths::field::compare_paths;
+use paths::key::key_at;
 ghost use mathlib.Core.Path.{_≡_};
 ghost use mathlib.Core.Bool.{false};
 ghost use Prim.Native.Nat.{_*_, _≤_, _<_};
@@ -16,11 +19,13 @@ ghost use lib.ListN.{length, take, drop};
 ghost use Rattle.model.specs.Limits.{maxFields};
 ghost use Rattle.layout.specs.Layout.{isEmpty, Keeps};
 ghost use Rattle.paths.specs.Layout.{pathSlot, pathIn};
-ghost use Rattle.record.specs.Slots.{slotBytes, fieldsIn, CanonicalField, CanonicalFields};
-ghost use Rattle.record.specs.Search.{placeIn, storedBytes, storedIn};
+ghost use Rattle.record.specs.Slots.{slotBytes, readersIn, fieldsIn, masksIn, CanonicalField, CanonicalFields};
+ghost use Rattle.record.specs.Search.{placeIn, storedBytes, storedMasks, storedIn};
 
-// In a slot, behind the path: how long the value's text is, and room for the longest.
-pub const TEXT: usize = PATH + 1;
+// In a slot, behind the path: the readers mask, how long the value's text is, and room for the longest.
+pub const LENGTH: usize = PATH + MASK;
+
+pub const TEXT: usize = LENGTH + 1;
 
 pub const VALUE_ROOM: usize = 2 + MAX_STRING;
 
@@ -51,12 +56,36 @@ pub fn count(table: &[u8; RECORD]) -> usize
     row_count(table, SLOT, SLOTS)
 }
 
+// How far the search for a path comes by first keys alone: it passes the slots whose first key is before the path's, which are most.
+fn passed(table: &[u8; RECORD], path: &[u8]) -> usize
+    requires { ⌜ pathSlot ≤ length (now path) ⌝ }
+    ensures { λ r. ⌜ r ≤ length (fieldsIn (now (table .entry))) ⌝ }
+    ensures { λ r. ⌜ placeIn 0 (pathIn (now (path .entry))) (fieldsIn (now (table .entry))) ≡ placeIn r (pathIn (now (path .entry))) (drop r (fieldsIn (now (table .entry)))) ⌝ }
+{
+    if is_empty(path) {
+        return 0;
+    }
+    let first = key_at(path, 0);
+    let mut i: usize = 0;
+    while i < SLOTS {
+        let slot = slot_at(table, i);
+        if is_empty(slot) {
+            return i;
+        }
+        if !is_behind(first, key_at(slot, 0)) {
+            return i;
+        }
+        i += 1;
+    }
+    i
+}
+
 // Where the path of a slot stands in a table, or before which place it belongs.
 pub fn find(table: &[u8; RECORD], path: &[u8]) -> Place
     requires { ⌜ pathSlot ≤ length (now path) ⌝ }
     ensures { λ r. ⌜ r ≡ placeIn 0 (pathIn (now (path .entry))) (fieldsIn (now (table .entry))) ⌝ }
 {
-    let mut i: usize = 0;
+    let mut i: usize = passed(table, path);
     while i < SLOTS {
         let slot = slot_at(table, i);
         if is_empty(slot) {
@@ -76,6 +105,7 @@ pub fn find(table: &[u8; RECORD], path: &[u8]) -> Place
 pub fn store_at(table: &mut [u8; RECORD], place: Place, slot: &[u8; SLOT])
     requires { ⌜ (isEmpty (now slot) ≡ false) × (place ≡ placeIn 0 (pathIn (now slot)) (fieldsIn (now table))) ⌝ }
     ensures { λ _. ⌜ fieldsIn (now (table .exit)) ≡ storedIn (now (slot .entry)) (fieldsIn (now (table .entry))) ⌝ }
+    ensures { λ _. ⌜ masksIn (now (table .exit)) ≡ storedMasks place (readersIn (now (slot .entry))) (masksIn (now (table .entry))) ⌝ }
     ensures { λ _. ⌜ now (table .exit) ≡ storedBytes place (now (slot .entry)) (now (table .entry)) ⌝ }
 {
     match place {

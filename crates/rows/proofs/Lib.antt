@@ -4,4 +4,3 @@ pub mod Moves
 pub mod Writing
 pub mod Parts
 pub mod Positions
-pub mod Marks

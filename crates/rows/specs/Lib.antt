@@ -2,4 +2,3 @@
 pub mod Rows
 pub mod Moves
 pub mod Positions
-pub mod Marks

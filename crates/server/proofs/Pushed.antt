@@ -16,7 +16,7 @@ use Rattle.model.specs.Refusals.{Result, refused, _>>_, refuse_if_}
 use Rattle.model.specs.Tables.{userAt}
 use Rattle.model.specs.Opening.{State}
 use Rattle.model.specs.Requests as model
-use Rattle.model.specs.Serving.{Change, decidePush, roomFor, decide, apply, notified, shown, answerOf, over, conclude, line, decideLine, decision}
+use Rattle.model.specs.Serving.{Change, decidePush, roomFor, decide, apply, shown, answerOf, over, line}
 use Rattle.model.proofs.Lists.{and-both, elem-below}
 use Rattle.model.proofs.Reading.{check-some, within-bounds}
 use Rattle.model.proofs.Sound.{push-valid}
@@ -26,9 +26,9 @@ use Rattle.layout.specs.Layout.{keyRow, nameIn, isEmpty}
 use Rattle.layout.proofs.Counts.{length-counted}
 use Rattle.tables.specs.Memory.{userRow, userIn, usersIn, tablesIn}
 use Rattle.layout.proofs.Used.{length-table, used-fit}
-use Rattle.record.specs.Slots.{fieldsIn, slotOf, Proper}
+use Rattle.record.specs.Slots.{fieldsIn, masksIn, slotOf, Proper}
 use Rattle.record.specs.declared.table.Place.{Place}
-use Rattle.record.specs.Search.{placeIn, storedBytes, storedField, storedAt}
+use Rattle.record.specs.Search.{placeIn, storedBytes, storedMasks, storedField, storedAt}
 use Rattle.record.proofs.Slots.{held-valid, slot-encoded}
 use Rattle.sessions.specs.declared.LoginState as code
 use Rattle.sessions.specs.Logins.{loginsIn, stateOf, StateStored}
@@ -36,7 +36,7 @@ use Rattle.pushes.specs.declared.Ruling.{Ruling}
 use Rattle.pushes.specs.declared.Ruling.the-variants as ruling
 use Rattle.pushes.specs.Rulings.{rulingAnswer, pushDecided, RuledAs}
 use Rattle.deliveries.specs.Receivers.{Listed}
-use Rattle.deliveries.proofs.Received.{receivers-of}
+use Rattle.masks.specs.Readers.{readersOf}
 use Rattle.requests.specs.declared.Request.{Request}
 use Rattle.requests.specs.declared.Parsed.{Parsed}
 use Rattle.requests.specs.declared.Parsed.the-variants.{Is, Bad}
@@ -46,14 +46,15 @@ use Rattle.requests.specs.declared.Request.the-variants.{InSession}
 use Rattle.requests.specs.Lines.{requestIn, ReadsAs, RequestStands, PushStands, SlotAfter}
 use Rattle.opening.specs.Memory.{arrays, stateIn}
 use Rattle.server.specs.declared.answer.Reply.the-variants.{Accepted}
-use Rattle.server.specs.Replies.{outcomeIn, lent, Leaves}
+use Rattle.server.specs.Replies.{outcomeIn, lent, Decided}
+use Rattle.server.specs.Masked.{decideMasked, decideLineMasked, decisionMasked, maskAt, maskFor, notifiedMasked, concludeMasked, masksAfter, effectOf}
 
 -- ── A line s that was taken apart, its path in a slot ──
 module _ (s path : Bytes) {r : Parsed} (answer : ReadsAs model.requestOf s (pathIn path) r) where
   -- it cannot be taken apart
-  pub line-refused : r ≡ Bad → (st : State) (b : Bytes) (l : List ℕ) → decision st (line s b l) ≡ refused 11
-  unfolding decision decideLine
-  line-refused is st b l = rw (← answer .asks, is)
+  pub line-refused : r ≡ Bad → (st : State) (ms : List ℕ) (b : Bytes) (l : List ℕ) → decisionMasked st ms (line s b l) ≡ refused 11
+  unfolding decisionMasked decideLineMasked
+  line-refused is st ms b l = rw (← answer .asks, is)
 
   -- r says that it asks for something, which was matched with q
   module _ {asked q : Request} (is : r ≡ Is asked) (kind : asked ≡ q) where
@@ -67,10 +68,10 @@ module _ (s path : Bytes) {r : Parsed} (answer : ReadsAs model.requestOf s (path
     unfolding model.requestOf
     asked-short = check-some _ _ _ asks λ t k. leb-true _ _ t
 
-    pub line-decided : (st : State) (b : Bytes) (l : List ℕ)
-        → decision st (line s b l) ≡ decide st (requestIn s (pathIn path) q) (roomFor (requestIn s (pathIn path) q) b l)
-    unfolding decision decideLine
-    line-decided st b l = rw asks
+    pub line-decided : (st : State) (ms : List ℕ) (b : Bytes) (l : List ℕ)
+        → decisionMasked st ms (line s b l) ≡ decideMasked st ms (requestIn s (pathIn path) q) (roomFor (requestIn s (pathIn path) q) b l)
+    unfolding decisionMasked decideLineMasked
+    line-decided st ms b l = rw asks
 
 -- a push has keys, and a value within its limits
 pub push-asked : (s path : Bytes) {n : ℕ} {v : Value} → model.requestOf s ≡ some (model.inSession n (model.push (pathIn path) v))
@@ -93,10 +94,10 @@ module _ (tables : Bytes) (logins : List ℕ) (fields : Bytes) (n : ℕ) (path :
   p = pathIn path
 
   abbrev pushing : Value → ℕ → Result ℕ Change
-  pushing v room = decide (stateIn tables logins fields) (model.inSession n (model.push p v)) room
+  pushing v room = decideMasked (stateIn tables logins fields) (masksIn fields) (model.inSession n (model.push p v)) room
 
   push-decides : (room : ℕ) (v : Value) → pushing v room ≡ ((refuse 15 if ltb room listRoom) >> pushDecided (tablesIn tables) (loginsIn logins) (fieldsIn fields) n p v)
-  unfolding decide decidePush stateIn pushDecided refuse_if_ _>>_
+  unfolding decideMasked decide decidePush stateIn pushDecided refuse_if_ _>>_
   push-decides room v = refl
 
   pub push-short : (room : ℕ) → room < listRoom → (v : Value) → pushing v room ≡ refused 15
@@ -116,22 +117,25 @@ module _ (tables : Bytes) (logins : List ℕ) (fields : Bytes) (n : ℕ) (path :
 
       -- the index is a user's
       pub push-below : i < maxUsers
-      unfolding stateIn tablesIn usersIn userAt
+      unfolding stateIn tablesIn usersIn userAt decide decidePush decideMasked
       push-below =
           let stored = decided (stateIn tables logins fields) (model.inSession n (model.push p (truth false))) listRoom _ (push-ruled is listRoom (omega arith) (truth false)) in
           let below = elem-below (usersIn tables) i (stored .user) (stored .isUser) in
           omega (arith, below, length-table userIn userRow maxUsers tables, used-fit userRow maxUsers tables)
 
-      -- the numbers are listed, the login state is put, the value is stored
-      pub push-done : (b : Bytes) (l : List ℕ) → listRoom ≤ length l → {told : ℕ} {l₁ : List ℕ} (logins₁ : List ℕ) (fields₁ : Bytes)
-          → Listed tables logins i path l told l₁ → StateStored logins i (stateOf a) logins₁
-          → (v : Value) → fieldsIn fields₁ ≡ storedAt path v (fieldsIn fields) → fields₁ ≡ storedBytes at (slotOf path v) fields
+      -- the mask is the path's, the numbers are listed, the login state is put, the value is stored
+      pub push-done : (b : Bytes) (l : List ℕ) → listRoom ≤ length l → {told mask : ℕ} {l₁ : List ℕ} (logins₁ : List ℕ) (fields₁ : Bytes)
+          → mask ≡ maskAt at (readersOf (tablesIn tables) p) (masksIn fields)
+          → Listed logins i mask l told l₁ → StateStored logins i (stateOf a) logins₁
+          → (v : Value) → fieldsIn fields₁ ≡ storedAt path v (fieldsIn fields) → masksIn fields₁ ≡ storedMasks at mask (masksIn fields)
+          → fields₁ ≡ storedBytes at (slotOf path mask v) fields
           → isEmpty path ≡ false → Proper path v → (text : Bytes) (from : ℕ) → PushStands text p from v
-          → Leaves (pushing v (length l)) text (arrays tables logins fields) (lent b l) (Accepted told from) (arrays tables logins₁ fields₁) (lent b l₁)
-      unfolding outcomeIn stateIn conclude answerOf apply shown notified over storedAt storedField
-      push-done b l h logins₁ fields₁ reached state v stored bytes keyed proper text from stands = rw (push-ruled is (length l) h v) (record {
-        is = rw (reached .listed, reached .counted, state .states, stored, keyed, held-valid v (proper .1), receivers-of (stateIn tables logins fields) i p);
+          → Decided (pushing v (length l)) text (arrays tables logins fields) (lent b l) (Accepted told from) (arrays tables logins₁ fields₁) (lent b l₁)
+      unfolding outcomeIn stateIn effectOf concludeMasked masksAfter maskFor answerOf apply shown notifiedMasked over storedAt storedField
+      push-done b l h logins₁ fields₁ mask reached state v stored masks bytes keyed proper text from stands = rw (push-ruled is (length l) h v) (record {
+        is = rw (reached .listed, reached .counted, state .states, stored, keyed, held-valid v (proper .1), mask, push-place);
         logins = state .numbers;
-        fields = bytes ∙ rw (push-place, slot-encoded path v proper);
+        fields = bytes ∙ rw (mask, push-place, slot-encoded path _ v proper);
+        masks = masks ∙ rw (mask, push-place);
         position = stands;
       })

@@ -1,1 +1,3 @@
+pub mod Masked
 pub mod Replies
+pub mod Calls

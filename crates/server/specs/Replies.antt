@@ -11,7 +11,7 @@ use Rattle.model.specs.Fields.{Keys}
 use Rattle.model.specs.Refusals.{Result, refused, done}
 use Rattle.model.specs.Opening.{State}
 use Rattle.model.specs.Requests as model
-use Rattle.model.specs.Serving.{Change, setsLogin, shows, stores, roomFor, decide, Answer, refusal, session, length-is, accepted, line, save, decision, Outcome, conclude, outcome}
+use Rattle.model.specs.Serving.{Change, setsLogin, shows, stores, roomFor, Answer, refusal, session, length-is, accepted, Act, line, save, Outcome, outcome}
 use Rattle.values.specs.declared.value.Scalar.{Scalar}
 use Rattle.values.specs.Scalars.{valueIn, InText}
 use Rattle.layout.specs.Layout.{isEmpty}
@@ -19,9 +19,10 @@ use Rattle.paths.specs.Layout.{pathIn}
 use Rattle.record.specs.Slots.{Proper}
 use Rattle.record.specs.Search.{storedField}
 use Rattle.sessions.specs.Logins.{numbersAfter}
-use Rattle.opening.specs.Memory.{Arrays, arrays, stateIn, stateOf}
+use Rattle.opening.specs.Memory.{Arrays, arrays, stateIn, stateOf, masksOf, Agree}
 use Rattle.requests.specs.declared.Request.the-variants.{Login}
 use Rattle.requests.specs.Lines.{requestIn, PushStands}
+use Rattle.server.specs.Masked.{decideMasked, Effect, effectOf, effectMasked, effectSaid}
 use Rattle.server.specs.declared.answer.Reply.{Reply}
 use Rattle.server.specs.declared.answer.Reply.the-variants.{Refused, Session, Length, Accepted}
 
@@ -53,12 +54,12 @@ abbrev pub lent : Bytes → List ℕ → Lent
 lent buffer list = record { buffer = buffer; list = list }
 
 -- ── What is left, once it is decided what a request changes ──
--- the bytes of the fields: a field is stored in its place; what stores none keeps every byte
-abbrev pub fieldsAfter : Result ℕ Change → Bytes → Bytes
-fieldsAfter (refused e) before = before
-fieldsAfter (done (setsLogin i a)) before = before
-fieldsAfter (done (shows c)) before = before
-fieldsAfter (done (stores i a f)) before = storedField f before
+-- the bytes of the fields: a field is stored in its place, with the mask of its path; what stores none keeps every byte
+abbrev pub fieldsAfter : (Keys → ℕ) → Result ℕ Change → Bytes → Bytes
+fieldsAfter mask (refused e) before = before
+fieldsAfter mask (done (setsLogin i a)) before = before
+fieldsAfter mask (done (shows c)) before = before
+fieldsAfter mask (done (stores i a f)) before = storedField (mask (f .path)) f before
 
 -- from the position on stands what is pushed; 0 where nothing is
 abbrev pub StandsAt : Result ℕ Change → Bytes → ℕ → Type 0
@@ -74,20 +75,34 @@ Position (Session n) d text = Unit {0}
 Position (Length n) d text = Unit {0}
 Position (Accepted k at) d text = StandsAt d text at
 
--- a line for which d was decided: the reply with all that it left, in meaning; the login states and the fields in memory; the reply's position
-pub record Leaves (d : Result ℕ Change) (text : Bytes) (before : Arrays) (given : Lent) (r : Reply) (after : Arrays) (left : Lent) : Type 0 where
-  pub is : outcomeIn r (stateOf after) (left .buffer) (left .list) ≡ conclude (stateOf before) (given .buffer) (given .list) d
-  pub logins : after .logins ≡ numbersAfter d (before .logins)
-  pub fields : after .fields ≡ fieldsAfter d (before .fields)
-  pub position : Position r d text
+-- a line has its effect: the reply with all that it left, in meaning; the login states, the fields and the masks in memory; the reply's position
+pub record Leaves (w : Effect) (text : Bytes) (before : Arrays) (r : Reply) (after : Arrays) (left : Lent) : Type 0 where
+  pub is : outcomeIn r (stateOf after) (left .buffer) (left .list) ≡ w .outcome
+  pub logins : after .logins ≡ numbersAfter (w .decided) (before .logins)
+  pub fields : after .fields ≡ fieldsAfter (w .mask) (w .decided) (before .fields)
+  pub masks : masksOf after ≡ w .masks
+  pub position : Position r (w .decided) text
 
--- a line, with the buffer and the list that were lent, is served as document 01 says
+-- a line with what is lent to it
+abbrev pub act : Bytes → Lent → Act
+act text given = line text (given .buffer) (given .list)
+
+-- a line is served by the masks, whatever the arrays hold
+abbrev pub ServedMasked : Arrays → Bytes → Lent → Reply → Arrays → Lent → Type 0
+ServedMasked before text given r after left = Leaves (effectMasked (stateOf before) (masksOf before) (act text given)) text before r after left
+
+-- where the masks agree with the policy it is served as documents 01 and 02 say, and they agree again
 abbrev pub Served : Arrays → Bytes → Lent → Reply → Arrays → Lent → Type 0
-Served before text given r after left = Leaves (decision (stateOf before) (line text (given .buffer) (given .list))) text before given r after left
+Served before text given r after left = Agree before → Leaves (effectSaid (stateOf before) (act text given)) text before r after left × Agree after
 
--- so is a request that was taken from a line
+-- d was decided for a line
+abbrev pub Decided : Result ℕ Change → Bytes → Arrays → Lent → Reply → Arrays → Lent → Type 0
+Decided d text before given r after left = Leaves (effectOf (stateOf before) (masksOf before) (given .buffer) (given .list) d) text before r after left
+
+-- a request that was taken from a line is served by the masks
 abbrev pub Answered : Arrays → Bytes → model.Request → Lent → Reply → Arrays → Lent → Type 0
-Answered before text q given r after left = Leaves (decide (stateOf before) q (roomFor q (given .buffer) (given .list))) text before given r after left
+Answered before text q given r after left =
+    Decided (decideMasked (stateOf before) (masksOf before) q (roomFor q (given .buffer) (given .list))) text before given r after left
 
 -- LOGIN in a line, whatever the fields, the buffer and the list, which stay
 abbrev pub LoginServed : Bytes → List ℕ → Bytes → ℕ → ℕ → Reply → List ℕ → Type 0

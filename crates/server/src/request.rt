@@ -5,14 +5,16 @@ use crate::open::RECORD;
 use crate::open::TABLES;
 use copies::put_copy;
 use copies::put_head;
-use copies::select;
 use deliveries::put_receivers;
 use layout::table::row_at;
 use lexical::limits::LIST_ROOM;
 use paths::field::PATH;
 use pushes::Ruling;
 use pushes::decide;
+use record::slot::readers as slot_readers;
 use record::slot::store_value_at;
+use record::table::Place;
+use record::table::slot_at;
 use requests::Ask;
 use requests::Parsed;
 use requests::Request;
@@ -25,14 +27,21 @@ use sessions::session;
 use sessions::state_at;
 use tables::memory::USER;
 use tables::memory::policy_of;
+use tables::rights::readers;
 use values::value::Scalar;
 use writer::saved::MOST_SAVED;
 ghost use Prim.Native.Nat.{_≤_, _<_};
 ghost use lib.ListN.{length};
 ghost use Rattle.values.specs.Scalars.{valueIn};
 ghost use Rattle.paths.specs.Layout.{pathIn};
+ghost use mathlib.Core.Path.{_≡_};
+ghost use Rattle.masks.specs.Readers.{readersOf};
+ghost use Rattle.tables.specs.Memory.{tablesIn};
+ghost use Rattle.record.specs.Slots.{fieldsIn, masksIn};
+ghost use Rattle.record.specs.Search.{placeIn};
 ghost use Rattle.opening.specs.Memory.{arrays};
-ghost use Rattle.server.specs.Replies.{lent, Served, LoginServed, GetServed, PushServed, LogoutServed, Storable};
+ghost use Rattle.server.specs.Masked.{maskAt};
+ghost use Rattle.server.specs.Replies.{lent, ServedMasked, Served, LoginServed, GetServed, PushServed, LogoutServed, Storable};
 
 // LOGIN, the user in the line from a position up to the `;` at `cut`, behind which the key stands.
 fn login(
@@ -70,16 +79,26 @@ fn get(
     };
     let user = row_at(tables, USER, i);
     let policy = policy_of(tables);
-    let shown = select(policy, user, fields);
     let head = put_head(&mut buffer[..0], 0, policy, user);
     if buffer.len() <= head + MOST_SAVED {
-        let length = put_copy(&mut buffer[..0], 0, policy, user, fields, &shown);
+        let length = put_copy(&mut buffer[..0], 0, policy, user, fields, i);
         if buffer.len() < length {
             return Reply::Refused(15);
         }
     }
-    let length = put_copy(buffer, 0, policy, user, fields, &shown);
+    let length = put_copy(buffer, 0, policy, user, fields, i);
     Reply::Length(length)
+}
+
+// The mask of a path, found at a place: the one beside the field that is held there, or made from the policy.
+fn mask_for(tables: &[u8; TABLES], fields: &[u8; RECORD], place: Place, path: &[u8; PATH]) -> u32
+    requires { ⌜ place ≡ placeIn 0 (pathIn (now path)) (fieldsIn (now fields)) ⌝ }
+    ensures { λ r. ⌜ r ≡ maskAt place (readersOf (tablesIn (now (tables .entry))) (pathIn (now (path .entry)))) (masksIn (now (fields .entry))) ⌝ }
+{
+    match place {
+        Place::At(at) => slot_readers(slot_at(fields, at)),
+        Place::Before(_) => readers(tables, path),
+    }
 }
 
 // PUSH of what stands in the line from a position on: the list is filled before anything is changed.
@@ -107,9 +126,10 @@ fn push(
     match ruling {
         Ruling::Refused(e) => Reply::Refused(e),
         Ruling::Stores(i, state, place) => {
-            let told = put_receivers(list, tables, logins, i, path);
+            let mask = mask_for(tables, fields, place, path);
+            let told = put_receivers(list, logins, i, mask);
             put_state(logins, i, state);
-            store_value_at(fields, place, path, value, line);
+            store_value_at(fields, place, path, mask, value, line);
             Reply::Accepted(told, at)
         }
     }
@@ -127,7 +147,7 @@ fn logout(tables: &[u8; TABLES], logins: &mut [u16; LOGINS], n: u32) -> Reply
     Reply::Accepted(0, 0)
 }
 
-// A line of any bytes, with any buffer and any list.
+// A line of any bytes, with any buffer and any list: by the masks, whatever they are; as documents 01 and 02 say where they agree with the policy, as they then do again.
 pub fn request(
     tables: &[u8; TABLES],
     logins: &mut [u16; LOGINS],
@@ -136,6 +156,11 @@ pub fn request(
     buffer: &mut [u8],
     list: &mut [u32],
 ) -> Reply
+    ensures { λ r. ⌜ ServedMasked
+        (arrays (now (tables .entry)) (now (logins .entry)) (now (fields .entry)))
+        (now (line .entry)) (lent (now (buffer .entry)) (now (list .entry))) r
+        (arrays (now (tables .entry)) (now (logins .exit)) (now (fields .exit)))
+        (lent (now (buffer .exit)) (now (list .exit))) ⌝ }
     ensures { λ r. ⌜ Served
         (arrays (now (tables .entry)) (now (logins .entry)) (now (fields .entry)))
         (now (line .entry)) (lent (now (buffer .entry)) (now (list .entry))) r

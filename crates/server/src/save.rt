@@ -1,8 +1,8 @@
 // The saved text of the whole record.
 use crate::answer::Reply;
 use crate::open::RECORD;
-use record::table::SLOTS;
 use writer::saved::MOST_SAVED;
+use writer::saved::Shown;
 use writer::saved::put_saved;
 ghost use Rattle.server.specs.Replies.{Saved};
 
@@ -10,13 +10,12 @@ ghost use Rattle.server.specs.Replies.{Saved};
 pub fn save(fields: &[u8; RECORD], buffer: &mut [u8]) -> Reply
     ensures { λ r. ⌜ Saved (now (fields .entry)) (now (buffer .entry)) r (now (buffer .exit)) ⌝ }
 {
-    let all = [1u8; SLOTS];
     if buffer.len() < MOST_SAVED {
-        let length = put_saved(&mut buffer[..0], 0, fields, &all);
+        let length = put_saved(&mut buffer[..0], 0, fields, Shown::All);
         if buffer.len() < length {
             return Reply::Refused(15);
         }
     }
-    let length = put_saved(buffer, 0, fields, &all);
+    let length = put_saved(buffer, 0, fields, Shown::All);
     Reply::Length(length)
 }

@@ -1,28 +1,31 @@
--- Whom a line lets read a path, and the marks of the users while a loop over the lines sets them.
-use Prim.Native.Nat.{ℕ, zero, suc, _+_, _*_, _-_, _≤_, _<_}
+-- Whom a line lets read a path, and the mask of those who may, while loops over the users and the lines set its bits.
+use Prim.Native.Nat.{ℕ, _+_, _*_, _-_, _^_, _≤_, _<_}
 use mathlib.Core.Path.{_≡_, refl, sym, _∙_}
-use mathlib.Core.Bool.{Bool, true, false, not, _||_, cond, and-false, or-true, or-false, or-assoc}
+use mathlib.Core.Bool.{Bool, true, false, _&&_, _||_, and-false, or-true, or-false, or-assoc}
 use mathlib.Core.Option.{Option, none, some}
 use mathlib.Core.List.{List, [], _∷_}
 use native.Mathlib.Omega.{arith}
+use borrow.Author.Tests.{eqb-true}
 use lib.Dec.{eqb}
-use lib.ListN.{length, getD, getElem?, take, drop, replicate}
-use Rattle.rows.specs.Marks.{marked}
-use Rattle.layout.proofs.Used.{table-fit}
+use lib.ListN.{length, take, drop}
 use Rattle.rows.proofs.Parts.{tail-part}
-use Rattle.rows.proofs.Marks.{passes, length-marked, marked-at}
 use Rattle.model.specs.Base.{Bytes, any}
 use Rattle.model.specs.Limits.{maxUsers, maxRules}
 use Rattle.model.specs.Fields.{Keys}
 use Rattle.model.specs.Tables.{User, Rule, userAt}
 use Rattle.model.specs.Rights.{mayRead}
 use Rattle.model.specs.Serving.{readsBy, readsAt}
+use Rattle.model.proofs.Lists.{by-cases}
+use Rattle.masks.specs.Bits.{bitAt}
+use Rattle.masks.specs.Readers.{readersOf}
+use Rattle.masks.proofs.Bits.{mask-is, no-bits, SetBelow, below-set, below-skip, below-end}
 use Rattle.steps.specs.Steps.{stepsIn}
 use Rattle.layout.specs.Layout.{inUse}
 use Rattle.matching.specs.Parts.{mayMatch}
 use Rattle.matching.proofs.Matched.{matches-not}
 use Rattle.tables.specs.Memory.{userRow, usersBytes, ruleRow, pathAt, userIn, usersIn, ruleIn, policyIn, tablesIn}
-use Rattle.tables.specs.Grants.{givesRead, isMarked}
+use Rattle.tables.specs.Grants.{givesRead, readsByLine}
+use Rattle.tables.proofs.Users.{user-none, user-some}
 use Rattle.tables.proofs.Policy.{rule-left, rules-over}
 
 -- ── A user may read a path by no line, by the first line, or by the later ones ──
@@ -32,8 +35,8 @@ reads-none p none = refl
 reads-none p (some u) = refl
 
 module _ (p : Keys) (r : Rule) where
-  reads-more : (rs : List Rule) (o : Option User) → readsBy (r ∷ rs) o p ≡ (passes (givesRead p r) o || readsBy rs o p)
-  unfolding readsBy mayRead any passes givesRead
+  reads-more : (rs : List Rule) (o : Option User) → readsBy (r ∷ rs) o p ≡ (readsByLine p r o || readsBy rs o p)
+  unfolding readsBy mayRead any readsByLine givesRead
   reads-more rs none = refl
   reads-more rs (some u) = refl
 
@@ -43,51 +46,63 @@ module _ (p : Keys) (r : Rule) where
   reads-same rs none h = refl
   reads-same rs (some u) h = rw (matches-not (u .environment) (r .path) p h, and-false)
 
--- ── Marks ──
-unmarked : (n j : ℕ) → isMarked (replicate n 0) j ≡ false
-unfolding isMarked
-unmarked zero j = refl
-unmarked (suc n) zero = refl
-unmarked (suc n) (suc j) = unmarked n j
+-- ── The bit of one user, at j, by one line, of which b says whether it gives the right ──
+module _ (m j k : ℕ) (b : Bool) where
+  -- who is marked already stays so
+  pub marked-before : bitAt m j ≡ true → bitAt m k ≡ (bitAt m k || (eqb k j && b))
+  marked-before h = by-cases (eqb k j)
+      (λ e. let q : k ≡ j = eqb-true k j e in rw (q, h))
+      (λ e. rw e (sym (or-false (bitAt m k))))
 
--- who was marked, and whom the test passes
-is-marked : {A : Type 0} (test : A → Bool) (xs : List A) (bs : Bytes) (j : ℕ) → length xs ≤ length bs
-    → isMarked (marked test xs bs) j ≡ (isMarked bs j || passes test (getElem? xs j))
-unfolding isMarked
-is-marked test xs bs j h = rw (marked-at test xs bs j h) (go (passes test (getElem? xs j)))
-  where
-    go : (t : Bool) → not (eqb (cond t 1 (getD bs j 0)) 0) ≡ (not (eqb (getD bs j 0) 0) || t)
-    go true = sym (or-true (not (eqb (getD bs j 0) 0)))
-    go false = sym (or-false (not (eqb (getD bs j 0) 0)))
+  pub marked-not : b ≡ false → bitAt m k ≡ (bitAt m k || (eqb k j && b))
+  marked-not h = rw (h, and-false (eqb k j)) (sym (or-false (bitAt m k)))
 
--- ── A loop over the lines of the policy, the bytes q: each user who may read is marked, or may by a line that is left at i ──
-unfoldable pub ReadersLeft : Bytes → Bytes → Keys → ℕ → Bytes → Type 0
-ReadersLeft s q p i marks =
-    (length marks ≡ maxUsers) × ((j : ℕ) → readsAt (tablesIn s) j p ≡ (isMarked marks j || readsBy (drop i (policyIn q)) (userAt (usersIn s) j) p))
+  pub marked-now : b ≡ true → (eqb k j || bitAt m k) ≡ (bitAt m k || (eqb k j && b))
+  marked-now h = rw h (by-cases (eqb k j) (λ e. rw e (sym (or-true (bitAt m k)))) (λ e. rw e (sym (or-false (bitAt m k)))))
 
--- nobody is marked at the start; the policy stands behind the users
-pub readers-start : (s q : Bytes) (p : Keys) → q ≡ drop usersBytes s → ReadersLeft s q p 0 (replicate maxUsers 0)
+-- ── A loop over the users, for one line ──
+-- m rows were counted, and the users below j were asked
+module _ (s : Bytes) (p : Keys) (r : Rule) {m : ℕ} (counted : m ≡ length (inUse userRow maxUsers s)) (m₀ j mask : ℕ)
+    (left : SetBelow (λ k. readsByLine p r (userAt (usersIn s) k)) m₀ j mask) where
+  -- the user in the row at j is asked
+  pub user-asked : j < m → {row : Bytes} → row ≡ take userRow (drop (j * userRow) s) → (new : ℕ)
+      → ((k : ℕ) → bitAt new k ≡ (bitAt mask k || (eqb k j && givesRead p r (userIn row))))
+      → SetBelow (λ k. readsByLine p r (userAt (usersIn s) k)) m₀ (j + 1) new
+  unfolding SetBelow
+  user-asked below {row} here new e =
+      let is : readsByLine p r (userAt (usersIn s) j) ≡ givesRead p r (userIn row) = unfold readsByLine in rw (user-some s counted j below here) in
+      by-cases (givesRead p r (userIn row))
+      (λ y. below-set (λ k. readsByLine p r (userAt (usersIn s) k)) m₀ j mask left new (is ∙ y) (λ k. e k ∙ sym (marked-now mask j k _ y)))
+      (λ n k. e k ∙ sym (marked-not mask j k _ n) ∙ below-skip (λ k. readsByLine p r (userAt (usersIn s) k)) m₀ j mask left (is ∙ n) k)
+
+  pub all-asked : m ≤ j → (k : ℕ) → bitAt mask k ≡ (bitAt m₀ k || readsByLine p r (userAt (usersIn s) k))
+  unfolding readsByLine
+  all-asked h = below-end (λ k. readsByLine p r (userAt (usersIn s) k)) m₀ j mask left (λ k l. rw (user-none s counted k (omega arith)))
+
+-- ── A loop over the lines of the policy, the bytes q: the bit of each user who may read is set, or the user may by a line that is left at i ──
+unfoldable pub ReadersLeft : Bytes → Bytes → Keys → ℕ → ℕ → Type 0
+ReadersLeft s q p i mask = (j : ℕ) → readsAt (tablesIn s) j p ≡ (bitAt mask j || readsBy (drop i (policyIn q)) (userAt (usersIn s) j) p)
+
+-- no bit is set at the start; the policy stands behind the users
+pub readers-start : (s q : Bytes) (p : Keys) → q ≡ drop usersBytes s → ReadersLeft s q p 0 0
 unfolding ReadersLeft readsAt tablesIn
-readers-start s q p is = (refl, λ j. rw (unmarked maxUsers j, is))
+readers-start s q p is j = rw (no-bits j, is)
 
 -- m rows were counted
-module _ (s q : Bytes) (p : Keys) {m : ℕ} (counted : m ≡ length (inUse ruleRow maxRules q)) (i : ℕ) (marks : Bytes) (left : ReadersLeft s q p i marks) where
-  pub readers-end : m ≤ i → (j : ℕ) → isMarked marks j ≡ readsAt (tablesIn s) j p
-  unfolding ReadersLeft
-  readers-end h j = sym (left .1 j ∙ rw (rules-over q counted i h, reads-none) (or-false _))
+module _ (s q : Bytes) (p : Keys) {m : ℕ} (counted : m ≡ length (inUse ruleRow maxRules q)) (i mask : ℕ) (left : ReadersLeft s q p i mask) where
+  pub readers-end : m ≤ i → mask < 2 ^ maxUsers → mask ≡ readersOf (tablesIn s) p
+  unfolding ReadersLeft readersOf
+  readers-end h fits =
+      mask-is (λ j. readsAt (tablesIn s) j p) maxUsers mask fits (λ j. sym (left j ∙ rw (rules-over q counted i h, reads-none) (or-false _)))
 
-  -- the line in the row at i may not match, or those whom it lets read are marked
+  -- the line in the row at i may not match, or the bits of those whom it lets read are set
   module _ (below : i < m) {row : Bytes} (here : row ≡ take ruleRow (drop (i * ruleRow) q)) where
-    pub readers-same : mayMatch (stepsIn (take (length row - pathAt) (drop pathAt row))) p ≡ false → ReadersLeft s q p (i + 1) marks
+    pub readers-same : mayMatch (stepsIn (take (length row - pathAt) (drop pathAt row))) p ≡ false → ReadersLeft s q p (i + 1) mask
     unfolding ReadersLeft ruleIn
-    readers-same h =
+    readers-same h j =
         let no : mayMatch (ruleIn row .path) p ≡ false = rw (tail-part pathAt row) at h in
-        (left .0, λ j. left .1 j ∙ rw (rule-left q counted i below here, reads-same p (ruleIn row) (drop (i + 1) (policyIn q)) (userAt (usersIn s) j) no))
+        left j ∙ rw (rule-left q counted i below here, reads-same p (ruleIn row) (drop (i + 1) (policyIn q)) (userAt (usersIn s) j) no)
 
-    pub readers-more : {new : Bytes} → new ≡ marked (givesRead p (ruleIn row)) (usersIn s) marks → ReadersLeft s q p (i + 1) new
-    unfolding ReadersLeft userAt usersIn
-    readers-more e =
-        let fit : length (usersIn s) ≤ length marks = omega (arith, left .0, table-fit userIn userRow maxUsers s) in (
-          rw (e, length-marked (givesRead p (ruleIn row)) (usersIn s) marks) (left .0),
-          λ j. left .1 j ∙ rw (rule-left q counted i below here, reads-more p (ruleIn row), e, is-marked (givesRead p (ruleIn row)) (usersIn s) marks j fit, or-assoc),
-        )
+    pub readers-more : (new : ℕ) → ((k : ℕ) → bitAt new k ≡ (bitAt mask k || readsByLine p (ruleIn row) (userAt (usersIn s) k))) → ReadersLeft s q p (i + 1) new
+    unfolding ReadersLeft
+    readers-more new e j = left j ∙ rw (rule-left q counted i below here, reads-more p (ruleIn row), e j, or-assoc)

@@ -1,3 +1,3 @@
-// Saved text out: the fields of a table, or those that a selection shows, as nested objects in order.
+// Saved text out: the fields of a table, all or those that one user may read, as nested objects in order.
 pub mod saved;
 pub mod turn;

@@ -1,4 +1,4 @@
-// The saved text of the fields that a selection shows.
+// The saved text of the fields that are shown.
 use crate::turn::put_braces;
 use crate::turn::put_descent;
 use crate::turn::put_turn;
@@ -8,6 +8,8 @@ use layout::counted::count;
 use layout::table::is_empty;
 use lexical::limits::MAX_DEPTH;
 use lexical::limits::MAX_KEY;
+use masks::has_bit;
+use record::slot::readers;
 use record::slot::value_text;
 use record::table::RECORD;
 use record::table::SLOTS;
@@ -19,10 +21,12 @@ ghost use mathlib.Core.Path.{_≡_};
 ghost use Prim.Native.Nat.{_+_, _≤_, _<_, _^_};
 ghost use lib.ListN.{length, drop};
 ghost use Rattle.rows.specs.Rows.{Wrote};
+ghost use Rattle.model.specs.Limits.{maxFields};
 ghost use Rattle.model.specs.Values.{valueText};
 ghost use Rattle.model.specs.SavedText.{saved};
-ghost use Rattle.record.specs.Slots.{valueRoom, slotBytes, valueIn, fieldsIn};
-ghost use Rattle.writer.specs.Selected.{mostSaved, selected, shownFrom};
+ghost use Rattle.layout.specs.Layout.{inUse};
+ghost use Rattle.record.specs.Slots.{valueRoom, slotBytes, valueIn};
+ghost use Rattle.writer.specs.Selected.{mostSaved, isShown, Placed, shownFrom, shownIn};
 
 // No saved text of all slots is longer, whatever they hold.
 pub const MOST_SAVED: usize = SLOTS * (SAVED_FIELD + 1);
@@ -30,17 +34,35 @@ pub const MOST_SAVED: usize = SLOTS * (SAVED_FIELD + 1);
 // A field behind another: braces, a comma, keys in quotes with colons and braces, and the value.
 const SAVED_FIELD: usize = (MAX_KEY + 5) * MAX_DEPTH + VALUE_ROOM;
 
-// The place of the first field from i on that the selection shows, or the number of slots.
-fn next_shown(table: &[u8; RECORD], shown: &[u8; SLOTS], i: usize) -> usize
-    requires { ⌜ i ≤ length (fieldsIn (now table)) ⌝ }
-    ensures { λ r. ⌜ r ≡ shownFrom i (drop i (now (shown .entry))) (drop i (fieldsIn (now (table .entry)))) ⌝ }
+// Which fields are shown: all, or those whose mask has the bit of a user's place.
+pub enum Shown {
+    All,
+    To(usize),
+}
+
+// Whether the field in a slot is shown.
+fn is_shown(shown: Shown, slot: &[u8]) -> bool
+    requires { ⌜ (length (now slot) ≡ slotBytes) × Placed shown ⌝ }
+    ensures { λ r. ⌜ r ≡ isShown shown (now (slot .entry)) ⌝ }
+{
+    match shown {
+        Shown::All => true,
+        Shown::To(i) => has_bit(readers(slot), i),
+    }
+}
+
+// The place of the first field from i on that is shown, or the number of slots.
+fn next_shown(table: &[u8; RECORD], shown: Shown, i: usize) -> usize
+    requires { ⌜ (i ≤ length (inUse slotBytes maxFields (now table))) × Placed shown ⌝ }
+    ensures { λ r. ⌜ r ≡ shownFrom shown i (drop i (inUse slotBytes maxFields (now (table .entry)))) ⌝ }
 {
     let mut j = i;
     while j < SLOTS {
-        if is_empty(slot_at(table, j)) {
+        let slot = slot_at(table, j);
+        if is_empty(slot) {
             return SLOTS;
         }
-        if shown[j] != 0 {
+        if is_shown(shown, slot) {
             return j;
         }
         j += 1;
@@ -61,10 +83,10 @@ fn put_held(out: &mut [u8], at: usize, slot: &[u8]) -> usize
     put(out, at, &text[..end])
 }
 
-// The saved text of the fields that the selection shows: those whose byte in it is not 0.
-pub fn put_saved(out: &mut [u8], at: usize, table: &[u8; RECORD], shown: &[u8; SLOTS]) -> usize
-    requires { ⌜ at + mostSaved < 2 ^ 64 ⌝ }
-    ensures { λ r. ⌜ Wrote at (saved (selected (now (shown .entry)) (fieldsIn (now (table .entry))))) (now (out .entry)) r (now (out .exit)) ⌝ }
+// The saved text of the fields that are shown.
+pub fn put_saved(out: &mut [u8], at: usize, table: &[u8; RECORD], shown: Shown) -> usize
+    requires { ⌜ (at + mostSaved < 2 ^ 64) × Placed shown ⌝ }
+    ensures { λ r. ⌜ Wrote at (saved (shownIn shown (now (table .entry)))) (now (out .entry)) r (now (out .exit)) ⌝ }
     ensures { λ r. ⌜ r ≤ at + mostSaved ⌝ }
 {
     let mut i = next_shown(table, shown, 0);

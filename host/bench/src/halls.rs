@@ -15,12 +15,37 @@ const ENGINES: usize = 32;
 const ENGINE_FIELDS: usize = 8;
 const OWN: usize = 4;
 
-/// Lines of a recorded day.
-const DAY: usize = 20_000;
 const DAY_SEED: u64 = 1871;
 
 /// Session numbers of one user lie within one such range.
 const RANGE: usize = 65_536;
+
+/// What a day is made of.
+#[derive(Clone, Copy)]
+pub struct Mix {
+    pub lines: usize,
+    /// Of a thousand lines, how many are of a kind; the rest are logins, which
+    /// are refused while the user is in.
+    pub gets: usize,
+    pub held_pushes: usize,
+    pub new_pushes: usize,
+    pub forbidden: usize,
+    /// While all are in, one line in so many is a logout.
+    pub leaving: usize,
+    /// One line in so many is cut short.
+    pub cut: usize,
+}
+
+/// A short day, with something of everything.
+const DAY: Mix = Mix {
+    lines: 20_000,
+    gets: 120,
+    held_pushes: 720,
+    new_pushes: 60,
+    forbidden: 60,
+    leaving: 50,
+    cut: 50,
+};
 
 pub struct Hall {
     pub texts: Texts,
@@ -33,7 +58,8 @@ pub struct Hall {
     /// Pushes of new fields, within the allowances.
     pub new_pushes: Vec<Line>,
     /// Pushes that are refused.
-    forbidden: Vec<Line>,
+    pub forbidden: Vec<Line>,
+    pub mix: Mix,
 }
 
 impl Hall {
@@ -62,6 +88,7 @@ impl Hall {
                 "PUSH;1;$['e1']['cv']['29'];\"new\"",
             ]),
             forbidden: lines(&["PUSH;65537;$['e7']['cv']['1'];4", "PUSH;131073;$['e9']['note'];1"]),
+            mix: DAY,
         }
     }
 
@@ -92,6 +119,7 @@ impl Hall {
             held_pushes: (0..USERS).flat_map(|user| held_pushes(user, engines)).collect(),
             new_pushes: (0..USERS).flat_map(new_pushes).collect(),
             forbidden: (0..USERS).map(|user| push(user, engine_name(0), "name", "\"x\"")).collect(),
+            mix: DAY,
         }
     }
 
@@ -107,9 +135,9 @@ impl Hall {
         let mut rng = Rng::new(DAY_SEED);
         let mut seats = Seats::new(self.logins.len());
         let mut day = self.logins.clone();
-        while day.len() < DAY {
+        while day.len() < self.mix.lines {
             let line = match seats.out {
-                None if rng.below(50) == 0 => seats.leave(&self.logouts, &mut rng),
+                None if rng.below(self.mix.leaving) == 0 => seats.leave(&self.logouts, &mut rng),
                 Some(user) if rng.below(5) == 0 => self.logins[user].clone(),
                 _ => self.any_line(&seats, &mut rng),
             };
@@ -123,19 +151,31 @@ impl Hall {
 
     /// A line of any user; a few are cut short.
     fn any_line(&self, seats: &Seats, rng: &mut Rng) -> Line {
-        let kind = match rng.below(100) {
-            0..=11 => &self.gets,
-            12..=83 => &self.held_pushes,
-            84..=89 => &self.new_pushes,
-            90..=95 => &self.forbidden,
-            _ => &self.logins,
-        };
+        let kind = self.kind(rng.below(1000));
         let mut line = seats.numbered(&kind[rng.below(kind.len())]);
-        if rng.below(50) == 0 {
+        if rng.below(self.mix.cut) == 0 {
             let end = rng.below(line.len());
             line.truncate(end);
         }
         line
+    }
+
+    /// The lines of a kind, by a number below a thousand.
+    fn kind(&self, mut number: usize) -> &[Line] {
+        let Mix { gets, held_pushes, new_pushes, forbidden, .. } = self.mix;
+        let kinds = [
+            (gets, &self.gets),
+            (held_pushes, &self.held_pushes),
+            (new_pushes, &self.new_pushes),
+            (forbidden, &self.forbidden),
+        ];
+        for (share, lines) in kinds {
+            if number < share {
+                return lines;
+            }
+            number -= share;
+        }
+        &self.logins
     }
 }
 
@@ -184,17 +224,17 @@ fn lines(texts: &[&str]) -> Vec<Line> {
     texts.iter().map(|text| text.as_bytes().to_vec()).collect()
 }
 
-fn joined(parts: impl Iterator<Item = String>, separator: &str) -> String {
+pub fn joined(parts: impl Iterator<Item = String>, separator: &str) -> String {
     parts.collect::<Vec<_>>().join(separator)
 }
 
-fn table(head: &str, lines: impl Iterator<Item = String>) -> Vec<u8> {
+pub fn table(head: &str, lines: impl Iterator<Item = String>) -> Vec<u8> {
     let lines = lines.map(|line| line + "\n");
     (format!("{head}\n") + &joined(lines, "")).into()
 }
 
 /// The session number of the user's first login.
-fn session(user: usize) -> usize {
+pub fn session(user: usize) -> usize {
     user * RANGE + 1
 }
 

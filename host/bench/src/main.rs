@@ -2,6 +2,8 @@
 
 mod growth;
 mod halls;
+mod long_day;
+mod program;
 mod rng;
 mod subject;
 mod svg;
@@ -13,30 +15,55 @@ use std::{env, fs};
 
 use growth::Cost;
 use halls::Hall;
-use timing::measure;
+use program::Programs;
+use timing::{measure, measure_long, Contest, Rates};
 
-const USAGE: &str = "usage: bench [--svg FILE]";
+const USAGE: &str = "usage: bench [--svg FILE] [--serve FILE] [--long-day]";
+
+#[derive(Default)]
+struct Options {
+    /// Where the plot is written to.
+    svg: Option<String>,
+    /// The proved program, if it is not where it is built.
+    serve: Option<String>,
+    /// Whether the long day is all that is measured.
+    only_long_day: bool,
+}
+
+impl Options {
+    fn parse(mut words: impl Iterator<Item = String>) -> Option<Options> {
+        let mut options = Options::default();
+        while let Some(word) = words.next() {
+            match word.as_str() {
+                "--svg" => options.svg = Some(words.next()?),
+                "--serve" => options.serve = Some(words.next()?),
+                "--long-day" => options.only_long_day = true,
+                _ => return None,
+            }
+        }
+        Some(options)
+    }
+}
 
 fn main() -> ExitCode {
-    let words: Vec<String> = env::args().skip(1).collect();
-    let words: Vec<&str> = words.iter().map(String::as_str).collect();
-    let file = match words[..] {
-        [] => None,
-        ["--svg", file] => Some(file),
-        _ => {
-            eprintln!("{USAGE}");
-            return ExitCode::from(2);
-        }
+    let Some(options) = Options::parse(env::args().skip(1)) else {
+        eprintln!("{USAGE}");
+        return ExitCode::from(2);
     };
+    if options.only_long_day {
+        print_long_day(options.serve.as_deref());
+        return ExitCode::SUCCESS;
+    }
     let example = Hall::example();
     print_rows("The example: 3 users, 4 policy lines, 6 fields", &example, &example);
     let title = "A full hall: 32 users, 64 policy lines, 256 fields";
     print_rows(title, &Hall::full(), &Hall::with_room());
+    print_long_day(options.serve.as_deref());
     let by_fields = growth::by_fields();
     print_costs("Microseconds by fields, at 64 policy lines", "fields", &by_fields);
     let by_policy = growth::by_policy();
     print_costs("Microseconds by policy lines, at 256 fields", "policy lines", &by_policy);
-    match file.map(|file| fs::write(file, svg::plot(&by_fields, &by_policy))) {
+    match options.svg.map(|file| fs::write(file, svg::plot(&by_fields, &by_policy))) {
         Some(Err(error)) => {
             eprintln!("bench: {error}");
             ExitCode::FAILURE
@@ -59,12 +86,46 @@ fn print_rows(title: &str, hall: &Hall, with_room: &Hall) {
         ("save", tasks::save(hall)),
         ("opening", tasks::opening(hall)),
     ];
-    let names = rows.each_ref().map(|(name, _)| *name);
-    println!("## {title}\n\n| | proved/s | second/s | ratio |\n|---|---:|---:|---:|");
-    for (name, rates) in names.iter().zip(measure(rows.map(|(_, contest)| contest))) {
-        println!("| {name} | {:.0} | {:.0} | {:.2} |", rates.proved, rates.second, rates.ratio);
+    print_head(title);
+    print_measured(rows);
+    println!();
+}
+
+/// Prints the rows of the long day, which is run through the library and, where
+/// the programs are found, through them.
+fn print_long_day(serve: Option<&str>) {
+    let hall = Hall::long_day();
+    tasks::check(&hall);
+    print_head("A long day: 32 users, 64 policy lines, 192 fields that become 256");
+    print_measured([
+        ("GET", tasks::get(&hall)),
+        ("PUSH to a held field", tasks::held_push(&hall)),
+        ("PUSH of a new field", tasks::new_push(&hall)),
+        ("opening", tasks::opening(&hall)),
+    ]);
+    print_row("the day", &measure_long(tasks::day(&hall)));
+    let through_programs = Programs::find(serve)
+        .and_then(|programs| programs.contest(&hall).map_err(|error| error.to_string()));
+    match through_programs {
+        Ok(contest) => print_row("the day, through the programs", &measure_long(contest)),
+        Err(missing) => println!("\nThe day was not run through the programs: {missing}"),
     }
     println!();
+}
+
+fn print_head(title: &str) {
+    println!("## {title}\n\n| | proved/s | second/s | ratio |\n|---|---:|---:|---:|");
+}
+
+fn print_measured<const N: usize>(rows: [(&str, Contest); N]) {
+    let names = rows.each_ref().map(|(name, _)| *name);
+    for (name, rates) in names.iter().zip(measure(rows.map(|(_, contest)| contest))) {
+        print_row(name, &rates);
+    }
+}
+
+fn print_row(name: &str, rates: &Rates) {
+    println!("| {name} | {:.0} | {:.0} | {:.2} |", rates.proved, rates.second, rates.ratio);
 }
 
 fn print_costs(title: &str, size: &str, costs: &[Cost]) {

@@ -6,6 +6,9 @@ use std::time::{Duration, Instant};
 const AT_LEAST: Duration = Duration::from_millis(200);
 const TIMES: usize = 7;
 
+/// How many there are of each server where a round takes seconds.
+const LONG_TIMES: usize = 3;
+
 /// How long one server is timed before it is the other's turn, so that both
 /// meet the same disturbances.
 const TURN: Duration = Duration::from_millis(10);
@@ -101,6 +104,13 @@ pub fn measure<const N: usize>(mut contests: [Contest; N]) -> [Rates; N] {
         }
     }
     rates.map(|rates| Rates::medians(&rates))
+}
+
+/// Measures a task whose rounds are long: one of each server in turn. They need
+/// no warming up.
+pub fn measure_long(mut contest: Contest) -> Rates {
+    let rates = [(); LONG_TIMES].map(|()| [(contest.proved)().rate(), (contest.second)().rate()]);
+    Rates::medians(&rates)
 }
 
 fn median(numbers: impl Iterator<Item = f64>) -> f64 {

@@ -2,6 +2,7 @@
 
 use jesovanga::Memory;
 
+use crate::masks;
 use crate::rng::Rng;
 
 /// Makes garbage of some or all of the arrays.
@@ -31,6 +32,21 @@ fn flip(rng: &mut Rng, memory: &mut Memory) {
             _ => *pick_mut(rng, &mut memory.fields) ^= 1 << rng.below(8),
         }
     }
+}
+
+/// Makes any masks of those of the fields. Every other byte is kept, so that the
+/// rest of the state is what it was.
+pub fn spoil_masks(rng: &mut Rng, memory: &mut Memory) {
+    let mut masks = masks::read(&memory.fields);
+    for mask in &mut masks {
+        *mask = match rng.below(4) {
+            0 => *mask ^ 1 << rng.below(32),
+            1 => 0,
+            2 => u32::MAX,
+            _ => rng.number() as u32,
+        };
+    }
+    masks::write(&mut memory.fields, &masks);
 }
 
 fn spoil_array(rng: &mut Rng, array: &mut [u8]) {

@@ -7,6 +7,7 @@ mod garbage;
 mod hall;
 mod lent;
 mod lines;
+mod masks;
 mod pair;
 mod rng;
 mod run;

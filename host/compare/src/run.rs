@@ -102,6 +102,9 @@ impl Run {
         self.log_in()?;
         let count = self.rng.between(20, 250);
         self.requests(count)?;
+        if self.rng.one_in(2) {
+            self.requests_on_masks()?;
+        }
         for _ in 0..self.rng.between(0, 10) {
             self.open_damaged()?;
             self.requests(5)?;
@@ -254,6 +257,15 @@ impl Run {
             32
         };
         (0..length).map(|_| self.rng.number() as u32).collect()
+    }
+
+    /// Requests on masks of any content, which are then made right again.
+    fn requests_on_masks(&mut self) -> Result<(), Difference> {
+        self.pair.spoil_masks(&mut self.rng);
+        let count = self.rng.between(5, 60);
+        self.requests(count)?;
+        self.pair.restore_masks();
+        Ok(())
     }
 
     /// Calls on arrays of any content, then openings until one is accepted,

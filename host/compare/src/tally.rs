@@ -15,6 +15,7 @@ pub struct Tally {
     closed: usize,
     copied: usize,
     brief: usize,
+    masked: usize,
     garbage: usize,
 }
 
@@ -50,6 +51,11 @@ impl Tally {
     /// Requests of which only the answers were compared.
     pub fn count_brief(&mut self) {
         self.brief += 1;
+    }
+
+    /// Requests that were compared on masks of any content.
+    pub fn count_masked(&mut self) {
+        self.masked += 1;
     }
 
     pub fn count_save(&mut self, answer: Answer) {
@@ -89,6 +95,7 @@ impl fmt::Display for Tally {
         writeln!(out, "closed numbers refused 14: {}", self.closed)?;
         writeln!(out, "bytes of copies and saved texts compared {}", self.copied)?;
         writeln!(out, "requests compared in their answers alone {}", self.brief)?;
+        writeln!(out, "requests compared on masks of any content {}", self.masked)?;
         write!(out, "calls on arrays of any content {}", self.garbage)
     }
 }

@@ -6,13 +6,15 @@ use jesovanga::{Fault, Memory, LIST, LOGINS};
 use crate::answer::{Answer, Opened};
 use crate::lent::{Lent, LentMemory};
 use crate::lines::{logged_out, RANGE};
+use crate::masks;
 use crate::texts::Texts;
 
 /// A result, or what is wrong with a call.
 pub type Checked<T> = Result<T, String>;
 
-/// How many numbers a login state has.
-const LOGIN: usize = 3;
+/// How many numbers a login state has: logins, whether a session is open, fields
+/// created.
+pub const LOGIN: usize = 3;
 
 pub struct Watched {
     lent: Box<LentMemory>,
@@ -46,6 +48,11 @@ impl Watched {
 
     pub fn memory_mut(&mut self) -> &mut Memory {
         &mut self.lent.memory
+    }
+
+    /// The arrays before the last call.
+    pub fn former(&self) -> &Memory {
+        &self.former
     }
 
     /// The buffer of the last call.
@@ -117,13 +124,14 @@ impl Watched {
         ensure(accepted && *fresh == self.lent.memory, "the same texts make other arrays of zeros")
     }
 
-    /// The fields' bytes are what the saved text, opened without tables, makes
-    /// of zeros, whatever pushes made them.
+    /// The fields' bytes but the masks are what the saved text, opened without
+    /// tables, makes of zeros, whatever pushes made them.
     pub fn check_saved(&self, text: &[u8]) -> Checked<()> {
         let heads = ["user;role;key;allowance\n", "user;name;value\n", "role;access;path\n"];
         let [users, environments, policy] = heads.map(str::as_bytes);
         let mut fresh = Box::<Memory>::default();
         let accepted = fresh.open(users, environments, policy, text).is_ok();
+        masks::write(&mut fresh.fields, &masks::read(&self.lent.memory.fields));
         let same = fresh.fields == self.lent.memory.fields;
         ensure(accepted && same, "the saved text makes other fields of zeros")
     }

@@ -5,7 +5,7 @@ pub const TABLES: usize = 47_200;
 /// Numbers of the login states.
 pub const LOGINS: usize = 96;
 /// Bytes of the fields.
-pub const RECORD: usize = 35_328;
+pub const RECORD: usize = 36_352;
 /// Bytes that no copy and no saved text of a run exceeds.
 pub const COPY: usize = 51_069;
 /// Numbers that a list has to have room for.

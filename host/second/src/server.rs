@@ -95,9 +95,27 @@ impl Server {
 
     /// Writes the whole record to the buffer.
     pub fn save(&self, buffer: &mut [u8]) -> Reply {
+        hand_over(&self.saved_text(|_| true), buffer).unwrap_or_else(Reply::Refused)
+    }
+
+    /// The saved text of those of the fields whose places are shown.
+    pub fn saved_text(&self, is_shown: impl Fn(usize) -> bool) -> Vec<u8> {
         let mut text = Vec::new();
-        write_fields(&mut text, self.fields.iter());
-        hand_over(&text, buffer).unwrap_or_else(Reply::Refused)
+        let shown = self.fields.iter().enumerate().filter(|(place, _)| is_shown(*place));
+        write_fields(&mut text, shown.map(|(_, field)| field));
+        text
+    }
+
+    /// Who may read each of the fields, in their order: the bits of the places
+    /// of those users are set.
+    pub fn readers(&self) -> Vec<u32> {
+        self.fields.keys().map(|path| self.readers_of(path)).collect()
+    }
+
+    fn readers_of(&self, path: &[Name]) -> u32 {
+        let users = self.users.iter().enumerate();
+        let readers = users.filter(|(_, user)| user.rights.may_read(path));
+        readers.fold(0, |mask, (place, _)| mask | 1 << place)
     }
 
     /// How many fields are held.

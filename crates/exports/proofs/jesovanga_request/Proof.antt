@@ -1,7 +1,6 @@
 -- The kind and the number are those of the reply.
 use borrow.Author.Needs.{needs}
-use Rattle.model.specs.Serving.{bufferOf, listOf, outcome}
-use Rattle.exports.proofs.Numbered.{reply-tells}
+use Rattle.exports.proofs.Numbered.{serves-as}
 use Rattle.exports.proofs.jesovanga_request.Statement.{statement}
 use Rattle.exports.proofs.jesovanga_request.Tie as tie
 
@@ -21,11 +20,14 @@ same-length-2 : tie.Need-same-length-2
 same-length-2 c = search needs
 
 returns : tie.Need-returns
-unfolding outcome bufferOf listOf
 returns c =
     let q = c .before .before .before .before .before .before in
-    let done = q .request .ensures in
-    record { tells = reply-tells (q .request .result) _ _ _ (done .is) (c .before .kind-of .ensures) (c .number-of .ensures); logins = done .logins; fields = done .fields }
+    let (masked, said) = q .request .ensures in
+    let kind = c .before .kind-of .ensures in
+    let number = c .number-of .ensures in (
+      serves-as (q .request .result) masked kind number,
+      λ a. let (served, agrees) = said a in (serves-as (q .request .result) served kind number, agrees),
+    )
 
 pub jesovanga-request-spec : {M : Type 1} → statement M
 jesovanga-request-spec =

@@ -1,13 +1,13 @@
 -- The answer is written, and behind that of an accepted request the deliveries; what was pushed stands in the line from the reply's position on.
 use Prim.Native.Nat.{_≤_}
-use mathlib.Core.Path.{_≡_, _∙_}
+use mathlib.Core.Path.{_≡_, refl, _∙_}
 use native.Mathlib.Omega.{arith}
 use borrow.Author.Needs.{needs}
 use lib.ListN.{length, length-drop}
 use Rattle.rows.proofs.Parts.{tail-part}
 use Rattle.model.specs.Limits.{maxCopy, maxLine}
 use Rattle.buffers.proofs.Writers.{wrote-both}
-use Rattle.printing.proofs.Responded.{reply-inside, reply-left, accepted-inside, accepted-few, printed-other, printed-accepted}
+use Rattle.printing.proofs.Responded.{reply-inside, reply-left, accepted-inside, accepted-few, printed-other, printed-accepted, said}
 use Rattle.printing.proofs.respond.Statement.{statement}
 use Rattle.printing.proofs.respond.Tie as tie
 
@@ -18,14 +18,14 @@ inside : (c : tie.After-known-told)
     (c .before .reply .given .0 .1 .0 ≤ length line) × (length line ≤ maxLine)
 inside c =
     let asked = c .before .before .before .before .before .before .before .before .before in
-    accepted-inside _ _ _ _ _ _ (asked .request .ensures) (c .before .reply .given .1)
+    accepted-inside _ _ _ _ _ _ (asked .request .ensures .0) (c .before .reply .given .1)
 
 request-requires : tie.Need-request-requires
 request-requires c κs = search needs
 
 put-answer-requires : tie.Need-put-answer-requires
 put-answer-requires c κs =
-    let (inside, same) = reply-inside _ _ _ _ _ _ (c .before .before .before .request .ensures) in
+    let (inside, same) = reply-inside _ _ _ _ _ _ (c .before .before .before .request .ensures .0) in
     let long : length (c .before .before .before .before .before .before .before .before .before .before .args .buffer .now) ≡ maxCopy = search needs in
     (same ∙ long, rw same inside)
 
@@ -38,11 +38,12 @@ same-length c = search needs
 returns : tie.Need-returns
 returns c =
     let put = c .before .before .before in
-    let served = put .before .before .before .before .request .ensures in
-    record {
+    let served = put .before .before .before .before .request .ensures .0 in
+    said _ _ _ _ _ _ _ _ refl record {
       leaves = reply-left _ _ _ _ _ _ served;
       logins = served .logins;
       fields = served .fields;
+      masks = served .masks;
       wrote = rw (printed-other _ _ _ _ _ _ served (c .match .keys2)) (put .put-answer .ensures .0);
       short = omega arith;
     }
@@ -60,7 +61,7 @@ put-deliveries-requires : tie.Need-put-deliveries-requires
 put-deliveries-requires c κs =
     let told = c .before .before .before .before in
     let put = told .before .before .before .before .before in
-    let served = put .before .before .before .before .request .ensures in
+    let served = put .before .before .before .before .request .ensures .0 in
     let (few, room) = accepted-few _ _ _ _ _ _ served (told .before .reply .given .1) in
     let (within, short) = inside told in
     (room, few, rw (tail-part, length-drop) (omega arith), omega (arith, put .put-answer .ensures .1))
@@ -73,12 +74,13 @@ returns-2 c =
     let told = c .before .before .before .before .before .before .before in
     let is = told .before .reply .given .1 in
     let put = told .before .before .before .before .before in
-    let served = put .before .before .before .before .request .ensures in
+    let served = put .before .before .before .before .request .ensures .0 in
     let sent = rw tail-part at (c .before .before .put-deliveries .ensures .0) in
-    record {
+    said _ _ _ _ _ _ _ _ refl record {
       leaves = reply-left _ _ _ _ _ _ served;
       logins = served .logins;
       fields = served .fields;
+      masks = served .masks;
       wrote = rw (printed-accepted _ _ _ _ _ _ served is) (wrote-both _ _ _ _ _ _ _ _ (put .put-answer .ensures .0) sent);
       short = omega (arith, put .put-answer .ensures .1);
     }

@@ -8,9 +8,12 @@ use std::io::{self, BufRead, BufReader, BufWriter, Read, Write};
 
 use second::{printed, Server, LINE_LIMIT, TEXT_LIMIT};
 
+/// What is read and written at once: as much as a pipe holds.
+const BUFFER: usize = 65_536;
+
 fn main() -> io::Result<()> {
-    let mut input = BufReader::new(io::stdin().lock());
-    let mut output = BufWriter::new(io::stdout().lock());
+    let mut input = BufReader::with_capacity(BUFFER, io::stdin().lock());
+    let mut output = BufWriter::with_capacity(BUFFER, io::stdout().lock());
     let mut server = Server::new();
     let opened = server.open(
         &file("users.txt"),

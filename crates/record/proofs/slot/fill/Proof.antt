@@ -1,12 +1,16 @@
--- The path's bytes are copied, the value's text is written behind the byte that says its length, as far as there is room for it.
+-- The path and the mask are written, then the value's text behind the byte that says its length, as far as there is room for it.
 use mathlib.Core.Path.{_≡_, ap}
+use mathlib.Core.List.{_++_}
 use native.Mathlib.Omega.{arith}
 use lib.ListN.{length, take}
 use lib.Seq.{take-all}
+use Rattle.rows.specs.Rows.{Wrote}
+use Rattle.buffers.proofs.Writers.{wrote-both}
+use Rattle.masks.specs.Bits.{encodeMask}
 use Rattle.paths.specs.Layout.{pathSlot}
-use borrow.Author.Needs.{needs}
 use Rattle.record.specs.Slots.{slotBytes}
 use Rattle.record.proofs.Slots.{filled}
+use borrow.Author.Needs.{needs}
 use Rattle.record.proofs.slot.fill.Statement.{statement}
 use Rattle.record.proofs.slot.fill.Tie as tie
 
@@ -14,27 +18,46 @@ use Rattle.record.proofs.slot.fill.Tie as tie
 long : (s : tie.Start) → length (s .args .slot .now) ≡ slotBytes
 long s = ap length (s .pre .0)
 
--- the path is as long as what is copied of it
+-- the path is as long as what is written of it
 whole : (s : tie.Start) → take pathSlot (s .args .path .now) ≡ s .args .path .now
 whole s = take-all pathSlot (s .args .path .now) (omega (arith, s .pre .1))
 
-sub-copy : tie.Need-sub-copy
-sub-copy c = search needs
+-- what stands before the value
+begun : (c : tie.After-put2)
+    → let s = c .before .before .before .before .before .before .before .before .before .before .before .before in
+    Wrote 0 (s .args .path .now ++ encodeMask (s .args .mask)) (s .args .slot .now) (c .put2 .result) (c .put2 .last .0)
+begun c =
+    let first = c .before .before .before .before .before in
+    let mask = first .before .before .before in
+    let s = mask .before .before .before .before in
+    wrote-both 0 _ _ (s .args .path .now) (encodeMask (s .args .mask)) _ _ _ (rw (whole s) at (first .put .ensures)) (rw (mask .mask-bytes .ensures) at (c .put2 .ensures))
 
-part-copy-start : tie.Need-part-copy-start
-part-copy-start c = search needs
+mask-bytes-requires : tie.Need-mask-bytes-requires
+mask-bytes-requires c κs = search needs
 
-part-copy-end : tie.Need-part-copy-end
-part-copy-end c = search needs
+sub-put : tie.Need-sub-put
+sub-put c = search needs
 
-copy-requires : tie.Need-copy-requires
-copy-requires c κs = let l = long (c .before .before .before .before .before) in search needs
+part-put-start : tie.Need-part-put-start
+part-put-start c = search needs
+
+part-put-end : tie.Need-part-put-end
+part-put-end c = search needs
+
+put-requires : tie.Need-put-requires
+put-requires c κs = search needs
+
+slice-aggregate-put : tie.Need-slice-aggregate-put
+slice-aggregate-put c = search needs
+
+put-requires-2 : tie.Need-put-requires-2
+put-requires-2 c κs = search needs
 
 sub-put-value : tie.Need-sub-put-value
-sub-put-value c = omega (arith, long (c .before .before .before .before .before .before .before .before))
+sub-put-value c = omega (arith, long (c .before .before .before .before .before .before .before .before .before .before .before .before .before .before))
 
 part-put-value-start : tie.Need-part-put-value-start
-part-put-value-start c = let l = long (c .before .before .before .before .before .before .before .before) in search needs
+part-put-value-start c = let l = long (c .before .before .before .before .before .before .before .before .before .before .before .before .before .before) in search needs
 
 part-put-value-end : tie.Need-part-put-value-end
 part-put-value-end c = search needs
@@ -46,28 +69,33 @@ length-byte-requires : tie.Need-length-byte-requires
 length-byte-requires c κs = search needs
 
 slice-write-slot : tie.Need-slice-write-slot
-slice-write-slot c = let l = long (c .before .before .before .before .before .before .before .before .before .before .before .before .before) in search needs
+slice-write-slot c = let l = long (c .before .before .before .before .before .before .before .before .before .before .before .before .before .before .before .before .before .before .before) in search needs
 
 same-length : tie.Need-same-length
 same-length c =
-    let f = c .before .before .before .before .before .before .before in
-    let s = f .before .before .before .before .before .before in
-    filled _ (s .args .path .now) _ _ _ _ _ (s .pre .0) (s .pre .1) (rw (whole s) at (f .copy .ensures)) (c .before .before .before .put-value .ensures) (c .length-byte .ensures) .long
+    let text = c .before .before .before in
+    let head = text .before .before .before .before in
+    let s = head .before .before .before .before .before .before .before .before .before .before .before .before in
+    filled _ (s .args .path .now) _ _ (s .args .mask) _ _ _ _ (s .pre .0) (s .pre .1) (begun head) (text .put-value .ensures) (c .length-byte .ensures) .long
 
 returns : tie.Need-returns
 returns c =
-    let f = c .before .before .before .before .before .before .before in
-    let s = f .before .before .before .before .before .before in
-    filled _ (s .args .path .now) _ _ _ _ _ (s .pre .0) (s .pre .1) (rw (whole s) at (f .copy .ensures)) (c .before .before .before .put-value .ensures) (c .length-byte .ensures) .is
+    let text = c .before .before .before in
+    let head = text .before .before .before .before in
+    let s = head .before .before .before .before .before .before .before .before .before .before .before .before in
+    filled _ (s .args .path .now) _ _ (s .args .mask) _ _ _ _ (s .pre .0) (s .pre .1) (begun head) (text .put-value .ensures) (c .length-byte .ensures) .is
 
 pub fill-spec : {M : Type 1} → statement M
 fill-spec =
     tie.close
     (tie.spec
-    sub-copy
-    part-copy-start
-    part-copy-end
-    copy-requires
+    mask-bytes-requires
+    sub-put
+    part-put-start
+    part-put-end
+    put-requires
+    slice-aggregate-put
+    put-requires-2
     sub-put-value
     part-put-value-start
     part-put-value-end

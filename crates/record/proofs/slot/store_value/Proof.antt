@@ -1,6 +1,7 @@
 -- A slot is filled with the path and the value, and stored.
 use mathlib.Core.Path.{_∙_}
 use Rattle.record.proofs.Slots.{slot-stored, slot-canonical}
+use native.Mathlib.Omega.{arith}
 use borrow.Author.Needs.{needs}
 use Rattle.record.proofs.slot.store_value.Statement.{statement}
 use Rattle.record.proofs.slot.store_value.Tie as tie
@@ -20,7 +21,7 @@ returns c =
     let long = f .before .before .before .before .pre .0 in
     let slot = f .fill .ensures in
     let (fields, keeps) = c .store .ensures in
-    (fields ∙ rw slot (slot-stored _ _ long _), λ proper. keeps (rw slot (slot-canonical _ _ proper long)))
+    (fields ∙ rw slot (slot-stored _ 0 _ long _), λ proper. keeps (rw slot (slot-canonical _ 0 _ proper long (omega arith))))
 
 pub store-value-spec : {M : Type 1} → statement M
 store-value-spec = tie.close (tie.spec slice-aggregate-fill fill-requires store-requires returns)

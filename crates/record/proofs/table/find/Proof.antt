@@ -1,6 +1,6 @@
 -- The first slot whose path is not before the path decides, or the end of the fields; each turn leaves the search from the next slot on.
 use Prim.Native.Nat.{_+_, _-_, _≤_}
-use mathlib.Core.Path.{_≡_, refl, sym, ap, _∙_}
+use mathlib.Core.Path.{_≡_, sym, ap, _∙_}
 use native.Mathlib.Omega.{arith}
 use lib.ListN.{length, drop}
 use Rattle.rows.proofs.Positions.{over}
@@ -27,7 +27,7 @@ abbrev μ-loop : tie.MeasureT-loop
 -- a turn: the slot's path decides, or what stands behind it
 turn : (c : tie.After-compare-paths Inv-loop μ-loop) {v : Order} → c .compare-paths .result ≡ v
     → let i = c .before .before .before .before .before .loop .i in
-    let a = c .before .before .before .before .before .before .before .args in
+    let a = c .before .before .before .before .before .before .before .before .args in
     placeIn 0 (pathIn (a .path .now)) (fieldsIn (a .table .now))
     ≡ byOrder (orderIn v) (Before i) (At i) (placeIn (i + 1) (pathIn (a .path .now)) (drop (i + 1) (fieldsIn (a .table .now))))
 turn c told =
@@ -35,8 +35,11 @@ turn c told =
     let full = sym (c .before .before .is-empty .ensures) ∙ c .before .if1 .left in
     l .inv .1 ∙ place-step _ (l .i) (c .before .before .before .slot-at .ensures .0) (search needs) (l .inv .0) _ full (c .compare-paths .ensures) told
 
+passed-requires : tie.Need-passed-requires Inv-loop μ-loop
+passed-requires c κs = search needs
+
 loop-holds : tie.Need-loop-holds Inv-loop μ-loop
-loop-holds c = (search needs, refl)
+loop-holds c = c .passed .ensures
 
 slot-at-requires : tie.Need-slot-at-requires Inv-loop μ-loop
 slot-at-requires c κs = search needs
@@ -90,7 +93,7 @@ returns-4 : tie.Need-returns-4 Inv-loop μ-loop
 unfolding placeIn
 returns-4 c =
     let l = c .before .loop in
-    sym (l .inv .1 ∙ ap (placeIn (l .i) _) (over _ (l .i) (omega (arith, fields-fit (c .before .before .before .args .table .now)))))
+    sym (l .inv .1 ∙ ap (placeIn (l .i) _) (over _ (l .i) (omega (arith, fields-fit (c .before .before .before .before .args .table .now)))))
 
 pub find-spec : {M : Type 1} → statement M
 find-spec =
@@ -98,6 +101,7 @@ find-spec =
     (tie.spec
     Inv-loop
     μ-loop
+    passed-requires
     loop-holds
     slot-at-requires
     is-empty-requires

@@ -27,8 +27,8 @@ returns-2 c =
     let i = f .before .before .before in
     let s = i .before .before .before in
     let kept = sym (i .before .is-empty .ensures) ∙ i .if1 .left in
-    let (fields, bytes) = c .store-at .ensures in
-    (fields, λ is h. rw bytes (canonical-stored (s .args .table .now) (s .args .slot .now) (search needs) kept is _ (f .find .ensures) h))
+    let (fields, rest) = c .store-at .ensures in
+    (fields, λ is h. rw (rest .1) (canonical-stored (s .args .table .now) (s .args .slot .now) (search needs) kept is _ (f .find .ensures) h))
 
 pub store-spec : {M : Type 1} → statement M
 store-spec =

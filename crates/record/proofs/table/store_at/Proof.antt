@@ -3,11 +3,12 @@ use mathlib.Core.Path.{_≡_, sym, _∙_}
 use native.Mathlib.Omega.{arith}
 use Rattle.model.specs.Limits.{maxFields}
 use Rattle.layout.proofs.Changed.{table-set, table-inserted}
-use Rattle.record.specs.Slots.{slotBytes, fieldIn, fieldsIn}
+use Rattle.record.specs.Slots.{slotBytes, fieldIn, readersIn, fieldsIn, masksIn}
 use Rattle.record.proofs.Places.{at-below, before-within}
 use Rattle.record.proofs.Search.{fields-used}
+use Rattle.record.proofs.Masks.{past-masks}
 use Rattle.record.proofs.Stores.{at-stored, before-stored, past-stored}
-use Rattle.record.specs.Search.{storedBytes}
+use Rattle.record.specs.Search.{storedBytes, storedMasks}
 use borrow.Author.Needs.{needs}
 use borrow.Author.Tests.{lt-ltb, le-ltb}
 use Rattle.record.proofs.table.store_at.Statement.{statement}
@@ -34,25 +35,28 @@ insert-row-requires c κs =
     ((search needs, search needs, s .pre .0), (search needs, omega (arith, fields-used (s .args .table .now))))
 
 returns : tie.Need-returns
-unfolding fieldsIn storedBytes
+unfolding fieldsIn masksIn storedBytes storedMasks
 returns c =
     let a = c .before .before .before .before .place .given in
     let s = c .before .before .before .before .before .before in
     let (used, bytes) = c .replace-row .ensures in (
       table-set fieldIn slotBytes maxFields (s .args .table .now) _ (s .args .slot .now) (a .0 .0) used
           ∙ at-stored _ _ (a .0 .0) (s .pre .0) (sym (s .pre .1) ∙ a .1),
-      bytes ∙ rw (a .1),
+      (rw (a .1) (table-set readersIn slotBytes maxFields (s .args .table .now) _ (s .args .slot .now) (a .0 .0) used), bytes ∙ rw (a .1)),
     )
 
 returns-2 : tie.Need-returns-2
-unfolding fieldsIn storedBytes
+unfolding fieldsIn masksIn storedBytes storedMasks
 returns-2 c =
     let a = c .before .before .before .before .before .place2 .given in
     let s = c .before .before .before .before .before .before .before in
     let (used, bytes) = c .insert-row .ensures in (
       table-inserted fieldIn slotBytes maxFields (s .args .table .now) _ (s .args .slot .now) (a .0 .0) used
           ∙ before-stored _ _ (a .0 .0) (s .pre .0) (sym (s .pre .1) ∙ a .1),
-      bytes ∙ rw (a .1, lt-ltb _ _ (c .before .before .before .if1 .taken)),
+      (
+        rw (a .1) (table-inserted readersIn slotBytes maxFields (s .args .table .now) _ (s .args .slot .now) (a .0 .0) used),
+        bytes ∙ rw (a .1, lt-ltb _ _ (c .before .before .before .if1 .taken)),
+      ),
     )
 
 returns-3 : tie.Need-returns-3
@@ -60,7 +64,10 @@ unfolding storedBytes
 returns-3 c =
     let a = c .before .before .place2 .given in
     let s = c .before .before .before .before in
-    (past-stored _ _ (a .0 .0) (s .pre .0) (sym (s .pre .1) ∙ a .1) (c .if1 .left), rw (a .1, le-ltb _ _ (c .if1 .left)))
+    let is = sym (s .pre .1) ∙ a .1 in (
+      past-stored _ _ (a .0 .0) (s .pre .0) is (c .if1 .left),
+      (rw (a .1) (past-masks (s .args .table .now) (a .0 .0) _ (before-within _ _ (a .0 .0) is) (c .if1 .left)), rw (a .1, le-ltb _ _ (c .if1 .left))),
+    )
 
 pub store-at-spec : {M : Type 1} → statement M
 store-at-spec =

@@ -62,7 +62,7 @@ respond-requires c κs = search needs
 add-filled : tie.Need-add-filled Inv-loop μ-loop
 add-filled c =
     let r = c .before .before in
-    omega (arith, r .respond .ensures .short, r .before .before .before .before .before .before .before .before .before .loop .inv .1)
+    omega (arith, r .respond .ensures .0 .short, r .before .before .before .before .before .before .before .before .before .loop .inv .1)
 
 slice-reshare-prefix-write-all-2 : tie.Need-slice-reshare-prefix-write-all-2 Inv-loop μ-loop
 slice-reshare-prefix-write-all-2 c = search needs

@@ -6,23 +6,23 @@ use native.Mathlib.Omega.{arith}
 use lib.ListN.{length}
 use borrow.Author.Needs.{needs}
 use Rattle.model.specs.Serving.{roomFor}
-use Rattle.sessions.proofs.Known.{session-inside}
+use Rattle.sessions.proofs.Known.{session-inside, session-below}
 use Rattle.server.proofs.Replied.{left-refused, unwritten, shown-refused, shown-done, get-unknown, get-shows}
 use Rattle.server.proofs.request.get.Statement.{statement}
 use Rattle.server.proofs.request.get.Tie as tie
 
 -- where the ways meet, the buffer is as it was lent, and the copy that is then written fits
 met : (c : tie.After-slice-known4)
-    → let lent = c .before .before .before .before .before .before .before .before .before .before .before .before .before .before .before .before .before .before .before .before .args .buffer .now in
-    (c .before .before .before .before .before .if1 .buffer ≡ lent) × (c .before .before .put-copy2 .result ≤ length lent)
+    → let lent = c .before .before .before .before .before .before .before .before .before .before .before .before .before .before .before .before .before .before .args .buffer .now in
+    (c .before .before .before .before .if1 .buffer ≡ lent) × (c .before .before .put-copy2 .result ≤ length lent)
 met c =
     let copy = c .before .before .put-copy2 .ensures in
-    let head = c .before .before .before .before .before .before .before .before .put-head .ensures .0 in
+    let head = c .before .before .before .before .before .before .before .put-head .ensures .0 in
     let same = unwritten _ _ head in
     ⊎-elim
-    (λ w. let kept = w .7 ∙ unwritten _ _ (w .3 .ensures .0) ∙ same in (kept, omega (arith, ap length kept, w .3 .ensures .0 .0, copy .0 .0, w .6 .left)))
+    (λ w. let kept = w .6 ∙ unwritten _ _ (w .2 .ensures .0) ∙ same in (kept, omega (arith, ap length kept, w .2 .ensures .0 .0, copy .0 .0, w .5 .left)))
     (λ w. (w .1 ∙ same, omega (arith, ap length same, w .0 .left, head .0, copy .1)))
-    (c .before .before .before .before .before .if1 .came)
+    (c .before .before .before .before .if1 .came)
 
 session-requires : tie.Need-session-requires
 session-requires c κs = search needs
@@ -46,9 +46,6 @@ row-at-requires c κs =
 policy-of-requires : tie.Need-policy-of-requires
 policy-of-requires c κs = search needs
 
-select-requires : tie.Need-select-requires
-select-requires c κs = search needs
-
 slice-relend-prefix-put-head : tie.Need-slice-relend-prefix-put-head
 slice-relend-prefix-put-head c = search needs
 
@@ -68,7 +65,9 @@ slice-aggregate-put-copy : tie.Need-slice-aggregate-put-copy
 slice-aggregate-put-copy c = search needs
 
 put-copy-requires : tie.Need-put-copy-requires
-put-copy-requires c κs = search needs
+put-copy-requires c κs =
+    let i = c .before .before .before .before .before .before .before .before .before .before .before in
+    (search needs, search needs, search needs, session-below _ _ _ (i .before .before .session .ensures) (i .i .given .1))
 
 same-length : tie.Need-same-length
 same-length c = search needs
@@ -77,19 +76,20 @@ returns-2 : tie.Need-returns-2
 unfolding roomFor
 returns-2 c text l =
     let m = c .before .before .before in
-    let h = m .before .before .before .before .before .before in
-    let select = h .before .before .select in
-    let p = h .before .before .before in
+    let h = m .before .before .before .before .before in
+    let p = h .before .before in
     let r = p .before .before in
-    let k = r .before .before .before .before .before in
+    let i = r .before .before .before in
+    let k = i .before .before in
     let a = k .before .before .args in
     let kept = unwritten _ _ (m .put-copy .ensures .0) ∙ unwritten _ _ (h .put-head .ensures .0) in
-    let shows = get-shows (a .tables .now) (a .logins .now) (a .fields .now) (a .n) (k .session .ensures) (select .result)
-    (r .before .before .before .i .given .1) (r .row-at .ensures .0) (p .policy-of .ensures .0) (select .ensures) (length (a .buffer .now)) in
+    let shows = get-shows (a .tables .now) (a .logins .now) (a .fields .now) (a .n) (k .session .ensures) (i .i .given .1) (r .row-at .ensures .0) (p .policy-of .ensures .0) (length (a .buffer .now)) in
     shown-refused _ (a .buffer .now) shows text _ l kept (m .put-copy .ensures .0) (c .if2 .taken)
 
 put-copy-requires-2 : tie.Need-put-copy-requires-2
-put-copy-requires-2 c κs = search needs
+put-copy-requires-2 c κs =
+    let i = c .before .before .before .before .before .before .before .before .before .before .before in
+    (search needs, search needs, search needs, session-below _ _ _ (i .before .before .session .ensures) (i .i .given .1))
 
 same-length-2 : tie.Need-same-length-2
 same-length-2 c = c .before .before .put-copy2 .kept .0 ∙ ap length (met c .0)
@@ -97,13 +97,12 @@ same-length-2 c = c .before .before .put-copy2 .kept .0 ∙ ap length (met c .0)
 returns-3 : tie.Need-returns-3
 unfolding roomFor
 returns-3 c text l =
-    let p = c .before .before .before .before .before .before .before .before .before .before .before in
-    let select = c .before .before .before .before .before .before .before .before .before .before .select in
+    let p = c .before .before .before .before .before .before .before .before .before in
     let r = p .before .before in
-    let k = r .before .before .before .before .before in
+    let i = r .before .before .before in
+    let k = i .before .before in
     let a = k .before .before .args in
-    let shows = get-shows (a .tables .now) (a .logins .now) (a .fields .now) (a .n) (k .session .ensures) (select .result)
-    (r .before .before .before .i .given .1) (r .row-at .ensures .0) (p .policy-of .ensures .0) (select .ensures) (length (a .buffer .now)) in
+    let shows = get-shows (a .tables .now) (a .logins .now) (a .fields .now) (a .n) (k .session .ensures) (i .i .given .1) (r .row-at .ensures .0) (p .policy-of .ensures .0) (length (a .buffer .now)) in
     shown-done _ (a .buffer .now) shows text _ l (met c .0) (c .before .before .put-copy2 .ensures .0) (met c .1)
 
 pub get-spec : {M : Type 1} → statement M
@@ -116,7 +115,6 @@ get-spec =
     returns
     row-at-requires
     policy-of-requires
-    select-requires
     slice-relend-prefix-put-head
     slice-aggregate-put-head
     put-head-requires

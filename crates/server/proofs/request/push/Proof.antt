@@ -26,17 +26,22 @@ enum-known-ruling c = search needs
 enum-known-ruling-2 : tie.Need-enum-known-ruling-2
 enum-known-ruling-2 c = search needs
 
+mask-for-requires : tie.Need-mask-for-requires
+mask-for-requires c κs =
+    let r = c .before .before in
+    push-place _ _ _ _ _ (r .before .before .decide .ensures) (r .ruling2 .given .1)
+
 put-receivers-requires : tie.Need-put-receivers-requires
 put-receivers-requires c κs = search needs
 
 put-state-requires : tie.Need-put-state-requires
 put-state-requires c κs =
-    let r = c .before .before .before .before .before .before .before in
+    let r = c .before .before .before .before .before .before .before .before .before in
     push-below _ _ _ _ _ (r .before .before .decide .ensures) (r .ruling2 .given .1)
 
 store-value-at-requires : tie.Need-store-value-at-requires
 store-value-at-requires c κs =
-    let r = c .before .before .before .before .before .before .before .before .before .before in
+    let r = c .before .before .before .before .before .before .before .before .before .before .before .before in
     let d = r .before .before in
     let given = d .before .before .before .before .before .before .pre in
     let place = push-place _ _ _ _ _ (d .decide .ensures) (r .ruling2 .given .1) in
@@ -57,12 +62,13 @@ unfolding roomFor
 returns-3 c b =
     let p = c .before .before .before in
     let l = p .before .before .before .before in
-    let r = l .before .before .before .before in
+    let m = l .before .before .before in
+    let r = m .before .before .before in
     let d = r .before .before in
     let long = d .before .before .before .if1 .left in
     let given = d .before .before .before .before .before .before .pre in
-    let (stored, bytes) = c .store-value-at .ensures in
-    push-done _ _ _ _ _ (d .decide .ensures) (r .ruling2 .given .1) b _ long _ _ (l .put-receivers .ensures) (p .put-state .ensures) _ stored bytes (given .keyed) (given .proper) _ _ (given .stands)
+    let (stored, rest) = c .store-value-at .ensures in
+    push-done _ _ _ _ _ (d .decide .ensures) (r .ruling2 .given .1) b _ long _ _ (m .mask-for .ensures) (l .put-receivers .ensures) (p .put-state .ensures) _ stored (rest .0) (rest .1) (given .keyed) (given .proper) _ _ (given .stands)
 
 pub push-spec : {M : Type 1} → statement M
 push-spec =
@@ -72,6 +78,7 @@ push-spec =
     decide-requires
     enum-known-ruling
     enum-known-ruling-2
+    mask-for-requires
     put-receivers-requires
     put-state-requires
     store-value-at-requires

@@ -4,6 +4,7 @@ use borrow.Author.Needs.{needs}
 use Rattle.requests.specs.declared.Ask.the-variants.{Get, Push, Logout}
 use Rattle.requests.specs.declared.Request.the-variants.{InSession}
 use Rattle.server.proofs.Pushed.{line-refused, asks, asked-stands, asked-short, line-decided, push-asked, slot-asked}
+use Rattle.server.proofs.Agree.{line-served}
 use Rattle.server.proofs.Replied.{left-refused}
 use Rattle.server.proofs.request.request.Statement.{statement}
 use Rattle.server.proofs.request.request.Tie as tie
@@ -34,7 +35,8 @@ enum-told : tie.Need-enum-told
 enum-told c = search needs
 
 returns : tie.Need-returns
-returns c = left-refused (line-refused _ _ (c .before .before .parse .ensures .0) (c .enum-told .given .1) _ _ _) _ _ _ _ refl
+returns c =
+    line-served _ _ _ _ _ _ refl (line-refused _ _ (c .before .before .parse .ensures .0) (c .enum-told .given .1) _ _ _ _) (left-refused refl _ _ _ _ refl)
 
 enum-known-asked-2 : tie.Need-enum-known-asked-2
 enum-known-asked-2 c = search needs
@@ -80,7 +82,7 @@ returns-2 c =
     let o = q .before .before .before in
     let p = o .before .before in
     let a = p .before .before .before .before .before .args in
-    rw (line-decided _ _ (p .parse .ensures .0) (o .asked .given .1) (q .asked2 .given .1) _ _ _) (c .login .ensures (a .fields .now) (a .buffer .now) (a .list .now))
+    line-served _ _ _ _ _ _ refl (line-decided _ _ (p .parse .ensures .0) (o .asked .given .1) (q .asked2 .given .1) _ _ _ _) (c .login .ensures (a .fields .now) (a .buffer .now) (a .list .now))
 
 same-length : tie.Need-same-length
 same-length c = search needs
@@ -92,7 +94,7 @@ returns-3 c =
     let o = t .before .before .before .before .before .before in
     let p = o .before .before in
     let a = p .before .before .before .before .before .args in
-    rw (line-decided _ _ (p .parse .ensures .0) (o .asked .given .1) (asks-copy t) _ _ _) (g .get .ensures (a .line .now) (a .list .now))
+    line-served _ _ _ _ _ _ refl (line-decided _ _ (p .parse .ensures .0) (o .asked .given .1) (asks-copy t) _ _ _ _) (g .get .ensures (a .line .now) (a .list .now))
 
 same-length-2 : tie.Need-same-length-2
 same-length-2 c = search needs
@@ -104,7 +106,7 @@ returns-4 c =
     let o = t .before .before .before .before .before .before in
     let p = o .before .before in
     let a = p .before .before .before .before .before .args in
-    rw (line-decided _ _ (p .parse .ensures .0) (o .asked .given .1) (asks-push t) _ _ _) (w .push .ensures (a .buffer .now))
+    line-served _ _ _ _ _ _ refl (line-decided _ _ (p .parse .ensures .0) (o .asked .given .1) (asks-push t) _ _ _ _) (w .push .ensures (a .buffer .now))
 
 returns-5 : tie.Need-returns-5
 returns-5 c =
@@ -112,7 +114,7 @@ returns-5 c =
     let o = t .before .before .before .before .before .before in
     let p = o .before .before in
     let a = p .before .before .before .before .before .args in
-    rw (line-decided _ _ (p .parse .ensures .0) (o .asked .given .1) (asks-logout t) _ _ _) (c .logout .ensures (a .line .now) (a .fields .now) (a .buffer .now) (a .list .now))
+    line-served _ _ _ _ _ _ refl (line-decided _ _ (p .parse .ensures .0) (o .asked .given .1) (asks-logout t) _ _ _ _) (c .logout .ensures (a .line .now) (a .fields .now) (a .buffer .now) (a .list .now))
 
 pub request-spec : {M : Type 1} → statement M
 request-spec =

@@ -12,14 +12,14 @@ use Rattle.server.proofs.save.save.Tie as tie
 
 -- where the ways meet, the buffer is as it was lent, and the text that is then written fits
 met : (c : tie.After-slice-known3)
-    → let lent = c .before .before .before .before .before .before .before .args .buffer .now in
-    (c .before .before .before .before .before .if1 .buffer ≡ lent) × (c .before .before .put-saved2 .result ≤ length lent)
+    → let lent = c .before .before .before .before .before .before .args .buffer .now in
+    (c .before .before .before .before .if1 .buffer ≡ lent) × (c .before .before .put-saved2 .result ≤ length lent)
 met c =
     let text = c .before .before .put-saved2 .ensures in
     ⊎-elim
-    (λ w. let kept = w .7 ∙ unwritten _ _ (w .3 .ensures .0) in (kept, omega (arith, ap length kept, w .3 .ensures .0 .0, text .0 .0, w .6 .left)))
+    (λ w. let kept = w .6 ∙ unwritten _ _ (w .2 .ensures .0) in (kept, omega (arith, ap length kept, w .2 .ensures .0 .0, text .0 .0, w .5 .left)))
     (λ w. (w .1, omega (arith, w .0 .left, text .1)))
-    (c .before .before .before .before .before .if1 .came)
+    (c .before .before .before .before .if1 .came)
 
 slice-relend-prefix-put-saved : tie.Need-slice-relend-prefix-put-saved
 slice-relend-prefix-put-saved c = search needs
@@ -36,7 +36,7 @@ same-length c = search needs
 returns : tie.Need-returns
 returns c tables logins =
     let m = c .before .before .before in
-    let a = m .before .before .before .before .before .args in
+    let a = m .before .before .before .before .args in
     let shows = save-shows tables logins (a .fields .now) (a .buffer .now) in
     let kept = unwritten _ _ (m .put-saved .ensures .0) in
     save-outcome tables logins (a .fields .now) (a .buffer .now) (shown-refused _ _ shows [] _ _ kept (m .put-saved .ensures .0) (c .if2 .taken))
@@ -49,7 +49,7 @@ same-length-2 c = c .before .before .put-saved2 .kept .0 ∙ ap length (met c .0
 
 returns-2 : tie.Need-returns-2
 returns-2 c tables logins =
-    let a = c .before .before .before .before .before .before .before .args in
+    let a = c .before .before .before .before .before .before .args in
     let shows = save-shows tables logins (a .fields .now) (a .buffer .now) in
     save-outcome tables logins (a .fields .now) (a .buffer .now) (shown-done _ _ shows [] _ _ (met c .0) (c .before .before .put-saved2 .ensures .0) (met c .1))
 

@@ -3,7 +3,8 @@ use native.Mathlib.Omega.{arith}
 use borrow.Author.Needs.{needs}
 use lib.ListN.{length-take}
 use Rattle.model.specs.Base.{text}
-use Rattle.writer.proofs.Shown.{held-short, held-none, held-end, held-some}
+use Rattle.record.proofs.Slots.{value-short}
+use Rattle.writer.proofs.Shown.{held-none, held-end, held-some}
 use Rattle.writer.proofs.saved.put_held.Statement.{statement}
 use Rattle.writer.proofs.saved.put_held.Tie as tie
 
@@ -54,7 +55,7 @@ returns-2 c =
     let s = c .before .before .before .before .before .before .before .before .before .before .before .before .args .slot .now in
     let e = held-some s _ (f .before .value-text .ensures .0) _ (f .value-at .ensures .0) (a .0 .0) (a .0 .1 .0) (a .1) in
     let w = rw e at (c .before .before .put2 .ensures) in
-    (w, omega (arith, held-short s))
+    (w, omega (arith, value-short s))
 
 pub put-held-spec : {M : Type 1} → statement M
 put-held-spec =

@@ -9,33 +9,35 @@ use Rattle.model.specs.Base.{Bytes, text}
 use Rattle.model.specs.SavedText.{savedBehind}
 use Rattle.buffers.proofs.Writers.{wrote-both}
 use Rattle.paths.specs.Layout.{pathIn}
-use Rattle.record.specs.Slots.{slotBytes, fieldsIn}
+use Rattle.layout.specs.Layout.{inUse}
+use Rattle.record.specs.Slots.{slotBytes}
 use Rattle.writer.proofs.Remains.{Remains, remains-step, remains-end}
 use Rattle.writer.proofs.Turns.{saved-none, saved-some, behind-none, behind-some}
-use Rattle.writer.proofs.Shown.{selectedFrom, Next, none-next, next}
+use Rattle.writer.proofs.Shown.{fieldsFrom, Next, none-next, next}
+use Rattle.writer.specs.declared.saved.Shown.{Shown}
 use Rattle.writer.proofs.saved.put_saved.Statement.{statement}
 use Rattle.writer.proofs.saved.put_saved.Tie as tie
-use Rattle.writer.specs.Selected.{savedField}
+use Rattle.writer.specs.Selected.{savedField, shownIn}
 
 -- the text behind the value of the field in slot i
-abbrev behind : ℕ → Bytes → Bytes → Bytes
-behind i shown table = savedBehind (pathIn (take slotBytes (drop (i * slotBytes) table))) (selectedFrom (i + 1) shown table)
+abbrev behind : ℕ → Shown → Bytes → Bytes
+behind i shown table = savedBehind (pathIn (take slotBytes (drop (i * slotBytes) table))) (fieldsFrom (i + 1) shown table)
 
 abbrev Inv-loop : tie.InvT-loop
 Inv-loop out₀ at table shown i₀ to₀ out i to =
-    (i < maxFields) × (i < length (fieldsIn table)) × (to ≤ at + savedField * (i + 1)) × (length out ≡ length out₀)
+    (i < maxFields) × (i < length (inUse slotBytes maxFields table)) × (to ≤ at + savedField * (i + 1)) × (length out ≡ length out₀)
     × Remains to₀ (behind i₀ shown table) out₀ to (behind i shown table) out
 
 abbrev μ-loop : tie.MeasureT-loop
 μ-loop out₀ at table shown i₀ to₀ out i to = maxFields - i
 
 -- the first field that is shown
-first-shown : (c : tie.Else1 Inv-loop μ-loop) → let a = c .before .before .before .args in Next (a .table .now) (a .shown .now) 0 (c .before .next-shown .result)
+first-shown : (c : tie.Else1 Inv-loop μ-loop) → let a = c .before .before .before .args in Next (a .table .now) (a .shown) 0 (c .before .next-shown .result)
 first-shown c = next _ _ 0 _ (omega arith) (c .before .next-shown .ensures) (c .if1 .left)
 
 -- the next one
 next-shown : (c : tie.Else2 Inv-loop μ-loop)
-    → let a = c .before .before .before .before .before .before .before .before .before .before .before .before .before .before .before .before .before .before .before .args in Next (a .table .now) (a .shown .now) (c .before .before .loop .i + 1) (c .before .next-shown2 .result)
+    → let a = c .before .before .before .before .before .before .before .before .before .before .before .before .before .before .before .before .before .before .before .args in Next (a .table .now) (a .shown) (c .before .before .loop .i + 1) (c .before .next-shown2 .result)
 next-shown c = next _ _ _ _ (omega arith) (c .before .next-shown2 .ensures) (c .if2 .left)
 
 next-shown-requires : tie.Need-next-shown-requires Inv-loop μ-loop
@@ -51,7 +53,7 @@ same-length : tie.Need-same-length Inv-loop μ-loop
 same-length c = search needs
 
 returns : tie.Need-returns Inv-loop μ-loop
-unfolding text
+unfolding text shownIn
 returns c =
     let t = c .before .before .before .before .before in
     (rw (none-next _ _ 0 _ (omega arith) (t .before .next-shown .ensures) (t .if1 .taken), saved-none) (c .before .before .put .ensures), search needs)
@@ -92,7 +94,7 @@ same-length-2 : tie.Need-same-length-2 Inv-loop μ-loop
 same-length-2 c = search needs
 
 returns-2 : tie.Need-returns-2 Inv-loop μ-loop
-unfolding text
+unfolding text shownIn
 returns-2 c =
     let t = c .before .before .before .before .before .before in
     let h = c .before .before .before .before .before .before .before .before .before .before .before in

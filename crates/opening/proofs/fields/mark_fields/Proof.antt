@@ -1,0 +1,88 @@
+-- Each turn sets one mask more, and changes no field.
+use Prim.Native.Nat.{_-_, _≤_, _<_}
+use mathlib.Core.Path.{_≡_, refl, ap, _∙_}
+use native.Mathlib.Omega.{arith}
+use borrow.Author.Needs.{needs}
+use lib.ListN.{length}
+use Rattle.layout.specs.Layout.{Keeps}
+use Rattle.model.specs.Fields.{Field}
+use Rattle.masks.specs.Readers.{readersOf}
+use Rattle.tables.specs.Memory.{tablesIn}
+use Rattle.record.specs.Slots.{fieldIn, fieldsIn, masksIn, fieldAt, CanonicalFields}
+use Rattle.record.proofs.Slots.{field-slot}
+use Rattle.record.proofs.Stores.{fields-fit}
+use Rattle.record.proofs.Masks.{masks-count}
+use Rattle.opening.proofs.Marked.{MarkedBelow, marked-start, marked-more, marked-all}
+use Rattle.opening.proofs.fields.mark_fields.Statement.{statement}
+use Rattle.opening.proofs.fields.mark_fields.Tie as tie
+
+abbrev Inv-loop : tie.InvT-loop
+Inv-loop tables table₀ n i₀ table i =
+    (i ≤ n) × (fieldsIn table ≡ fieldsIn table₀) × MarkedBelow (tablesIn tables) (fieldsIn table₀) i (masksIn table) × Keeps CanonicalFields table₀ table
+
+abbrev μ-loop : tie.MeasureT-loop
+μ-loop tables table₀ n i₀ table i = n - i
+
+count-requires : tie.Need-count-requires Inv-loop μ-loop
+count-requires c κs = search needs
+
+loop-holds : tie.Need-loop-holds Inv-loop μ-loop
+loop-holds c = let s = c .before .before .args .table .now in (search needs, refl, marked-start _ _ (masksIn s) (masks-count s), λ h. h)
+
+slot-at-requires : tie.Need-slot-at-requires Inv-loop μ-loop
+slot-at-requires c κs =
+    let n = c .before .before .before in
+    omega (arith, c .before .loop-test .taken, n .count .ensures, fields-fit (n .before .before .args .table .now))
+
+readers-requires : tie.Need-readers-requires Inv-loop μ-loop
+readers-requires c κs = search needs
+
+set-readers-requires : tie.Need-set-readers-requires Inv-loop μ-loop
+set-readers-requires c κs =
+    let t = c .before .before .before .before in
+    let l = t .before in
+    omega (arith, t .loop-test .taken, l .before .count .ensures, ap length (l .loop .inv .1))
+
+add-i : tie.Need-add-i Inv-loop μ-loop
+add-i c = search needs
+
+loop-less : tie.Need-loop-less Inv-loop μ-loop
+loop-less c = search needs
+
+loop-again : tie.Need-loop-again Inv-loop μ-loop
+unfolding fieldIn
+loop-again c =
+    let r = c .before .before in
+    let at = r .before in
+    let t = at .before .before in
+    let l = t .before .loop in
+    let n = t .before .before in
+    let a = n .before .before .args in
+    let below : l .i < length (fieldsIn (a .table .now)) = omega (arith, t .loop-test .taken, n .count .ensures) in
+    let now = fieldsIn (l .table) in
+    let field = field-slot (l .table) _ (l .i) (at .slot-at .ensures .0) (rw (l .inv .1) below) ∙ ap (fieldAt (l .i)) (l .inv .1) in
+    let mask = r .readers .ensures ∙ ap (λ (f : Field). readersOf (tablesIn (a .tables .now)) (f .path)) field in
+    let (same, keeps) = c .set-readers .ensures in
+    (search needs, same .0 ∙ l .inv .1, rw (same .1) (marked-more _ _ (l .i) (masksIn (l .table)) (l .inv .2) below mask), λ h. keeps (l .inv .3 h))
+
+returns : tie.Need-returns Inv-loop μ-loop
+returns c =
+    let l = c .before .loop in
+    let n = c .before .before in
+    (l .inv .1, (marked-all _ _ (l .i) (masksIn (l .table)) (l .inv .2) (omega (arith, c .loop-test .left, n .count .ensures)), l .inv .3))
+
+pub mark-fields-spec : {M : Type 1} → statement M
+mark-fields-spec =
+    tie.close
+    (tie.spec
+    Inv-loop
+    μ-loop
+    count-requires
+    loop-holds
+    slot-at-requires
+    readers-requires
+    set-readers-requires
+    add-i
+    loop-less
+    loop-again
+    returns)
