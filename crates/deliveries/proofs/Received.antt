@@ -1,5 +1,5 @@
 -- Whom a push reaches: by the policy and by the mask that it gives, and how a loop over the user places fills the list.
-use Prim.Native.Nat.{ℕ, zero, suc, _+_, _-_, _≤_, _<_}
+use Prim.Native.Nat.{ℕ, zero, suc, _+_, _-_, _/_, _^_, _≤_, _<_}
 use mathlib.Core.Path.{_≡_, refl, sym, ap, _∙_}
 use mathlib.Core.Bool.{Bool, true, false, not, _&&_, and-false}
 use mathlib.Core.Option.{none}
@@ -18,9 +18,9 @@ use Rattle.model.specs.Fields.{Keys}
 use Rattle.model.specs.Tables.{Tables, userAt}
 use Rattle.model.specs.Opening.{LoginState, State, emptyLogin}
 use Rattle.model.specs.Serving.{sessionNumber, loginAt, readsBy, readsAt, receivers, over}
-use Rattle.model.proofs.Lists.{by-cases, keep-yes, keep-no}
+use Rattle.model.proofs.Lists.{by-cases, keep-yes, keep-no, keep-none, all-range}
 use Rattle.masks.specs.Readers.{readersOf}
-use Rattle.masks.proofs.Bits.{mask-bit}
+use Rattle.masks.proofs.Bits.{mask-bit, none-set}
 use Rattle.deliveries.specs.Receivers.{receives, receiversOf}
 
 -- ── The document's receivers are those whom the policy's mask marks ──
@@ -110,4 +110,13 @@ module _ (ls : List LoginState) (i m : ℕ) (l₀ : List ℕ) where
     listed-all h =
         let e : maxUsers - j ≡ 0 = omega arith in
         let now = rw e at listed in
+        (sym (written-none k l) ∙ now .1, omega arith)
+
+    -- nor behind the last bit
+    pub listed-none : m / 2 ^ j ≡ 0 → (l ≡ over (receiversOf ls i m) l₀) × (k ≡ length (receiversOf ls i m))
+    unfolding receives
+    listed-none shifted =
+        let nobody : keep (receives ls i m) (range j (maxUsers - j)) ≡ [] =
+        keep-none _ _ (all-range _ j (maxUsers - j) (λ x from to. rw (none-set m j x shifted from, and-false))) in
+        let now = rw nobody at listed in
         (sym (written-none k l) ∙ now .1, omega arith)

@@ -4,6 +4,7 @@ use buffers::put_byte;
 use buffers::put_decimal;
 use lexical::limits::MAX_USERS;
 use masks::has_bit;
+use masks::none_from;
 use sessions::LOGINS;
 use sessions::number;
 use sessions::state_at;
@@ -29,7 +30,7 @@ fn receives(logins: &[u16; LOGINS], i: usize, mask: u32, j: usize) -> bool
     state_at(logins, j).is_open
 }
 
-// The session numbers that a push by the user at i reaches, of the users whom the mask marks, ascending, at the start of the list; how many they are.
+// The session numbers that a push by the user at i reaches, of the users whom the mask marks, ascending, at the start of the list; how many they are. Behind the last of them nobody is asked.
 pub fn put_receivers(list: &mut [u32], logins: &[u16; LOGINS], i: usize, mask: u32) -> usize
     requires { ⌜ maxUsers ≤ length (now list) ⌝ }
     ensures { λ r. ⌜ Listed (now (logins .entry)) i mask (now (list .entry)) r (now (list .exit)) ⌝ }
@@ -37,6 +38,9 @@ pub fn put_receivers(list: &mut [u32], logins: &[u16; LOGINS], i: usize, mask: u
     let mut told: usize = 0;
     let mut j: usize = 0;
     while j < MAX_USERS {
+        if none_from(mask, j) {
+            return told;
+        }
         if receives(logins, i, mask, j) {
             list[told] = number(j, state_at(logins, j));
             told += 1;

@@ -178,6 +178,13 @@ module _ (g : ℕ → Bool) (m₀ j m : ℕ) (h : SetBelow g m₀ j m) where
   unfolding SetBelow
   below-end none k = h k ∙ by-cases (ltb k j) (λ l. rw l) (λ l. rw (l, none k (ltb-false k j l)))
 
+-- where nothing is left of a number that is shifted down, it has no bit from there on
+pub none-set : (m j k : ℕ) → m / 2 ^ j ≡ 0 → j ≤ k → bitAt m k ≡ false
+unfolding bitAt
+none-set m j k e h =
+    let q : k ≡ j + (k - j) = omega arith in
+    rw (q, ← shr-shr m j (k - j), e, div-eq-of-lt {n = 0} {m = 2 ^ (k - j)} (pow-pos (k - j)))
+
 -- ── Bytes ──
 pub mask-long : (m : ℕ) → length (encodeMask m) ≡ maskBytes
 unfolding encodeMask

@@ -27,6 +27,14 @@ pub fn has_bit(mask: u32, j: usize) -> bool
     (mask >> j) & 1 == 1
 }
 
+// Whether no bit is set from the place j on.
+pub fn none_from(mask: u32, j: usize) -> bool
+    requires { ⌜ j < maxUsers ⌝ }
+    ensures { λ r. ⌜ r ≡ eqb (mask / 2 ^ j) 0 ⌝ }
+{
+    mask >> j == 0
+}
+
 // A byte more at the end where it counts least.
 fn joined(high: u32, low: u8) -> u32
     requires { ⌜ high < 2 ^ 24 ⌝ }

@@ -1,13 +1,14 @@
 -- Each turn stores the number of one user's session, if that user receives the push; the numbers of the later users remain to be stored.
 use Prim.Native.Nat.{_-_, _≤_}
-use mathlib.Core.Path.{_≡_, refl}
+use mathlib.Core.Path.{_≡_, refl, sym, _∙_}
 use mathlib.Core.Logic.{⊎-elim}
 use native.Mathlib.Omega.{arith}
 use borrow.Author.Needs.{needs}
+use borrow.Author.Tests.{eqb-true}
 use lib.ListN.{length, length-set}
 use Rattle.model.specs.Limits.{maxUsers}
 use Rattle.sessions.specs.Logins.{loginsIn}
-use Rattle.deliveries.proofs.Received.{ListedFrom, listed-start, listed-more, listed-same, listed-all}
+use Rattle.deliveries.proofs.Received.{ListedFrom, listed-start, listed-more, listed-same, listed-none, listed-all}
 use Rattle.deliveries.proofs.put_receivers.Statement.{statement}
 use Rattle.deliveries.proofs.put_receivers.Tie as tie
 
@@ -20,6 +21,19 @@ abbrev μ-loop : tie.MeasureT-loop
 
 loop-holds : tie.Need-loop-holds Inv-loop μ-loop
 loop-holds c = (search needs, search needs, refl, listed-start _ _ _ _ (c .before .pre))
+
+none-from-requires : tie.Need-none-from-requires Inv-loop μ-loop
+none-from-requires c κs = search needs
+
+same-length : tie.Need-same-length Inv-loop μ-loop
+same-length c = search needs
+
+returns : tie.Need-returns Inv-loop μ-loop
+returns c =
+    let l = c .before .before .before .loop in
+    let none = eqb-true _ _ (sym (c .before .none-from .ensures) ∙ c .if1 .taken) in
+    let (listed, counted) = listed-none _ _ _ _ (l .told) (l .j) (l .list) (l .inv .3) none in
+    record { listed = listed; counted = counted }
 
 receives-requires : tie.Need-receives-requires Inv-loop μ-loop
 receives-requires c κs = search needs
@@ -47,21 +61,21 @@ loop-less c = search needs
 
 loop-again : tie.Need-loop-again Inv-loop μ-loop
 loop-again c =
-    let l = c .before .before .before .loop in
-    let below = c .before .before .loop-test .taken in
+    let l = c .before .before .before .before .before .loop in
+    let below = c .before .before .before .before .loop-test .taken in
     let test = c .before .receives .ensures in
     ⊎-elim
     (λ w. let more = listed-more _ _ _ _ (l .told) (l .j) _ (l .inv .3) below test (w .0 .taken) (w .1 .ensures) (w .2 .ensures) in
     rw (w .3, w .4) (search needs, omega arith, simp length-set (l .inv .2), more))
     (λ w. let same = listed-same _ _ _ _ (l .told) (l .j) _ (l .inv .3) below test (w .0 .left) in
     rw (w .1, w .2) (search needs, omega arith, l .inv .2, same))
-    (c .if1 .came)
+    (c .if2 .came)
 
-same-length : tie.Need-same-length Inv-loop μ-loop
-same-length c = search needs
+same-length-2 : tie.Need-same-length-2 Inv-loop μ-loop
+same-length-2 c = search needs
 
-returns : tie.Need-returns Inv-loop μ-loop
-returns c =
+returns-2 : tie.Need-returns-2 Inv-loop μ-loop
+returns-2 c =
     let l = c .before .loop in
     let (listed, counted) = listed-all _ _ _ _ (l .told) (l .j) (l .list) (l .inv .3) (search needs) in
     record { listed = listed; counted = counted }
@@ -73,6 +87,9 @@ put-receivers-spec =
     Inv-loop
     μ-loop
     loop-holds
+    none-from-requires
+    same-length
+    returns
     receives-requires
     state-at-requires
     number-requires
@@ -82,5 +99,5 @@ put-receivers-spec =
     add-j
     loop-less
     loop-again
-    same-length
-    returns)
+    same-length-2
+    returns-2)
