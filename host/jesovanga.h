@@ -1,5 +1,6 @@
 /* The club's record server, for C: three operations on three arrays that the caller lends.
-   Link with target/staticlib/libexports.a (rt staticlib exports), x86-64. Nothing is kept between calls but what the arrays hold. */
+   Link with target/staticlib/libexports.a (rt staticlib exports), x86-64. Nothing is kept between calls but what the arrays hold.
+   The three belong together: the fields carry masks made from these tables. Beside tables of another opening the masks decide who reads, not the policy. */
 #ifndef JESOVANGA_H
 #define JESOVANGA_H
 
@@ -8,7 +9,7 @@
 
 #define JESOVANGA_TABLES 47200 /* bytes: users, environment lines and policy lines */
 #define JESOVANGA_LOGINS 96    /* numbers: logins, whether a session is open, fields created, for each of 32 users */
-#define JESOVANGA_RECORD 36352 /* bytes: 256 fields */
+#define JESOVANGA_RECORD 36352 /* bytes: 256 fields, each with the mask of those who may read it */
 #define JESOVANGA_COPY 51069   /* bytes: no copy and no saved text of a run is longer */
 #define JESOVANGA_LIST 32      /* numbers that a list has to have room for */
 

@@ -7,6 +7,7 @@ use mathlib.Core.List.{List, [], _∷_, map}
 use native.Mathlib.Nat.{zero-add}
 use native.Mathlib.Numerals.{add-one}
 use native.Mathlib.Omega.{arith}
+use borrow.Author.Tests.{eqb-true}
 use lib.Dec.{eqb}
 use lib.ListN.{length, getD, getElem?, set, length-map}
 use lib.Seq.{sets-eq}
@@ -19,8 +20,10 @@ use Rattle.model.specs.Tables.{Tables, userAt}
 use Rattle.model.specs.Opening.{LoginState, State, emptyLogin}
 use Rattle.model.specs.Serving.{sessionNumber, loginAt, readsBy, readsAt, receivers, over}
 use Rattle.model.proofs.Lists.{by-cases, keep-yes, keep-no, keep-none, all-range}
+use Rattle.masks.specs.Bits.{noneFrom}
 use Rattle.masks.specs.Readers.{readersOf}
-use Rattle.masks.proofs.Bits.{mask-bit, none-set}
+use Rattle.masks.proofs.Bits.{none-set}
+use Rattle.masks.proofs.Readers.{reads-bit}
 use Rattle.deliveries.specs.Receivers.{receives, receiversOf}
 
 -- ── The document's receivers are those whom the policy's mask marks ──
@@ -48,12 +51,12 @@ reads-past t p j h = rw (elem-past (t .users) j h)
 
 pub receivers-of : (s : State) → length (s .tables .users) ≤ maxUsers → (i : ℕ) (p : Keys)
     → receiversOf (s .loginStates) i (readersOf (s .tables) p) ≡ receivers s i p
-unfolding receivers receiversOf receives loginAt readersOf
+unfolding receivers receiversOf receives loginAt
 receivers-of s few i p =
     ap (map (λ j. sessionNumber j (loginAt s j)))
     (kept-same (receives (s .loginStates) i (readersOf (s .tables) p)) (λ j. loginAt s j .isOpen && not (eqb j i) && readsAt (s .tables) j p)
     0 (length (s .tables .users)) maxUsers few
-    (λ j h. rw (mask-bit (λ k. readsAt (s .tables) k p) maxUsers j h))
+    (λ j h. rw (reads-bit (s .tables) few p j))
     (λ j h. rw (reads-past (s .tables) p j (omega arith), and-false)))
 
 -- ── There are at most as many receivers as user places ──
@@ -113,10 +116,11 @@ module _ (ls : List LoginState) (i m : ℕ) (l₀ : List ℕ) where
         (sym (written-none k l) ∙ now .1, omega arith)
 
     -- nor behind the last bit
-    pub listed-none : m / 2 ^ j ≡ 0 → (l ≡ over (receiversOf ls i m) l₀) × (k ≡ length (receiversOf ls i m))
-    unfolding receives
+    pub listed-none : noneFrom m j ≡ true → (l ≡ over (receiversOf ls i m) l₀) × (k ≡ length (receiversOf ls i m))
+    unfolding receives noneFrom
     listed-none shifted =
+        let empty = eqb-true (m / 2 ^ j) 0 shifted in
         let nobody : keep (receives ls i m) (range j (maxUsers - j)) ≡ [] =
-        keep-none _ _ (all-range _ j (maxUsers - j) (λ x from to. rw (none-set m j x shifted from, and-false))) in
+        keep-none _ _ (all-range (λ x. receives ls i m x ≡ false) j (maxUsers - j) (λ x from to. rw (none-set m j x empty from, and-false))) in
         let now = rw nobody at listed in
         (sym (written-none k l) ∙ now .1, omega arith)

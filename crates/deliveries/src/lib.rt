@@ -30,7 +30,7 @@ fn receives(logins: &[u16; LOGINS], i: usize, mask: u32, j: usize) -> bool
     state_at(logins, j).is_open
 }
 
-// The session numbers that a push by the user at i reaches, of the users whom the mask marks, ascending, at the start of the list; how many they are. Behind the last of them nobody is asked.
+// The session numbers that a push by the user at i reaches, of the users whom the mask marks, ascending, at the start of the list; how many they are. Behind the mask's last bit nobody is asked.
 pub fn put_receivers(list: &mut [u32], logins: &[u16; LOGINS], i: usize, mask: u32) -> usize
     requires { ⌜ maxUsers ≤ length (now list) ⌝ }
     ensures { λ r. ⌜ Listed (now (logins .entry)) i mask (now (list .entry)) r (now (list .exit)) ⌝ }

@@ -9,7 +9,7 @@ use Rattle.model.specs.Serving.{Answer, refusal, session, length-is, accepted, 
 use Rattle.opening.specs.Memory.{Arrays, stateIn, stateOf, masksOf, Agree}
 use Rattle.opening.specs.Answers.{arraysAfter}
 use Rattle.sessions.specs.Logins.{numbersAfter}
-use Rattle.server.specs.Masked.{Effect, effectMasked, effectSaid}
+use Rattle.server.specs.Masked.{Effect, effectByMasks, effectByPolicy}
 use Rattle.server.specs.Replies.{fieldsAfter}
 
 -- an opening's refusal: its number, its text and its line; 0 where it is accepted
@@ -66,12 +66,12 @@ pub record ServesAs (w : Effect) (before : Arrays) (kind r : ℕ) (after : Array
   pub masks : masksOf after ≡ w .masks
 
 -- by the masks, whatever the arrays hold
-abbrev pub ServesMasked : Arrays → Act → ℕ → ℕ → Arrays → Bytes → List ℕ → Type 0
-ServesMasked before act kind r after buffer list = ServesAs (effectMasked (stateOf before) (masksOf before) act) before kind r after buffer list
+abbrev pub ServesByMasks : Arrays → Act → ℕ → ℕ → Arrays → Bytes → List ℕ → Type 0
+ServesByMasks before act kind r after buffer list = ServesAs (effectByMasks (stateOf before) (masksOf before) act) before kind r after buffer list
 
 -- where the masks agree with the policy as documents 01 and 02 say, and they agree again
-abbrev pub ServesSaid : Arrays → Act → ℕ → ℕ → Arrays → Bytes → List ℕ → Type 0
-ServesSaid before act kind r after buffer list = Agree before → ServesAs (effectSaid (stateOf before) act) before kind r after buffer list × Agree after
+abbrev pub ServesByPolicy : Arrays → Act → ℕ → ℕ → Arrays → Bytes → List ℕ → Type 0
+ServesByPolicy before act kind r after buffer list = Agree before → ServesAs (effectByPolicy (stateOf before) act) before kind r after buffer list × Agree after
 
 -- fields saved, whatever the tables and the login states are
 abbrev pub SavesAs : Bytes → Bytes → ℕ → ℕ → Bytes → Type 0

@@ -18,7 +18,7 @@ ghost use Rattle.record.specs.Slots.{recordBytes};
 ghost use Rattle.sessions.specs.Logins.{loginNumbers};
 ghost use Rattle.server.specs.Replies.{answerIn, toldIn};
 ghost use Rattle.tables.specs.Memory.{tablesBytes};
-ghost use Rattle.exports.specs.Numbers.{kindOf, numberOf, OpensAs, ServesMasked, ServesSaid, SavesAs};
+ghost use Rattle.exports.specs.Numbers.{kindOf, numberOf, OpensAs, ServesByMasks, ServesByPolicy, SavesAs};
 
 // How large the arrays are that a caller lends: bytes of the tables, numbers of the login states, bytes of the fields.
 #[no_mangle]
@@ -123,13 +123,13 @@ pub extern "C" fn jesovanga_request(
     list: &mut [u32],
     kind: &mut u32,
 ) -> usize
-    ensures { λ r. ⌜ ServesMasked
+    ensures { λ r. ⌜ ServesByMasks
         (arrays (now (tables .entry)) (now (logins .entry)) (now (fields .entry)))
         (serving.line (now (line .entry)) (now (buffer .entry)) (now (list .entry)))
         (now (kind .exit)) r
         (arrays (now (tables .entry)) (now (logins .exit)) (now (fields .exit)))
         (now (buffer .exit)) (now (list .exit)) ⌝ }
-    ensures { λ r. ⌜ ServesSaid
+    ensures { λ r. ⌜ ServesByPolicy
         (arrays (now (tables .entry)) (now (logins .entry)) (now (fields .entry)))
         (serving.line (now (line .entry)) (now (buffer .entry)) (now (list .entry)))
         (now (kind .exit)) r

@@ -1,7 +1,7 @@
 -- Bits set and tested, the number with given bits, and a loop that sets bits by a test.
 use Prim.Native.Nat.{ℕ, zero, suc, _+_, _-_, _*_, _/_, _%_, _^_, _≤_, _<_, max}
 use mathlib.Core.Path.{_≡_, refl, sym, ap, _∙_}
-use mathlib.Core.Bool.{Bool, true, false, _&&_, _||_}
+use mathlib.Core.Bool.{Bool, true, false, _&&_, _||_, or-false}
 use native.Mathlib.Nat.{div-eq-of-lt, div-one, one-mul, add-zero}
 use native.Mathlib.Numerals.{add-one}
 use native.Mathlib.Omega.{arith}
@@ -14,23 +14,15 @@ use lib.ListN.{length}
 use Rattle.model.specs.Base.{Bytes, if_then_else_}
 use Rattle.model.specs.Limits.{maxUsers}
 use Rattle.model.proofs.Lists.{by-cases}
-use Rattle.masks.specs.Bits.{bitAt, maskOf, maskBytes, maskIn, encodeMask}
+use Rattle.masks.specs.Bits.{bitAt, maskOf, maskBytes, decodeMask, encodeMask}
 
--- m has no more than n bits
+-- the number has no more than n bits
 mask-below : (f : ℕ → Bool) (n : ℕ) → maskOf f n < 2 ^ n
 unfolding maskOf
 mask-below f zero = omega arith
 mask-below f (suc n) =
     let two : 2 ^ suc n ≡ 2 ^ n * 2 = native.Mathlib.Nat.pow-suc 2 n in
     by-cases (f n) (λ e. rw (e, two) (omega (arith, mask-below f n))) (λ e. rw (e, two) (omega (arith, mask-below f n)))
-
-and-false : (b : Bool) → (b && false) ≡ false
-and-false true = refl
-and-false false = refl
-
-or-false : (b : Bool) → (b || false) ≡ b
-or-false true = refl
-or-false false = refl
 
 -- the lowest digit
 or-digit : (a b : ℕ) → bitOr a b % 2 ≡ max (a % 2) (b % 2)
@@ -67,7 +59,7 @@ bit-more m n j h =
     let e : m + 2 ^ n ≡ bitOr m (2 ^ n) = omega (arith, rw one-mul at (or-shifted-r 1 n m h)) in
     rw (e, or-bit m (2 ^ n) j, pow-bit n j)
 
-bit-none : (j : ℕ) → bitAt 0 j ≡ false
+pub bit-none : (j : ℕ) → bitAt 0 j ≡ false
 unfolding bitAt
 bit-none j = rw (div-eq-of-lt {n = 0} {m = 2 ^ j} (pow-pos j))
 
@@ -95,7 +87,7 @@ mask-bits f (suc n) j = by-cases (f n)
 pub mask-bit : (f : ℕ → Bool) (n j : ℕ) → j < n → bitAt (maskOf f n) j ≡ f j
 mask-bit f n j h = mask-bits f n j ∙ rw (lt-ltb j n h)
 
--- ── Two numbers with the same bits are equal: what `readers` needs to show that its u32 is `markOf` ──
+-- ── Two numbers with the same bits are equal: what a u32 needs to be the mask of a test ──
 bit-half : (m j : ℕ) → bitAt (m / 2) j ≡ bitAt m (1 + j)
 unfolding bitAt
 bit-half m j = rw (shr-shr m 1 j)
@@ -147,9 +139,6 @@ pub with-set : (m i j : ℕ) → i < 32 → bitAt (bitOr m (1 * 2 ^ i % 2 ^ 32))
 with-set m i j h =
     rw (shl-exact {a = 1} 1 i 32 (omega arith) (omega arith), one-mul, or-bit m (2 ^ i) j, pow-bit i j) (or-comm (bitAt m j) (eqb j i))
 
-pub no-bits : (j : ℕ) → bitAt 0 j ≡ false
-no-bits = bit-none
-
 -- ── A loop that sets the bits of those who pass a test g: the ones below j were asked ──
 unfoldable pub SetBelow : (ℕ → Bool) → ℕ → ℕ → ℕ → Type 0
 SetBelow g m₀ j m = (k : ℕ) → bitAt m k ≡ (bitAt m₀ k || (ltb k j && g k))
@@ -191,8 +180,8 @@ unfolding encodeMask
 mask-long m = refl
 
 -- a mask in its bytes is read back, whatever stands behind them
-pub mask-back : (m : ℕ) (rest : Bytes) → m < 2 ^ maxUsers → maskIn (encodeMask m ++ rest) ≡ m
-unfolding maskIn encodeMask
+pub mask-back : (m : ℕ) (rest : Bytes) → m < 2 ^ maxUsers → decodeMask (encodeMask m ++ rest) ≡ m
+unfolding decodeMask encodeMask
 mask-back m rest h =
     let top : m / 2 ^ 24 % 2 ^ 8 ≡ m / 2 ^ 24 = omega arith in
     let third : m / 2 ^ 16 % 2 ^ 8 + 2 ^ 8 * (m / 2 ^ 24) ≡ m / 2 ^ 16 = omega (arith, shr-shr m 16 8) in

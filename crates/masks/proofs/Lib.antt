@@ -1,2 +1,3 @@
 -- Laws of masks.
 pub mod Bits
+pub mod Readers

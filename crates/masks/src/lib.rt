@@ -6,9 +6,9 @@ ghost use Prim.Native.Nat.{ℕ, _+_, _*_, _/_, _%_, _≤_, _<_, _^_};
 ghost use lib.Dec.{eqb};
 ghost use lib.ListN.{length};
 ghost use Rattle.model.specs.Limits.{maxUsers};
-ghost use Rattle.masks.specs.Bits.{bitAt, maskBytes, maskIn, encodeMask};
+ghost use Rattle.masks.specs.Bits.{bitAt, noneFrom, maskBytes, decodeMask, encodeMask};
 
-// The bytes of a mask.
+// How many bytes a mask has.
 pub const MASK: usize = MAX_USERS / 8;
 
 // A mask with the bit of the place j set.
@@ -30,13 +30,13 @@ pub fn has_bit(mask: u32, j: usize) -> bool
 // Whether no bit is set from the place j on.
 pub fn none_from(mask: u32, j: usize) -> bool
     requires { ⌜ j < maxUsers ⌝ }
-    ensures { λ r. ⌜ r ≡ eqb (mask / 2 ^ j) 0 ⌝ }
+    ensures { λ r. ⌜ r ≡ noneFrom mask j ⌝ }
 {
     mask >> j == 0
 }
 
 // A byte more at the end where it counts least.
-fn joined(high: u32, low: u8) -> u32
+fn with_byte(high: u32, low: u8) -> u32
     requires { ⌜ high < 2 ^ 24 ⌝ }
     ensures { λ r. ⌜ (r ≡ low + 2 ^ 8 * high) × (r < 2 ^ 8 * (high + 1)) ⌝ }
 {
@@ -44,11 +44,11 @@ fn joined(high: u32, low: u8) -> u32
 }
 
 // The mask in the first four bytes.
-pub fn mask_in(s: &[u8]) -> u32
+pub fn decode_mask(s: &[u8]) -> u32
     requires { ⌜ maskBytes ≤ length (now s) ⌝ }
-    ensures { λ r. ⌜ r ≡ maskIn (now (s .entry)) ⌝ }
+    ensures { λ r. ⌜ r ≡ decodeMask (now (s .entry)) ⌝ }
 {
-    joined(joined(joined(joined(0, s[3]), s[2]), s[1]), s[0])
+    with_byte(with_byte(with_byte(with_byte(0, s[3]), s[2]), s[1]), s[0])
 }
 
 // The byte that counts least, `by` bits up.
@@ -60,7 +60,7 @@ fn byte_at(mask: u32, by: u32) -> u8
 }
 
 // The bytes of a mask.
-pub fn mask_bytes(mask: u32) -> [u8; MASK]
+pub fn encode_mask(mask: u32) -> [u8; MASK]
     ensures { λ r. ⌜ r ≡ encodeMask mask ⌝ }
 {
     [

@@ -4,6 +4,6 @@ pub mod Conflicting
 pub mod Opened
 pub mod TablesOpened
 pub mod Stored
-pub mod Marked
+pub mod Masks
 pub mod Zeros
 pub mod AllOpened

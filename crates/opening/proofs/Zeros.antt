@@ -11,7 +11,7 @@ use Rattle.model.specs.Limits.{maxFields, maxUsers, maxRules}
 use Rattle.model.specs.Opening.{emptyLogin, emptyLogins, initial}
 use Rattle.tables.specs.Memory.{userRow, usersBytes, ruleRow, tablesBytes, userIn, usersIn, ruleIn, policyIn, tablesIn}
 use Rattle.sessions.specs.Logins.{loginNumbers, loginIn, loginsIn}
-use Rattle.record.specs.Slots.{slotBytes, recordBytes, fieldIn, readersIn, fieldsIn, masksIn}
+use Rattle.record.specs.Slots.{slotBytes, recordBytes, fieldIn, maskIn, fieldsIn, masksIn}
 use Rattle.opening.specs.Memory.{arrays, stateIn, Agree}
 use Rattle.opening.proofs.TablesOpened.{noTables}
 
@@ -38,4 +38,4 @@ zeros-initial = rw (no-tables, no-logins, no-fields)
 pub zeros-agree : Agree (arrays (zeros tablesBytes) (zeros loginNumbers) (zeros recordBytes))
 unfolding masksIn
 zeros-agree =
-    rw (no-fields, table-none readersIn slotBytes maxFields (zeros recordBytes) (omega arith) (zero-at recordBytes 0))
+    rw (no-fields, table-none maskIn slotBytes maxFields (zeros recordBytes) (omega arith) (zero-at recordBytes 0))

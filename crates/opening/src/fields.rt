@@ -5,7 +5,7 @@ use layout::table::row_count;
 use loader::read_record;
 use matching::conflict::steps_of;
 use reader::grammar::RecordRead;
-use record::slot::set_readers;
+use record::slot::set_mask;
 use record::table::RECORD;
 use record::table::SLOTS;
 use record::table::count;
@@ -89,7 +89,7 @@ pub fn open_record(tables: &[u8; TABLES], table: &mut [u8; RECORD], s: &[u8]) ->
 }
 
 // Beside each field the mask of those who may read it.
-pub fn mark_fields(tables: &[u8; TABLES], table: &mut [u8; RECORD])
+pub fn set_masks(tables: &[u8; TABLES], table: &mut [u8; RECORD])
     ensures { λ _. ⌜ fieldsIn (now (table .exit)) ≡ fieldsIn (now (table .entry)) ⌝ }
     ensures { λ _. ⌜ Agreed (tablesIn (now (tables .entry))) (fieldsIn (now (table .entry))) (masksIn (now (table .exit))) ⌝ }
     ensures { λ _. ⌜ Keeps CanonicalFields (now (table .entry)) (now (table .exit)) ⌝ }
@@ -98,7 +98,7 @@ pub fn mark_fields(tables: &[u8; TABLES], table: &mut [u8; RECORD])
     let mut i: usize = 0;
     while i < n {
         let mask = readers(tables, slot_at(table, i));
-        set_readers(table, i, mask);
+        set_mask(table, i, mask);
         i += 1;
     }
 }

@@ -1,7 +1,7 @@
 // Opening the four texts: all or nothing.
 use crate::answer::Opening;
-use crate::fields::mark_fields;
 use crate::fields::open_record;
+use crate::fields::set_masks;
 use crate::store::copy_fields;
 use crate::store::copy_tables;
 use crate::texts::open_tables;
@@ -62,7 +62,7 @@ pub fn open(
     let Opening::Done = loaded else {
         return loaded;
     };
-    mark_fields(&memory, &mut table);
+    set_masks(&memory, &mut table);
     copy_tables(tables, &memory);
     copy_fields(fields, &table);
     *logins = [0u16; LOGINS];

@@ -32,10 +32,10 @@ use Rattle.opening.specs.Memory.{Arrays, stateIn, stateOf, masksOf}
 use Rattle.server.specs.declared.answer.Reply.{Reply}
 use Rattle.server.specs.declared.answer.Reply.the-variants.{Refused, Session, Length, Accepted}
 use Rattle.server.proofs.answer.Reply.{the-type}
-use Rattle.server.specs.Masked.{decideGetMasked, decideMasked, decideLineMasked, decisionMasked, maskFor, notifiedMasked, concludeMasked, effectOf, effectMasked}
-use Rattle.server.specs.Replies.{answerIn, toldIn, outcomeIn, Lent, StandsAt, act, ServedMasked}
+use Rattle.server.specs.Masked.{decideGetMasked, decideMasked, decideLineMasked, decisionMasked, maskFor, notifiedMasked, concludeMasked, effectOf, effectByMasks}
+use Rattle.server.specs.Replies.{answerIn, toldIn, outcomeIn, Lent, StandsAt, act, eventOf, ServedByMasks}
 use Rattle.server.proofs.Agree.{memory-agrees, agrees-after}
-use Rattle.printing.specs.Printed.{Inside, Left, eventOf, RespondsMasked, RespondsSaid}
+use Rattle.printing.specs.Printed.{Inside, Left, RespondsByMasks, RespondsByPolicy}
 
 length-over : {A : Type 0} (new old : List A) → length new ≤ length old → length (over new old) ≡ length old
 unfolding over
@@ -142,7 +142,7 @@ module _ (s : State) (ms : List ℕ) (b : Bytes) (l : List ℕ) (t : Bytes) (at 
       (λ x shows-it fits. let z : _≡_ {A = ℕ} 0 1 = cc in absurd (omega arith))
 
 -- ── The reply r to a line, with what it left ──
-module _ (before : Arrays) (t : Bytes) (given : Lent) (r : Reply) (after : Arrays) (left : Lent) (served : ServedMasked before t given r after left) where
+module _ (before : Arrays) (t : Bytes) (given : Lent) (r : Reply) (after : Arrays) (left : Lent) (served : ServedByMasks before t given r after left) where
   abbrev s : State
   s = stateOf before
 
@@ -157,10 +157,10 @@ module _ (before : Arrays) (t : Bytes) (given : Lent) (r : Reply) (after : Array
 
   -- what a line comes to, by the masks
   abbrev done-by : Outcome
-  done-by = effectMasked s ms (act t given) .outcome
+  done-by = effectByMasks s ms (act t given) .outcome
 
   reply-is : outcomeIn r (stateOf after) (left .buffer) (left .list) ≡ concludeMasked s ms b l (decisionMasked s ms (line t b l))
-  unfolding effectMasked effectOf bufferOf listOf
+  unfolding effectByMasks effectOf bufferOf listOf
   reply-is = served .is
 
   by-reply : (P : Outcome → Type 0) → ((e : ℕ) → P (unchanged s b l e))
@@ -192,7 +192,7 @@ module _ (before : Arrays) (t : Bytes) (given : Lent) (r : Reply) (after : Array
   -- ── It is accepted ──
   module _ {k at : ℕ} (is : r ≡ Accepted k at) where
     speaks : Speaks t at (outcomeIn r (stateOf after) (left .buffer) (left .list))
-    unfolding outcomeIn concludeMasked unchanged effectMasked effectOf
+    unfolding outcomeIn concludeMasked unchanged effectByMasks effectOf
     speaks = subst (Speaks t at) (sym reply-is) (
         by-line s ms b l t (λ d. concludeMasked s ms b l d .answer ≡ accepted → StandsAt d t at → Speaks t at (concludeMasked s ms b l d))
         (λ e h. let z : _≡_ {A = ℕ} 0 1 = cc in absurd (omega arith))
@@ -218,7 +218,7 @@ module _ (before : Arrays) (t : Bytes) (given : Lent) (r : Reply) (after : Array
 
 -- ── Where the masks agree with the policy, all this is as documents 01 and 02 say ──
 pub said : (before : Arrays) (t : Bytes) (given : Lent) (after : Arrays) (left : Lent) (from : Bytes) (n : ℕ) (out : Bytes) → after .tables ≡ before .tables
-    → RespondsMasked before t given after left from n out → RespondsMasked before t given after left from n out × RespondsSaid before t given after left from n out
+    → RespondsByMasks before t given after left from n out → RespondsByMasks before t given after left from n out × RespondsByPolicy before t given after left from n out
 said before t given after left from n out same masked = (
   masked,
   λ a. (

@@ -5,8 +5,7 @@ use mathlib.Core.List.{[], _++_}
 use Rattle.model.specs.Base.{Bytes, text, decimal}
 use Rattle.model.specs.Limits.{maxCopy}
 use Rattle.model.specs.Opening.{State, fault}
-use Rattle.model.specs.Serving.{Act, Outcome}
-use Rattle.model.specs.Runs.{requestOfAct, Event}
+use Rattle.model.specs.Serving.{Outcome}
 use Rattle.model.specs.Program.{printFault, printed}
 use Rattle.rows.specs.Rows.{Wrote}
 use Rattle.sessions.specs.Logins.{numbersAfter}
@@ -16,8 +15,8 @@ use Rattle.opening.specs.declared.answer.Opening.{Opening}
 use Rattle.opening.specs.declared.answer.Opening.the-variants as opening
 use Rattle.server.specs.declared.answer.Reply.{Reply}
 use Rattle.server.specs.declared.answer.Reply.the-variants as reply
-use Rattle.server.specs.Masked.{Effect, effectMasked, effectSaid}
-use Rattle.server.specs.Replies.{Lent, fieldsAfter, act}
+use Rattle.server.specs.Masked.{Effect, effectByMasks, effectByPolicy}
+use Rattle.server.specs.Replies.{Lent, fieldsAfter, act, eventOf}
 
 -- ── Lengths, in bytes ──
 -- `OK;` and `NO;`
@@ -61,10 +60,6 @@ Inside (reply.Accepted k at) room = Unit {0}
 abbrev pub Left : Outcome → State → Lent → Type 0
 Left o s left = (s ≡ o .state) × (left .buffer ≡ o .buffer) × (left .list ≡ o .list)
 
--- what happened to a line, where this is its outcome
-abbrev pub eventOf : State → Act → Outcome → Event
-eventOf s a o = record { before = s; act = a; request = requestOfAct a; result = o }
-
 -- a line has its effect: what it leaves, in meaning and in memory, and what is printed for it, n bytes, written over the start of `over` as far as there is room
 pub record Responds (w : Effect) (text : Bytes) (before : Arrays) (given : Lent) (after : Arrays) (left : Lent) (over : Bytes) (n : ℕ) (out : Bytes) : Type 0 where
   pub leaves : Left (w .outcome) (stateOf after) left
@@ -75,11 +70,11 @@ pub record Responds (w : Effect) (text : Bytes) (before : Arrays) (given : Lent)
   pub short : n ≤ mostPrinted
 
 -- by the masks, whatever the arrays hold
-abbrev pub RespondsMasked : Arrays → Bytes → Lent → Arrays → Lent → Bytes → ℕ → Bytes → Type 0
-RespondsMasked before text given after left over n out =
-    Responds (effectMasked (stateOf before) (masksOf before) (act text given)) text before given after left over n out
+abbrev pub RespondsByMasks : Arrays → Bytes → Lent → Arrays → Lent → Bytes → ℕ → Bytes → Type 0
+RespondsByMasks before text given after left over n out =
+    Responds (effectByMasks (stateOf before) (masksOf before) (act text given)) text before given after left over n out
 
 -- where the masks agree with the policy as documents 01 and 02 say, and they agree again
-abbrev pub RespondsSaid : Arrays → Bytes → Lent → Arrays → Lent → Bytes → ℕ → Bytes → Type 0
-RespondsSaid before text given after left over n out =
-    Agree before → Responds (effectSaid (stateOf before) (act text given)) text before given after left over n out × Agree after
+abbrev pub RespondsByPolicy : Arrays → Bytes → Lent → Arrays → Lent → Bytes → ℕ → Bytes → Type 0
+RespondsByPolicy before text given after left over n out =
+    Agree before → Responds (effectByPolicy (stateOf before) (act text given)) text before given after left over n out × Agree after

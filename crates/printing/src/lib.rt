@@ -19,7 +19,7 @@ ghost use Rattle.model.specs.Limits.{maxCopy};
 ghost use Rattle.model.specs.Program.{printAnswer};
 ghost use Rattle.opening.specs.Memory.{arrays};
 ghost use Rattle.server.specs.Replies.{answerIn, lent};
-ghost use Rattle.printing.specs.Printed.{markLength, mostNumbered, mostFault, numbered, openingText, Inside, RespondsMasked, RespondsSaid};
+ghost use Rattle.printing.specs.Printed.{markLength, mostNumbered, mostFault, numbered, openingText, Inside, RespondsByMasks, RespondsByPolicy};
 
 // The list that a push is lent.
 pub const LIST: usize = LIST_ROOM;
@@ -62,13 +62,13 @@ pub fn respond(
     list: &mut [u32; LIST],
     out: &mut [u8],
 ) -> usize
-    ensures { λ r. ⌜ RespondsMasked
+    ensures { λ r. ⌜ RespondsByMasks
         (arrays (now (tables .entry)) (now (logins .entry)) (now (fields .entry)))
         (now (line .entry)) (lent (now (buffer .entry)) (now (list .entry)))
         (arrays (now (tables .entry)) (now (logins .exit)) (now (fields .exit)))
         (lent (now (buffer .exit)) (now (list .exit)))
         (now (out .entry)) r (now (out .exit)) ⌝ }
-    ensures { λ r. ⌜ RespondsSaid
+    ensures { λ r. ⌜ RespondsByPolicy
         (arrays (now (tables .entry)) (now (logins .entry)) (now (fields .entry)))
         (now (line .entry)) (lent (now (buffer .entry)) (now (list .entry)))
         (arrays (now (tables .entry)) (now (logins .exit)) (now (fields .exit)))

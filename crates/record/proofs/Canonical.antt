@@ -16,7 +16,7 @@ use Rattle.layout.specs.Layout.{isEmpty, inUse, table, Holds, padded, encodeTab
 use Rattle.layout.proofs.Canonical.{table-encoded, canonical-none, canonical-set, canonical-inserted}
 use Rattle.record.specs.declared.table.Place.{Place}
 use Rattle.record.specs.declared.table.Place.the-variants.{At, Before}
-use Rattle.record.specs.Slots.{slotBytes, recordBytes, fieldIn, readersIn, fieldsIn, masksIn, encodeField, encodeFields, CanonicalField, CanonicalFields}
+use Rattle.record.specs.Slots.{slotBytes, recordBytes, fieldIn, maskIn, fieldsIn, masksIn, encodeField, encodeFields, CanonicalField, CanonicalFields}
 use Rattle.record.specs.Search.{placeIn, storedBytes}
 use Rattle.record.proofs.Places.{at-below, before-within}
 use Rattle.record.proofs.Search.{fields-used}
@@ -27,17 +27,17 @@ none-canonical = canonical-none CanonicalField slotBytes maxFields (omega arith)
 
 -- a slot's mask and field
 abbrev markedIn : Bytes → ℕ × Field
-markedIn slot = (readersIn slot, fieldIn slot)
+markedIn slot = (maskIn slot, fieldIn slot)
 
 abbrev encodeMarked : ℕ × Field → Bytes
 encodeMarked t = encodeField (t .0) (t .1)
 
-same-masks : (mask : Keys → ℕ) (rs : List Bytes) → map readersIn rs ≡ map (λ f. mask (f .path)) (map fieldIn rs)
+same-masks : (mask : Keys → ℕ) (rs : List Bytes) → map maskIn rs ≡ map (λ f. mask (f .path)) (map fieldIn rs)
     → map encodeMarked (map markedIn rs) ≡ map (λ f. encodeField (mask (f .path)) f) (map fieldIn rs)
 same-masks mask [] h = refl
 same-masks mask (r ∷ rs) h =
-    let first : readersIn r ≡ mask (fieldIn r .path) = cc in
-    let rest : map readersIn rs ≡ map (λ f. mask (f .path)) (map fieldIn rs) = cc in
+    let first : maskIn r ≡ mask (fieldIn r .path) = cc in
+    let rest : map maskIn rs ≡ map (λ f. mask (f .path)) (map fieldIn rs) = cc in
     ap₂ _∷_ (ap (λ (m : ℕ). encodeField m (fieldIn r)) first) (same-masks mask rs rest)
 
 -- a table so written has the bytes that its fields are written as, each with its mask, and no others

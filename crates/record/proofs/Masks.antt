@@ -22,7 +22,7 @@ use Rattle.masks.specs.Bits.{encodeMask}
 use Rattle.masks.proofs.Bits.{mask-long, mask-back}
 use Rattle.paths.specs.Layout.{pathSlot, pathIn, encodePath}
 use Rattle.record.specs.declared.table.Place.the-variants.{Before}
-use Rattle.record.specs.Slots.{valueRoom, lengthAt, slotBytes, recordBytes, textIn, valueIn, fieldIn, readersIn, fieldsIn, masksIn, withMask, encodeField, CanonicalField, CanonicalFields}
+use Rattle.record.specs.Slots.{valueRoom, lengthAt, slotBytes, recordBytes, textIn, valueIn, fieldIn, maskIn, fieldsIn, masksIn, withMask, encodeField, CanonicalField, CanonicalFields}
 use Rattle.record.specs.Search.{storedMasks}
 use Rattle.record.proofs.Slots.{path-same, empty-same, value-long}
 use Rattle.record.proofs.Search.{fields-used}
@@ -31,18 +31,18 @@ use Rattle.record.proofs.Search.{fields-used}
 module _ (s : Bytes) where
   pub masks-count : length (masksIn s) ≡ length (fieldsIn s)
   unfolding masksIn
-  masks-count = length-table readersIn slotBytes maxFields s ∙ sym (fields-used s)
+  masks-count = length-table maskIn slotBytes maxFields s ∙ sym (fields-used s)
 
   -- the slot of a field in use has its mask
-  pub mask-slot : {slot : Bytes} (i : ℕ) → slot ≡ take slotBytes (drop (i * slotBytes) s) → i < length (fieldsIn s) → readersIn slot ≡ getD (masksIn s) i 0
+  pub mask-slot : {slot : Bytes} (i : ℕ) → slot ≡ take slotBytes (drop (i * slotBytes) s) → i < length (fieldsIn s) → maskIn slot ≡ getD (masksIn s) i 0
   unfolding masksIn
-  mask-slot i here h = ap readersIn here ∙ sym (table-at readersIn slotBytes maxFields s i 0 (rw masks-count h))
+  mask-slot i here h = ap maskIn here ∙ sym (table-at maskIn slotBytes maxFields s i 0 (rw masks-count h))
 
   -- behind the last place nothing is stored
   pub past-masks : (i m : ℕ) → i ≤ length (fieldsIn s) → maxFields ≤ i → masksIn s ≡ storedMasks (Before i) m (masksIn s)
   unfolding storedMasks masksIn
   past-masks i m within h =
-      sym (insert-past maxFields i m (masksIn s) (rw masks-count within) h (table-fit readersIn slotBytes maxFields s))
+      sym (insert-past maxFields i m (masksIn s) (rw masks-count within) h (table-fit maskIn slotBytes maxFields s))
 
 -- ── A slot with another mask ──
 -- the length and the text of a value stand behind the mask
@@ -90,22 +90,22 @@ module _ (m : ℕ) (slot : Bytes) (l : length slot ≡ slotBytes) where
   masked-field = rw (path-same (withMask m slot) slot masked-path, masked-text)
 
   module _ (fits : m < 2 ^ maxUsers) where
-    pub masked-readers : readersIn (withMask m slot) ≡ m
-    unfolding withMask readersIn
-    masked-readers = rw (append-assoc (take pathSlot slot), drop-at (take pathSlot slot) _ pathSlot path-long) (mask-back m rest fits)
+    pub masked-mask : maskIn (withMask m slot) ≡ m
+    unfolding withMask maskIn
+    masked-mask = rw (append-assoc (take pathSlot slot), drop-at (take pathSlot slot) _ pathSlot path-long) (mask-back m rest fits)
 
     -- a slot that is written as its field is stays so
     pub masked-canonical : CanonicalField slot → CanonicalField (withMask m slot)
     unfolding encodeField fieldIn withMask
     masked-canonical is =
         let path = encodePath (pathIn slot) in
-        let mask = encodeMask (readersIn slot) in
+        let mask = encodeMask (maskIn slot) in
         let value = encodeName (1 + valueRoom) (valueText (valueIn slot)) in
-        let long : length path ≡ pathSlot = omega (arith, ap length is, length-append (path ++ mask) value, length-append path mask, mask-long (readersIn slot), value-long slot) in
-        let both : length (path ++ mask) ≡ lengthAt = omega (arith, length-append path mask, mask-long (readersIn slot)) in
+        let long : length path ≡ pathSlot = omega (arith, ap length is, length-append (path ++ mask) value, length-append path mask, mask-long (maskIn slot), value-long slot) in
+        let both : length (path ++ mask) ≡ lengthAt = omega (arith, length-append path mask, mask-long (maskIn slot)) in
         let first : take pathSlot slot ≡ path = ap (take pathSlot) is ∙ rw (append-assoc path) (take-at path _ pathSlot long) in
         let last : drop lengthAt slot ≡ value = ap (drop lengthAt) is ∙ drop-at (path ++ mask) value lengthAt both in
-        ap₂ (λ (p v : Bytes). p ++ encodeMask m ++ v) first last ∙ sym (ap₂ encodeField masked-readers masked-field)
+        ap₂ (λ (p v : Bytes). p ++ encodeMask m ++ v) first last ∙ sym (ap₂ encodeField masked-mask masked-field)
 
 -- ── A table, in which the mask of the i-th field becomes m ──
 module _ (s : Bytes) (full : length s ≡ recordBytes) (i : ℕ) (h : i < length (fieldsIn s)) (m : ℕ) (fits : m < 2 ^ maxUsers) where
@@ -141,7 +141,7 @@ module _ (s : Bytes) (full : length s ≡ recordBytes) (i : ℕ) (h : i < length
 
   pub marked-masks : masksIn marked ≡ set (masksIn s) i m
   unfolding masksIn
-  marked-masks = table-set readersIn slotBytes maxFields s marked (withMask m slot) i rows-marked ∙ rw (masked-readers m slot long fits)
+  marked-masks = table-set maskIn slotBytes maxFields s marked (withMask m slot) i rows-marked ∙ rw (masked-mask m slot long fits)
 
   pub marked-canonical : Keeps CanonicalFields s marked
   marked-canonical c =

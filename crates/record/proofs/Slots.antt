@@ -28,7 +28,7 @@ use Rattle.masks.specs.Bits.{encodeMask}
 use Rattle.masks.proofs.Bits.{mask-long, mask-back}
 use Rattle.paths.specs.Layout.{pathSlot, pathIn}
 use Rattle.layout.specs.Layout.{keyRow, nameIn, isEmpty, encodeName}
-use Rattle.record.specs.Slots.{valueRoom, lengthAt, slotBytes, textIn, valueOr, valueIn, heldText, heldValue, fieldIn, readersIn, fieldsIn, fieldAt, encodeField, CanonicalField, slotOf, Proper}
+use Rattle.record.specs.Slots.{valueRoom, lengthAt, slotBytes, textIn, valueOr, valueIn, heldText, heldValue, fieldIn, maskIn, fieldsIn, fieldAt, encodeField, CanonicalField, slotOf, Proper}
 use Rattle.record.specs.Search.{storedIn, storedAt}
 
 -- ── The value's text, and the value ──
@@ -132,9 +132,9 @@ module _ (p : Bytes) (m : ℕ) (v : Value) where
     slot-field = rw (slot-keys, slot-text)
 
     -- the mask
-    pub slot-readers : m < 2 ^ maxUsers → readersIn (slotOf p m v) ≡ m
-    unfolding slotOf readersIn
-    slot-readers h = rw (append-assoc p (encodeMask m) _, drop-at p _ pathSlot l) (mask-back m _ h)
+    pub slot-mask : m < 2 ^ maxUsers → maskIn (slotOf p m v) ≡ m
+    unfolding slotOf maskIn
+    slot-mask h = rw (append-assoc p (encodeMask m) _, drop-at p _ pathSlot l) (mask-back m _ h)
 
     -- to store the slot is to store the value at the path
     pub slot-stored : (fs : Fields) → storedIn (slotOf p m v) fs ≡ storedAt p v fs
@@ -151,7 +151,7 @@ module _ (p : Bytes) (m : ℕ) (v : Value) where
         (ap (λ (q : Bytes). q ++ encodeMask m ++ encodeName (1 + valueRoom) (valueText v)) (proper .0))
 
     pub slot-canonical : length p ≡ pathSlot → m < 2 ^ maxUsers → CanonicalField (slotOf p m v)
-    slot-canonical l h = slot-encoded ∙ rw (slot-field l, slot-readers l h, held-valid v (proper .1))
+    slot-canonical l h = slot-encoded ∙ rw (slot-field l, slot-mask l h, held-valid v (proper .1))
 
 -- ── A slot s of zeros that is filled with the path p, the mask m and the value v ──
 pub record Filled (s p : Bytes) (m : ℕ) (v : Value) (out : Bytes) : Type 0 where

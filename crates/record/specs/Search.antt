@@ -29,6 +29,10 @@ storedBytes (Before i) slot s = if ltb i maxFields then insertedRow slotBytes ma
 unfoldable pub storedField : ℕ → Field → Bytes → Bytes
 storedField m f s = storedBytes (placeIn 0 (f .path) (fieldsIn s)) (encodeField m f) s
 
+-- and once a slot is stored where the search for its path ends; an empty slot changes nothing
+unfoldable pub storedSlot : Bytes → Bytes → Bytes
+storedSlot slot s = if isEmpty slot then s else storedBytes (placeIn 0 (pathIn slot) (fieldsIn s)) slot s
+
 -- the masks, once a slot with a mask is stored
 unfoldable pub storedMasks : Place → ℕ → List ℕ → List ℕ
 storedMasks (At i) m ms = set ms i m

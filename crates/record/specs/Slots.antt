@@ -10,7 +10,7 @@ use Rattle.model.specs.Base.{Bytes}
 use Rattle.model.specs.Limits.{maxString, maxFields}
 use Rattle.model.specs.Values.{Value, truth, readValue, valueText, validValue}
 use Rattle.model.specs.Fields.{Keys, Field, Fields, fieldOf}
-use Rattle.masks.specs.Bits.{maskBytes, maskIn, encodeMask}
+use Rattle.masks.specs.Bits.{maskBytes, decodeMask, encodeMask}
 use Rattle.paths.specs.Layout.{pathSlot, pathIn, encodePath, CanonicalPath}
 
 -- ── Sizes, in bytes ──
@@ -53,8 +53,8 @@ unfoldable pub fieldIn : Bytes → Field
 fieldIn s = fieldOf (pathIn s) (valueIn s)
 
 -- the mask of those who may read the field
-unfoldable pub readersIn : Bytes → ℕ
-readersIn s = maskIn (drop pathSlot s)
+unfoldable pub maskIn : Bytes → ℕ
+maskIn s = decodeMask (drop pathSlot s)
 
 -- the fields of a table: those of the slots before the first that is empty
 unfoldable pub fieldsIn : Bytes → Fields
@@ -62,7 +62,7 @@ fieldsIn s = table fieldIn slotBytes maxFields s
 
 -- the masks that stand beside them
 unfoldable pub masksIn : Bytes → List ℕ
-masksIn s = table readersIn slotBytes maxFields s
+masksIn s = table maskIn slotBytes maxFields s
 
 -- the i-th of some fields, where there is one
 unfoldable pub fieldAt : ℕ → Fields → Field
@@ -78,7 +78,7 @@ unfoldable pub encodeFields : (Keys → ℕ) → Fields → Bytes
 encodeFields mask fs = encodeTable (λ f. encodeField (mask (f .path)) f) slotBytes maxFields fs
 
 abbrev pub CanonicalField : Bytes → Type 0
-CanonicalField slot = slot ≡ encodeField (readersIn slot) (fieldIn slot)
+CanonicalField slot = slot ≡ encodeField (maskIn slot) (fieldIn slot)
 
 abbrev pub CanonicalFields : Bytes → Type 0
 CanonicalFields s = CanonicalTable CanonicalField slotBytes maxFields s

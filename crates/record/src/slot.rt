@@ -9,8 +9,8 @@ use crate::table::store;
 use crate::table::store_at;
 use buffers::put;
 use layout::counted::count;
-use masks::mask_bytes;
-use masks::mask_in;
+use masks::decode_mask;
+use masks::encode_mask;
 use paths::field::PATH;
 use values::value::Scalar;
 use values::value::put_value;
@@ -21,9 +21,9 @@ ghost use lib.ListN.{length, take, drop, set, replicate};
 ghost use Rattle.model.specs.Limits.{maxText};
 ghost use Rattle.values.specs.Scalars as scalars;
 ghost use Rattle.paths.specs.Layout.{pathSlot, pathIn};
-ghost use Rattle.record.specs.Slots.{valueRoom, slotBytes, recordBytes, textIn, readersIn, fieldsIn, masksIn, slotOf, withMask, Proper, CanonicalFields};
+ghost use Rattle.record.specs.Slots.{valueRoom, slotBytes, recordBytes, textIn, maskIn, fieldsIn, masksIn, slotOf, withMask, Proper, CanonicalFields};
 ghost use Rattle.layout.specs.Layout.{isEmpty, overRow, Keeps};
-ghost use Rattle.record.specs.Search.{placeIn, storedBytes, storedMasks, storedAt};
+ghost use Rattle.record.specs.Search.{placeIn, storedBytes, storedSlot, storedMasks, storedAt};
 
 // The text of a slot's value.
 pub fn value_text(slot: &[u8]) -> &[u8]
@@ -36,39 +36,40 @@ pub fn value_text(slot: &[u8]) -> &[u8]
 }
 
 // The mask of those who may read a slot's field.
-pub fn readers(slot: &[u8]) -> u32
+pub fn mask_of(slot: &[u8]) -> u32
     requires { ⌜ length (now slot) ≡ slotBytes ⌝ }
-    ensures { λ r. ⌜ r ≡ readersIn (now (slot .entry)) ⌝ }
+    ensures { λ r. ⌜ r ≡ maskIn (now (slot .entry)) ⌝ }
 {
-    mask_in(&slot[PATH..])
+    decode_mask(&slot[PATH..])
 }
 
 // A slot's mask becomes another.
-fn put_readers(slot: &mut [u8], mask: u32)
+fn put_mask(slot: &mut [u8], mask: u32)
     requires { ⌜ length (now slot) ≡ slotBytes ⌝ }
     ensures { λ _. ⌜ now (slot .exit) ≡ withMask mask (now (slot .entry)) ⌝ }
 {
-    let bytes = mask_bytes(mask);
+    let bytes = encode_mask(mask);
     put(slot, PATH, &bytes);
 }
 
 // The mask of the i-th slot becomes another, in a table of slots.
-fn put_readers_at(slots: &mut [u8], i: usize, mask: u32)
+fn put_mask_at(slots: &mut [u8], i: usize, mask: u32)
     requires { ⌜ (length (now slots) ≡ recordBytes) × (i < length (fieldsIn (now slots))) ⌝ }
     ensures { λ _. ⌜ now (slots .exit) ≡ overRow slotBytes i (withMask mask (take slotBytes (drop (i * slotBytes) (now (slots .entry))))) (now (slots .entry)) ⌝ }
 {
     let start = i * SLOT;
     let end = start + SLOT;
-    put_readers(&mut slots[start..end], mask);
+    put_mask(&mut slots[start..end], mask);
 }
 
 // The mask of the i-th field becomes another.
-pub fn set_readers(table: &mut [u8; RECORD], i: usize, mask: u32)
+pub fn set_mask(table: &mut [u8; RECORD], i: usize, mask: u32)
     requires { ⌜ i < length (fieldsIn (now table)) ⌝ }
     ensures { λ _. ⌜ (fieldsIn (now (table .exit)) ≡ fieldsIn (now (table .entry))) × (masksIn (now (table .exit)) ≡ set (masksIn (now (table .entry))) i mask) ⌝ }
     ensures { λ _. ⌜ Keeps CanonicalFields (now (table .entry)) (now (table .exit)) ⌝ }
+    ensures { λ _. ⌜ now (table .exit) ≡ overRow slotBytes i (withMask mask (take slotBytes (drop (i * slotBytes) (now (table .entry))))) (now (table .entry)) ⌝ }
 {
-    put_readers_at(table, i, mask);
+    put_mask_at(table, i, mask);
 }
 
 // The length of a value's text as the byte that says it: at most what there is room for.
@@ -86,18 +87,19 @@ fn fill(slot: &mut [u8], path: &[u8], mask: u32, v: Scalar, text: &[u8])
     requires { ⌜ (now slot ≡ replicate slotBytes 0) × (length (now path) ≡ pathSlot) × (length (now text) ≤ maxText) × scalars.InText v (now text) ⌝ }
     ensures { λ _. ⌜ now (slot .exit) ≡ slotOf (now (path .entry)) mask (scalars.valueIn (now (text .entry)) v) ⌝ }
 {
-    let readers = mask_bytes(mask);
+    let bytes = encode_mask(mask);
     let to = put(slot, 0, &path[0..PATH]);
-    put(slot, to, &readers);
+    put(slot, to, &bytes);
     let n = put_value(&mut slot[TEXT..], 0, v, text);
     slot[LENGTH] = length_byte(n);
 }
 
-// A value, whose string is a part of the text, at a path, with no mark yet: without keys nothing changes.
+// A value, whose string is a part of the text, at a path, with an empty mask: without keys nothing changes.
 pub fn store_value(table: &mut [u8; RECORD], path: &[u8], v: Scalar, text: &[u8])
     requires { ⌜ (length (now path) ≡ pathSlot) × (length (now text) ≤ maxText) × scalars.InText v (now text) ⌝ }
     ensures { λ _. ⌜ fieldsIn (now (table .exit)) ≡ storedAt (now (path .entry)) (scalars.valueIn (now (text .entry)) v) (fieldsIn (now (table .entry))) ⌝ }
     ensures { λ _. ⌜ (Proper (now (path .entry)) (scalars.valueIn (now (text .entry)) v) → Keeps CanonicalFields (now (table .entry)) (now (table .exit))) ⌝ }
+    ensures { λ _. ⌜ now (table .exit) ≡ storedSlot (slotOf (now (path .entry)) 0 (scalars.valueIn (now (text .entry)) v)) (now (table .entry)) ⌝ }
 {
     let mut slot = [0u8; SLOT];
     fill(&mut slot, path, 0, v, text);

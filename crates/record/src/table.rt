@@ -19,8 +19,8 @@ ghost use lib.ListN.{length, take, drop};
 ghost use Rattle.model.specs.Limits.{maxFields};
 ghost use Rattle.layout.specs.Layout.{isEmpty, Keeps};
 ghost use Rattle.paths.specs.Layout.{pathSlot, pathIn};
-ghost use Rattle.record.specs.Slots.{slotBytes, readersIn, fieldsIn, masksIn, CanonicalField, CanonicalFields};
-ghost use Rattle.record.specs.Search.{placeIn, storedBytes, storedMasks, storedIn};
+ghost use Rattle.record.specs.Slots.{slotBytes, maskIn, fieldsIn, masksIn, CanonicalField, CanonicalFields};
+ghost use Rattle.record.specs.Search.{placeIn, storedBytes, storedSlot, storedMasks, storedIn};
 
 // In a slot, behind the path: the readers mask, how long the value's text is, and room for the longest.
 pub const LENGTH: usize = PATH + MASK;
@@ -105,7 +105,7 @@ pub fn find(table: &[u8; RECORD], path: &[u8]) -> Place
 pub fn store_at(table: &mut [u8; RECORD], place: Place, slot: &[u8; SLOT])
     requires { ⌜ (isEmpty (now slot) ≡ false) × (place ≡ placeIn 0 (pathIn (now slot)) (fieldsIn (now table))) ⌝ }
     ensures { λ _. ⌜ fieldsIn (now (table .exit)) ≡ storedIn (now (slot .entry)) (fieldsIn (now (table .entry))) ⌝ }
-    ensures { λ _. ⌜ masksIn (now (table .exit)) ≡ storedMasks place (readersIn (now (slot .entry))) (masksIn (now (table .entry))) ⌝ }
+    ensures { λ _. ⌜ masksIn (now (table .exit)) ≡ storedMasks place (maskIn (now (slot .entry))) (masksIn (now (table .entry))) ⌝ }
     ensures { λ _. ⌜ now (table .exit) ≡ storedBytes place (now (slot .entry)) (now (table .entry)) ⌝ }
 {
     match place {
@@ -122,6 +122,7 @@ pub fn store_at(table: &mut [u8; RECORD], place: Place, slot: &[u8; SLOT])
 pub fn store(table: &mut [u8; RECORD], slot: &[u8; SLOT])
     ensures { λ _. ⌜ fieldsIn (now (table .exit)) ≡ storedIn (now (slot .entry)) (fieldsIn (now (table .entry))) ⌝ }
     ensures { λ _. ⌜ (CanonicalField (now (slot .entry)) → Keeps CanonicalFields (now (table .entry)) (now (table .exit))) ⌝ }
+    ensures { λ _. ⌜ now (table .exit) ≡ storedSlot (now (slot .entry)) (now (table .entry)) ⌝ }
 {
     if is_empty(slot) {
         return;

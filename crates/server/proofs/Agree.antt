@@ -11,19 +11,18 @@ use Rattle.model.specs.Base.{Bytes, keep}
 use Rattle.model.specs.Limits.{maxUsers, maxFields}
 use Rattle.model.specs.Fields.{Keys, Field, Fields, store, fieldOf}
 use Rattle.model.specs.Values.{truth}
-use mathlib.Core.Bool.{false, and-false}
-use lib.Dec.{ltb}
+use mathlib.Core.Bool.{false}
 use Rattle.model.specs.Refusals.{Result, refused, done, _>>=_}
 use Rattle.model.specs.Tables.{User, Tables, userAt}
 use Rattle.model.specs.Rights.{mayRead}
 use Rattle.model.specs.Opening.{State}
 use Rattle.model.specs.Requests.{Request, login, inSession, get, push, logout, requestOf}
 use Rattle.model.specs.Serving.{indexIn, Change, setsLogin, shows, stores, readable, copyFor, copyOf, decideShow, decideGet, roomFor, decide, apply, readsBy, readsAt, notified, Act, line, save, bufferOf, listOf, decideLine, decision, Outcome, unchanged, conclude, outcome}
-use Rattle.model.proofs.Lists.{elem-below, bind-agree}
+use Rattle.model.proofs.Lists.{bind-agree}
 use Rattle.model.proofs.Decisions.{asking}
-use Rattle.masks.specs.Bits.{bitAt, maskOf}
+use Rattle.masks.specs.Bits.{bitAt}
 use Rattle.masks.specs.Readers.{readersOf, Agreed}
-use Rattle.masks.proofs.Bits.{mask-bits, mask-bit}
+use Rattle.masks.proofs.Readers.{reads-bit}
 use Rattle.record.specs.declared.table.Place.{Place}
 use Rattle.record.specs.declared.table.Place.the-variants.{At, Before}
 use Rattle.record.specs.Search.{placeIn, storedMasks}
@@ -34,15 +33,15 @@ use Rattle.tables.specs.Memory.{userRow, userIn, usersIn, tablesIn}
 use Rattle.opening.specs.Memory.{Arrays, stateIn, stateOf, masksOf, Agree}
 use Rattle.deliveries.specs.Receivers.{receiversOf}
 use Rattle.deliveries.proofs.Received.{receivers-of}
-use Rattle.server.specs.Masked.{shownTo, decideGetMasked, decideMasked, decideLineMasked, decisionMasked, maskAt, maskFor, notifiedMasked, concludeMasked, masksAfter, Effect, effectOf, effectMasked, effectSaid}
+use Rattle.server.specs.Masked.{shownTo, decideGetMasked, decideMasked, decideLineMasked, decisionMasked, maskAt, maskFor, notifiedMasked, concludeMasked, masksAfter, Effect, effectOf, effectByMasks, effectByPolicy}
 use Rattle.server.specs.declared.answer.Reply.{Reply}
-use Rattle.server.specs.Replies.{outcomeIn, Lent, act, ServedMasked, Served, Decided}
+use Rattle.server.specs.Replies.{outcomeIn, Lent, act, ServedByMasks, ServedByPolicy, LeavesDecided}
 
 -- ── Copies ──
-module _ (t : Tables) (i : ℕ) (u : User) (is : userAt (t .users) i ≡ some u) (below : i < maxUsers) where
+module _ (t : Tables) (few : length (t .users) ≤ maxUsers) (i : ℕ) (u : User) (is : userAt (t .users) i ≡ some u) where
   bit-reads : (p : Keys) → bitAt (readersOf t p) i ≡ mayRead (t .policy) u p
-  unfolding readersOf readsAt readsBy
-  bit-reads p = mask-bit (λ j. readsAt t j p) maxUsers i below ∙ rw is
+  unfolding readsAt readsBy
+  bit-reads p = reads-bit t few p i ∙ rw is
 
   shown-agrees : (fs : Fields) (ms : List ℕ) → Agreed t fs ms → shownTo i ms fs ≡ readable (t .policy) u fs
   unfolding shownTo readable keep
@@ -79,11 +78,10 @@ module _ (t : Tables) (fs : Fields) (ms : List ℕ) (a : Agreed t fs ms) where
 -- ── A state with masks ──
 module _ (s : State) (ms : List ℕ) (users : length (s .tables .users) ≤ maxUsers) (fields : length (s .fields) ≤ maxFields) (a : Agreed (s .tables) (s .fields) ms) where
   get-agrees : (n room : ℕ) → decideGetMasked s ms n room ≡ decideGet s n room
-  unfolding decideGetMasked decideGet copyFor userAt
+  unfolding decideGetMasked decideGet copyFor
   get-agrees n room = bind-agree _ _ _ λ x e.
       let k = asking s n x e in
-      let below : indexIn n < maxUsers = omega (arith, elem-below (s .tables .users) (indexIn n) (x .user) (k .isUser)) in
-      rw (k .index, shown-agrees (s .tables) (indexIn n) (x .user) (k .isUser) below (s .fields) ms a)
+      rw (k .index, shown-agrees (s .tables) users (indexIn n) (x .user) (k .isUser) (s .fields) ms a)
 
   decide-agrees : (q : Request) (room : ℕ) → decideMasked s ms q room ≡ decide s q room
   unfolding decideMasked decide
@@ -124,8 +122,8 @@ module _ (s : State) (ms : List ℕ) (users : length (s .tables .users) ≤ maxU
   masks-agree b l (done (stores i x f)) = rw (mask-agrees (f .path)) (store-agrees (s .tables) (s .fields) ms a fields f)
 
   -- serving by the masks is serving by the policy, and the masks are then those that the policy gives
-  pub effects-agree : (x : Act) → effectMasked s ms x ≡ effectSaid s x
-  unfolding effectMasked effectOf effectSaid outcome
+  pub effects-agree : (x : Act) → effectByMasks s ms x ≡ effectByPolicy s x
+  unfolding effectByMasks effectOf effectByPolicy outcome
   effects-agree x =
       rw (
         decision-agrees x,
@@ -135,18 +133,7 @@ module _ (s : State) (ms : List ℕ) (users : length (s .tables .users) ≤ maxU
       )
 
 -- ── Memory ──
--- the bit of a place is set where there is a user who may read, and nowhere else
-pub bit-agrees : (tables : Bytes) (p : Keys) (j : ℕ) → bitAt (readersOf (tablesIn tables) p) j ≡ readsAt (tablesIn tables) j p
-unfolding readersOf readsAt readsBy tablesIn usersIn userAt
-bit-agrees tables p j = go (userAt (tablesIn tables .users) j) refl
-  where
-    go : (o : Option User) → userAt (tablesIn tables .users) j ≡ o → bitAt (maskOf (λ k. readsAt (tablesIn tables) k p) maxUsers) j ≡ readsAt (tablesIn tables) j p
-    go none e =
-        let nobody : readsAt (tablesIn tables) j p ≡ false = rw e in
-        mask-bits (λ k. readsAt (tablesIn tables) k p) maxUsers j ∙ rw nobody (and-false (ltb j maxUsers))
-    go (some u) e = mask-bit (λ k. readsAt (tablesIn tables) k p) maxUsers j (omega (arith, elem-below (tablesIn tables .users) j u e, table-fit userIn userRow maxUsers tables))
-
-pub memory-agrees : (before : Arrays) (x : Act) → Agree before → effectMasked (stateOf before) (masksOf before) x ≡ effectSaid (stateOf before) x
+pub memory-agrees : (before : Arrays) (x : Act) → Agree before → effectByMasks (stateOf before) (masksOf before) x ≡ effectByPolicy (stateOf before) x
 unfolding stateIn tablesIn usersIn fieldsIn
 memory-agrees before x a =
     let users = table-fit userIn userRow maxUsers (before .tables) in
@@ -155,16 +142,16 @@ memory-agrees before x a =
 
 -- the fields and the masks are those of the effect, and the tables stayed: they agree again
 pub agrees-after : (before after : Arrays) (x : Act) → after .tables ≡ before .tables → Agree before
-    → stateOf after .fields ≡ effectMasked (stateOf before) (masksOf before) x .outcome .state .fields
-    → masksOf after ≡ effectMasked (stateOf before) (masksOf before) x .masks → Agree after
-unfolding effectSaid stateIn
+    → stateOf after .fields ≡ effectByMasks (stateOf before) (masksOf before) x .outcome .state .fields
+    → masksOf after ≡ effectByMasks (stateOf before) (masksOf before) x .masks → Agree after
+unfolding effectByPolicy stateIn
 agrees-after before after x same a fields masks =
     let is = memory-agrees before x a in
     let kept = fields ∙ ap (λ (w : Effect). w .outcome .state .fields) is in
     masks ∙ ap (λ (w : Effect). w .masks) is ∙ rw (same, kept)
 
 pub masked-said : (before after : Arrays) (text : Bytes) (given left : Lent) (r : Reply) → after .tables ≡ before .tables
-    → ServedMasked before text given r after left → Served before text given r after left
+    → ServedByMasks before text given r after left → ServedByPolicy before text given r after left
 unfolding outcomeIn
 masked-said before after text given left r same masked a = (
   rw (memory-agrees before (act text given) a) at masked,
@@ -174,8 +161,8 @@ masked-said before after text given left r same masked a = (
 -- where something was decided for a line, it is served by the masks, and as the documents say
 pub line-served : (before after : Arrays) (text : Bytes) (given left : Lent) (r : Reply) → after .tables ≡ before .tables
     → {d : Result ℕ Change} → decisionMasked (stateOf before) (masksOf before) (act text given) ≡ d
-    → Decided d text before given r after left → ServedMasked before text given r after left × Served before text given r after left
-unfolding effectMasked bufferOf listOf
+    → LeavesDecided d text before given r after left → ServedByMasks before text given r after left × ServedByPolicy before text given r after left
+unfolding effectByMasks bufferOf listOf
 line-served before after text given left r same is l =
-    let masked : ServedMasked before text given r after left = rw (← is) at l in
+    let masked : ServedByMasks before text given r after left = rw (← is) at l in
     (masked, masked-said before after text given left r same masked)

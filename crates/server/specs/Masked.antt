@@ -30,7 +30,7 @@ decideGetMasked s ms n room = do
   a ← asker s n
   decideShow (copyOf (s .tables .policy) (a .user) (shownTo (a .index) ms (s .fields))) room
 
--- no other request is decided by who may read: "whether the sender may write" is asked of the policy
+-- no other request is decided by who may read: whether the sender may write is asked of the policy
 unfoldable pub decideMasked : State → List ℕ → Request → ℕ → Result ℕ Change
 decideMasked s ms (login u k) room = decide s (login u k) room
 decideMasked s ms (inSession n get) room = decideGetMasked s ms n room
@@ -89,12 +89,12 @@ pub record Effect : Type 0 where
 unfoldable pub effectOf : State → List ℕ → Bytes → List ℕ → Result ℕ Change → Effect
 effectOf s ms b l d = record { decided = d; outcome = concludeMasked s ms b l d; mask = maskFor s ms; masks = masksAfter s ms d }
 
-unfoldable pub effectMasked : State → List ℕ → Act → Effect
-effectMasked s ms a = effectOf s ms (bufferOf a) (listOf a) (decisionMasked s ms a)
+unfoldable pub effectByMasks : State → List ℕ → Act → Effect
+effectByMasks s ms a = effectOf s ms (bufferOf a) (listOf a) (decisionMasked s ms a)
 
 -- by the policy, as documents 01 and 02 say
-unfoldable pub effectSaid : State → Act → Effect
-effectSaid s a = record {
+unfoldable pub effectByPolicy : State → Act → Effect
+effectByPolicy s a = record {
   decided = decision s a;
   outcome = outcome s a;
   mask = readersOf (s .tables);

@@ -12,6 +12,7 @@ use Rattle.model.specs.Refusals.{Result, refused, done}
 use Rattle.model.specs.Opening.{State}
 use Rattle.model.specs.Requests as model
 use Rattle.model.specs.Serving.{Change, setsLogin, shows, stores, roomFor, Answer, refusal, session, length-is, accepted, Act, line, save, Outcome, outcome}
+use Rattle.model.specs.Runs.{requestOfAct, Event}
 use Rattle.values.specs.declared.value.Scalar.{Scalar}
 use Rattle.values.specs.Scalars.{valueIn, InText}
 use Rattle.layout.specs.Layout.{isEmpty}
@@ -22,7 +23,7 @@ use Rattle.sessions.specs.Logins.{numbersAfter}
 use Rattle.opening.specs.Memory.{Arrays, arrays, stateIn, stateOf, masksOf, Agree}
 use Rattle.requests.specs.declared.Request.the-variants.{Login}
 use Rattle.requests.specs.Lines.{requestIn, PushStands}
-use Rattle.server.specs.Masked.{decideMasked, Effect, effectOf, effectMasked, effectSaid}
+use Rattle.server.specs.Masked.{decideMasked, Effect, effectOf, effectByMasks, effectByPolicy}
 use Rattle.server.specs.declared.answer.Reply.{Reply}
 use Rattle.server.specs.declared.answer.Reply.the-variants.{Refused, Session, Length, Accepted}
 
@@ -87,22 +88,26 @@ pub record Leaves (w : Effect) (text : Bytes) (before : Arrays) (r : Reply) (aft
 abbrev pub act : Bytes → Lent → Act
 act text given = line text (given .buffer) (given .list)
 
+-- an act with its outcome, as it happened in a state
+abbrev pub eventOf : State → Act → Outcome → Event
+eventOf s a o = record { before = s; act = a; request = requestOfAct a; result = o }
+
 -- a line is served by the masks, whatever the arrays hold
-abbrev pub ServedMasked : Arrays → Bytes → Lent → Reply → Arrays → Lent → Type 0
-ServedMasked before text given r after left = Leaves (effectMasked (stateOf before) (masksOf before) (act text given)) text before r after left
+abbrev pub ServedByMasks : Arrays → Bytes → Lent → Reply → Arrays → Lent → Type 0
+ServedByMasks before text given r after left = Leaves (effectByMasks (stateOf before) (masksOf before) (act text given)) text before r after left
 
 -- where the masks agree with the policy it is served as documents 01 and 02 say, and they agree again
-abbrev pub Served : Arrays → Bytes → Lent → Reply → Arrays → Lent → Type 0
-Served before text given r after left = Agree before → Leaves (effectSaid (stateOf before) (act text given)) text before r after left × Agree after
+abbrev pub ServedByPolicy : Arrays → Bytes → Lent → Reply → Arrays → Lent → Type 0
+ServedByPolicy before text given r after left = Agree before → Leaves (effectByPolicy (stateOf before) (act text given)) text before r after left × Agree after
 
 -- d was decided for a line
-abbrev pub Decided : Result ℕ Change → Bytes → Arrays → Lent → Reply → Arrays → Lent → Type 0
-Decided d text before given r after left = Leaves (effectOf (stateOf before) (masksOf before) (given .buffer) (given .list) d) text before r after left
+abbrev pub LeavesDecided : Result ℕ Change → Bytes → Arrays → Lent → Reply → Arrays → Lent → Type 0
+LeavesDecided d text before given r after left = Leaves (effectOf (stateOf before) (masksOf before) (given .buffer) (given .list) d) text before r after left
 
 -- a request that was taken from a line is served by the masks
 abbrev pub Answered : Arrays → Bytes → model.Request → Lent → Reply → Arrays → Lent → Type 0
 Answered before text q given r after left =
-    Decided (decideMasked (stateOf before) (masksOf before) q (roomFor q (given .buffer) (given .list))) text before given r after left
+    LeavesDecided (decideMasked (stateOf before) (masksOf before) q (roomFor q (given .buffer) (given .list))) text before given r after left
 
 -- LOGIN in a line, whatever the fields, the buffer and the list, which stay
 abbrev pub LoginServed : Bytes → List ℕ → Bytes → ℕ → ℕ → Reply → List ℕ → Type 0

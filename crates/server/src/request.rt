@@ -11,7 +11,7 @@ use lexical::limits::LIST_ROOM;
 use paths::field::PATH;
 use pushes::Ruling;
 use pushes::decide;
-use record::slot::readers as slot_readers;
+use record::slot::mask_of;
 use record::slot::store_value_at;
 use record::table::Place;
 use record::table::slot_at;
@@ -41,7 +41,7 @@ ghost use Rattle.record.specs.Slots.{fieldsIn, masksIn};
 ghost use Rattle.record.specs.Search.{placeIn};
 ghost use Rattle.opening.specs.Memory.{arrays};
 ghost use Rattle.server.specs.Masked.{maskAt};
-ghost use Rattle.server.specs.Replies.{lent, ServedMasked, Served, LoginServed, GetServed, PushServed, LogoutServed, Storable};
+ghost use Rattle.server.specs.Replies.{lent, ServedByMasks, ServedByPolicy, LoginServed, GetServed, PushServed, LogoutServed, Storable};
 
 // LOGIN, the user in the line from a position up to the `;` at `cut`, behind which the key stands.
 fn login(
@@ -96,7 +96,7 @@ fn mask_for(tables: &[u8; TABLES], fields: &[u8; RECORD], place: Place, path: &[
     ensures { λ r. ⌜ r ≡ maskAt place (readersOf (tablesIn (now (tables .entry))) (pathIn (now (path .entry)))) (masksIn (now (fields .entry))) ⌝ }
 {
     match place {
-        Place::At(at) => slot_readers(slot_at(fields, at)),
+        Place::At(at) => mask_of(slot_at(fields, at)),
         Place::Before(_) => readers(tables, path),
     }
 }
@@ -156,12 +156,12 @@ pub fn request(
     buffer: &mut [u8],
     list: &mut [u32],
 ) -> Reply
-    ensures { λ r. ⌜ ServedMasked
+    ensures { λ r. ⌜ ServedByMasks
         (arrays (now (tables .entry)) (now (logins .entry)) (now (fields .entry)))
         (now (line .entry)) (lent (now (buffer .entry)) (now (list .entry))) r
         (arrays (now (tables .entry)) (now (logins .exit)) (now (fields .exit)))
         (lent (now (buffer .exit)) (now (list .exit))) ⌝ }
-    ensures { λ r. ⌜ Served
+    ensures { λ r. ⌜ ServedByPolicy
         (arrays (now (tables .entry)) (now (logins .entry)) (now (fields .entry)))
         (now (line .entry)) (lent (now (buffer .entry)) (now (list .entry))) r
         (arrays (now (tables .entry)) (now (logins .exit)) (now (fields .exit)))

@@ -18,7 +18,7 @@ use Rattle.model.specs.Serving.{readsBy, readsAt}
 use Rattle.model.proofs.Lists.{by-cases}
 use Rattle.masks.specs.Bits.{bitAt}
 use Rattle.masks.specs.Readers.{readersOf}
-use Rattle.masks.proofs.Bits.{mask-is, no-bits, SetBelow, below-set, below-skip, below-end}
+use Rattle.masks.proofs.Bits.{mask-is, bit-none, SetBelow, below-set, below-skip, below-end}
 use Rattle.steps.specs.Steps.{stepsIn}
 use Rattle.layout.specs.Layout.{inUse}
 use Rattle.matching.specs.Parts.{mayMatch}
@@ -86,7 +86,7 @@ ReadersLeft s q p i mask = (j : ℕ) → readsAt (tablesIn s) j p ≡ (bitAt mas
 -- no bit is set at the start; the policy stands behind the users
 pub readers-start : (s q : Bytes) (p : Keys) → q ≡ drop usersBytes s → ReadersLeft s q p 0 0
 unfolding ReadersLeft readsAt tablesIn
-readers-start s q p is j = rw (no-bits j, is)
+readers-start s q p is j = rw (bit-none j, is)
 
 -- m rows were counted
 module _ (s q : Bytes) (p : Keys) {m : ℕ} (counted : m ≡ length (inUse ruleRow maxRules q)) (i mask : ℕ) (left : ReadersLeft s q p i mask) where

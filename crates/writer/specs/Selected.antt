@@ -7,7 +7,7 @@ use Rattle.model.specs.Limits.{maxKey, maxDepth, maxFields, maxUsers}
 use Rattle.model.specs.Fields.{Fields}
 use Rattle.layout.specs.Layout.{inUse}
 use Rattle.masks.specs.Bits.{bitAt}
-use Rattle.record.specs.Slots.{valueRoom, slotBytes, fieldIn, readersIn}
+use Rattle.record.specs.Slots.{valueRoom, slotBytes, fieldIn, maskIn}
 use Rattle.writer.specs.declared.saved.Shown.{Shown}
 use Rattle.writer.specs.declared.saved.Shown.the-variants.{All, To}
 
@@ -37,7 +37,7 @@ Placed (To i) = i < maxUsers
 -- the field in a slot is shown
 unfoldable pub isShown : Shown → Bytes → Bool
 isShown All slot = true
-isShown (To i) slot = bitAt (readersIn slot) i
+isShown (To i) slot = bitAt (maskIn slot) i
 
 -- the fields of the slots in use that are shown
 unfoldable pub shownIn : Shown → Bytes → Fields

@@ -9,7 +9,7 @@ use layout::table::is_empty;
 use lexical::limits::MAX_DEPTH;
 use lexical::limits::MAX_KEY;
 use masks::has_bit;
-use record::slot::readers;
+use record::slot::mask_of;
 use record::slot::value_text;
 use record::table::RECORD;
 use record::table::SLOTS;
@@ -47,7 +47,7 @@ fn is_shown(shown: Shown, slot: &[u8]) -> bool
 {
     match shown {
         Shown::All => true,
-        Shown::To(i) => has_bit(readers(slot), i),
+        Shown::To(i) => has_bit(mask_of(slot), i),
     }
 }
 

@@ -98,7 +98,8 @@ pub enum Reply {
     Accepted(usize),
 }
 
-/// The arrays that the operations work on. Any content means some state; all zeros mean no users and no fields.
+/// The arrays that the operations work on. Any content means some state; all zeros mean no users and no fields. The three belong
+/// together: the fields carry masks made from these tables, and who reads is taken from them.
 #[derive(Clone, PartialEq, Eq)]
 #[repr(C)]
 pub struct Memory {

@@ -4,7 +4,6 @@ use mathlib.Core.Path.{_≡_, refl, sym, _∙_}
 use mathlib.Core.Logic.{⊎-elim}
 use native.Mathlib.Omega.{arith}
 use borrow.Author.Needs.{needs}
-use borrow.Author.Tests.{eqb-true}
 use lib.ListN.{length, length-set}
 use Rattle.model.specs.Limits.{maxUsers}
 use Rattle.sessions.specs.Logins.{loginsIn}
@@ -31,7 +30,7 @@ same-length c = search needs
 returns : tie.Need-returns Inv-loop μ-loop
 returns c =
     let l = c .before .before .before .loop in
-    let none = eqb-true _ _ (sym (c .before .none-from .ensures) ∙ c .if1 .taken) in
+    let none = sym (c .before .none-from .ensures) ∙ c .if1 .taken in
     let (listed, counted) = listed-none _ _ _ _ (l .told) (l .j) (l .list) (l .inv .3) none in
     record { listed = listed; counted = counted }
 

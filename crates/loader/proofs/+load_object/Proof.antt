@@ -183,7 +183,7 @@ module _ (t : ℕ) where
       let child = c .before .before .put-child .ensures .1 .1 path in
       let before = head k .loop .inv .3 path fields in
       ⊎-elim
-      (λ w. rw (w .6) (w .5 .ensures .1 (keys-encoded _ child, leaf-valid _ _ _ (c .before .leaf-at .ensures .0) (stands k .reads .to) _ _ (w .1 .given .1)) before))
+      (λ w. rw (w .6) (w .5 .ensures .1 .0 (keys-encoded _ child, leaf-valid _ _ _ (c .before .leaf-at .ensures .0) (stands k .reads .to) _ _ (w .1 .given .1)) before))
       (λ w. rw (w .5) (w .4 .ensures .1 child before))
       (c .match3 .came)
 

@@ -56,8 +56,8 @@ returns-3 c =
     refusal _ (arrays (a .tables .now) (a .logins .now) (a .fields .now)) is
     (record-refused _ _ _ _ (t .too-long .ensures) (omega arith) _ (k .open-tables .ensures .0) accepted _ (l .open-record .ensures .0) is)
 
-mark-fields-requires : tie.Need-mark-fields-requires
-mark-fields-requires c κs = search needs
+set-masks-requires : tie.Need-set-masks-requires
+set-masks-requires c κs = search needs
 
 copy-tables-requires : tie.Need-copy-tables-requires
 copy-tables-requires c κs = c .before .before .before .before .before .before .before .before .before .before .before .before .open-tables .ensures .1
@@ -65,7 +65,7 @@ copy-tables-requires c κs = c .before .before .before .before .before .before .
 copy-fields-requires : tie.Need-copy-fields-requires
 copy-fields-requires c κs =
     let m = c .before .before .before .before .before in
-    m .mark-fields .ensures .1 .1 (m .before .before .before .before .before .open-record .ensures .1)
+    m .set-masks .ensures .1 .1 (m .before .before .before .before .before .open-record .ensures .1)
 
 returns-4 : tie.Need-returns-4
 returns-4 c =
@@ -75,7 +75,7 @@ returns-4 c =
     let k = l .before .before .before .before .before in
     let t = k .before .before .before in
     let accepted = l .before .before .before .enum-told .given .1 in
-    let (same, marked) = m .mark-fields .ensures in
+    let (same, marked) = m .set-masks .ensures in
     let done = opened-done _ _ _ _ (t .too-long .ensures) (omega arith) _ (k .open-tables .ensures .0) accepted _ (l .open-record .ensures .0) (m .before .before .before .enum-told3 .given .1) in
     rw (kept .copy-tables .ensures, c .before .copy-fields .ensures)
     (acceptance _ _ _ _ (rw (← same) at done) (k .open-tables .ensures .1) (marked .1 (l .open-record .ensures .1)) (rw (← same) at (marked .0)))
@@ -94,7 +94,7 @@ open-spec =
     enum-told-3
     enum-told-4
     returns-3
-    mark-fields-requires
+    set-masks-requires
     copy-tables-requires
     copy-fields-requires
     returns-4)

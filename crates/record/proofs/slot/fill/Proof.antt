@@ -30,10 +30,10 @@ begun c =
     let first = c .before .before .before .before .before in
     let mask = first .before .before .before in
     let s = mask .before .before .before .before in
-    wrote-both 0 _ _ (s .args .path .now) (encodeMask (s .args .mask)) _ _ _ (rw (whole s) at (first .put .ensures)) (rw (mask .mask-bytes .ensures) at (c .put2 .ensures))
+    wrote-both 0 _ _ (s .args .path .now) (encodeMask (s .args .mask)) _ _ _ (rw (whole s) at (first .put .ensures)) (rw (mask .encode-mask .ensures) at (c .put2 .ensures))
 
-mask-bytes-requires : tie.Need-mask-bytes-requires
-mask-bytes-requires c κs = search needs
+encode-mask-requires : tie.Need-encode-mask-requires
+encode-mask-requires c κs = search needs
 
 sub-put : tie.Need-sub-put
 sub-put c = search needs
@@ -89,7 +89,7 @@ pub fill-spec : {M : Type 1} → statement M
 fill-spec =
     tie.close
     (tie.spec
-    mask-bytes-requires
+    encode-mask-requires
     sub-put
     part-put-start
     part-put-end

@@ -20,8 +20,8 @@ returns c =
     let f = c .before .before .before .before in
     let long = f .before .before .before .before .pre .0 in
     let slot = f .fill .ensures in
-    let (fields, keeps) = c .store .ensures in
-    (fields ∙ rw slot (slot-stored _ 0 _ long _), λ proper. keeps (rw slot (slot-canonical _ 0 _ proper long (omega arith))))
+    let (fields, rest) = c .store .ensures in
+    (fields ∙ rw slot (slot-stored _ 0 _ long _), (λ proper. rest .0 (rw slot (slot-canonical _ 0 _ proper long (omega arith))), rest .1 ∙ rw slot))
 
 pub store-value-spec : {M : Type 1} → statement M
 store-value-spec = tie.close (tie.spec slice-aggregate-fill fill-requires store-requires returns)

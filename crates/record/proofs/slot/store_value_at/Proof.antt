@@ -1,6 +1,6 @@
 -- A slot is filled with the path and the value, and stored at the place of the path.
 use mathlib.Core.Path.{_∙_}
-use Rattle.record.proofs.Slots.{slot-keys, slot-empty, slot-readers, slot-stored}
+use Rattle.record.proofs.Slots.{slot-keys, slot-empty, slot-mask, slot-stored}
 use borrow.Author.Needs.{needs}
 use Rattle.record.proofs.slot.store_value_at.Statement.{statement}
 use Rattle.record.proofs.slot.store_value_at.Tie as tie
@@ -25,7 +25,7 @@ returns c =
     let long = s .pre .0 .0 in
     let slot = f .fill .ensures in
     let (fields, rest) = c .store-at .ensures in
-    (fields ∙ rw slot (slot-stored _ _ _ long _), (rest .0 ∙ rw (slot, slot-readers _ (s .args .mask) _ long (search needs)), rest .1 ∙ rw slot))
+    (fields ∙ rw slot (slot-stored _ _ _ long _), (rest .0 ∙ rw (slot, slot-mask _ (s .args .mask) _ long (search needs)), rest .1 ∙ rw slot))
 
 pub store-value-at-spec : {M : Type 1} → statement M
 store-value-at-spec =

@@ -3,7 +3,7 @@ use mathlib.Core.Path.{_≡_, sym, _∙_}
 use native.Mathlib.Omega.{arith}
 use Rattle.model.specs.Limits.{maxFields}
 use Rattle.layout.proofs.Changed.{table-set, table-inserted}
-use Rattle.record.specs.Slots.{slotBytes, fieldIn, readersIn, fieldsIn, masksIn}
+use Rattle.record.specs.Slots.{slotBytes, fieldIn, maskIn, fieldsIn, masksIn}
 use Rattle.record.proofs.Places.{at-below, before-within}
 use Rattle.record.proofs.Search.{fields-used}
 use Rattle.record.proofs.Masks.{past-masks}
@@ -42,7 +42,7 @@ returns c =
     let (used, bytes) = c .replace-row .ensures in (
       table-set fieldIn slotBytes maxFields (s .args .table .now) _ (s .args .slot .now) (a .0 .0) used
           ∙ at-stored _ _ (a .0 .0) (s .pre .0) (sym (s .pre .1) ∙ a .1),
-      (rw (a .1) (table-set readersIn slotBytes maxFields (s .args .table .now) _ (s .args .slot .now) (a .0 .0) used), bytes ∙ rw (a .1)),
+      (rw (a .1) (table-set maskIn slotBytes maxFields (s .args .table .now) _ (s .args .slot .now) (a .0 .0) used), bytes ∙ rw (a .1)),
     )
 
 returns-2 : tie.Need-returns-2
@@ -54,7 +54,7 @@ returns-2 c =
       table-inserted fieldIn slotBytes maxFields (s .args .table .now) _ (s .args .slot .now) (a .0 .0) used
           ∙ before-stored _ _ (a .0 .0) (s .pre .0) (sym (s .pre .1) ∙ a .1),
       (
-        rw (a .1) (table-inserted readersIn slotBytes maxFields (s .args .table .now) _ (s .args .slot .now) (a .0 .0) used),
+        rw (a .1) (table-inserted maskIn slotBytes maxFields (s .args .table .now) _ (s .args .slot .now) (a .0 .0) used),
         bytes ∙ rw (a .1, lt-ltb _ _ (c .before .before .before .if1 .taken)),
       ),
     )

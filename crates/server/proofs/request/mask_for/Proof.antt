@@ -17,14 +17,14 @@ slot-at-requires c κs =
     let s = c .before .before .before in
     omega (arith, at-below _ _ _ (sym (s .pre) ∙ c .before .place .given .1), fields-fit (s .args .fields .now))
 
-readers-requires : tie.Need-readers-requires
-readers-requires c κs = search needs
+mask-of-requires : tie.Need-mask-of-requires
+mask-of-requires c κs = search needs
 
 enum-told : tie.Need-enum-told
 enum-told c = search needs
 
-readers-requires-2 : tie.Need-readers-requires-2
-readers-requires-2 c κs = search needs
+readers-requires : tie.Need-readers-requires
+readers-requires c κs = search needs
 
 returns : tie.Need-returns
 unfolding maskAt
@@ -33,11 +33,11 @@ returns c =
     let s = l .before .before in
     let is = l .place .given .1 in
     let below = at-below _ _ _ (sym (s .pre) ∙ is) in
-    rw is (c .readers .ensures ∙ mask-slot (s .args .fields .now) _ (c .before .slot-at .ensures .0) below)
+    rw is (c .mask-of .ensures ∙ mask-slot (s .args .fields .now) _ (c .before .slot-at .ensures .0) below)
 
 returns-2 : tie.Need-returns-2
 unfolding maskAt
-returns-2 c = rw (c .before .before .enum-told .given .1) (c .readers2 .ensures)
+returns-2 c = rw (c .before .before .enum-told .given .1) (c .readers .ensures)
 
 pub mask-for-spec : {M : Type 1} → statement M
 mask-for-spec =
@@ -45,8 +45,8 @@ mask-for-spec =
     (tie.spec
     enum-known-place
     slot-at-requires
-    readers-requires
+    mask-of-requires
     enum-told
-    readers-requires-2
+    readers-requires
     returns
     returns-2)

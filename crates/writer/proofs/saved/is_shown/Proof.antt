@@ -10,8 +10,8 @@ enum-told c = search needs
 enum-known-shown : tie.Need-enum-known-shown
 enum-known-shown c = search needs
 
-readers-requires : tie.Need-readers-requires
-readers-requires c κs = search needs
+mask-of-requires : tie.Need-mask-of-requires
+mask-of-requires c κs = search needs
 
 has-bit-requires : tie.Need-has-bit-requires
 has-bit-requires c κs =
@@ -25,9 +25,9 @@ returns c = rw (c .enum-told .given .1)
 
 returns-2 : tie.Need-returns-2
 unfolding isShown
-returns-2 c = rw (c .before .before .before .shown .given .1, ← c .before .readers .ensures) (c .has-bit .ensures)
+returns-2 c = rw (c .before .before .before .shown .given .1, ← c .before .mask-of .ensures) (c .has-bit .ensures)
 
 pub is-shown-spec : {M : Type 1} → statement M
 is-shown-spec =
     tie.close
-    (tie.spec enum-told enum-known-shown readers-requires has-bit-requires returns returns-2)
+    (tie.spec enum-told enum-known-shown mask-of-requires has-bit-requires returns returns-2)

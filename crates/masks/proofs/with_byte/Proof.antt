@@ -2,13 +2,13 @@
 use native.Mathlib.Omega.{arith}
 use borrow.Author.Needs.{needs}
 use Rattle.masks.proofs.Bits.{shifted-or}
-use Rattle.masks.proofs.joined.Statement.{statement}
-use Rattle.masks.proofs.joined.Tie as tie
+use Rattle.masks.proofs.with_byte.Statement.{statement}
+use Rattle.masks.proofs.with_byte.Tie as tie
 
 returns : tie.Need-returns
 returns c =
     let e = shifted-or 24 8 32 (c .args .high) (c .args .low) (c .pre) (omega arith) (search needs) in
     (e, omega (arith, e))
 
-pub joined-spec : {M : Type 1} → statement M
-joined-spec = tie.close (tie.spec returns)
+pub with-byte-spec : {M : Type 1} → statement M
+with-byte-spec = tie.close (tie.spec returns)

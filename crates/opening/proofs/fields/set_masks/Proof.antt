@@ -12,13 +12,13 @@ use Rattle.record.specs.Slots.{fieldIn, fieldsIn, masksIn, fieldAt, CanonicalFi
 use Rattle.record.proofs.Slots.{field-slot}
 use Rattle.record.proofs.Stores.{fields-fit}
 use Rattle.record.proofs.Masks.{masks-count}
-use Rattle.opening.proofs.Marked.{MarkedBelow, marked-start, marked-more, marked-all}
-use Rattle.opening.proofs.fields.mark_fields.Statement.{statement}
-use Rattle.opening.proofs.fields.mark_fields.Tie as tie
+use Rattle.opening.proofs.Masks.{MasksBelow, masks-start, masks-more, masks-all}
+use Rattle.opening.proofs.fields.set_masks.Statement.{statement}
+use Rattle.opening.proofs.fields.set_masks.Tie as tie
 
 abbrev Inv-loop : tie.InvT-loop
 Inv-loop tables table₀ n i₀ table i =
-    (i ≤ n) × (fieldsIn table ≡ fieldsIn table₀) × MarkedBelow (tablesIn tables) (fieldsIn table₀) i (masksIn table) × Keeps CanonicalFields table₀ table
+    (i ≤ n) × (fieldsIn table ≡ fieldsIn table₀) × MasksBelow (tablesIn tables) (fieldsIn table₀) i (masksIn table) × Keeps CanonicalFields table₀ table
 
 abbrev μ-loop : tie.MeasureT-loop
 μ-loop tables table₀ n i₀ table i = n - i
@@ -27,7 +27,7 @@ count-requires : tie.Need-count-requires Inv-loop μ-loop
 count-requires c κs = search needs
 
 loop-holds : tie.Need-loop-holds Inv-loop μ-loop
-loop-holds c = let s = c .before .before .args .table .now in (search needs, refl, marked-start _ _ (masksIn s) (masks-count s), λ h. h)
+loop-holds c = let s = c .before .before .args .table .now in (search needs, refl, masks-start _ _ (masksIn s) (masks-count s), λ h. h)
 
 slot-at-requires : tie.Need-slot-at-requires Inv-loop μ-loop
 slot-at-requires c κs =
@@ -37,8 +37,8 @@ slot-at-requires c κs =
 readers-requires : tie.Need-readers-requires Inv-loop μ-loop
 readers-requires c κs = search needs
 
-set-readers-requires : tie.Need-set-readers-requires Inv-loop μ-loop
-set-readers-requires c κs =
+set-mask-requires : tie.Need-set-mask-requires Inv-loop μ-loop
+set-mask-requires c κs =
     let t = c .before .before .before .before in
     let l = t .before in
     omega (arith, t .loop-test .taken, l .before .count .ensures, ap length (l .loop .inv .1))
@@ -62,17 +62,17 @@ loop-again c =
     let now = fieldsIn (l .table) in
     let field = field-slot (l .table) _ (l .i) (at .slot-at .ensures .0) (rw (l .inv .1) below) ∙ ap (fieldAt (l .i)) (l .inv .1) in
     let mask = r .readers .ensures ∙ ap (λ (f : Field). readersOf (tablesIn (a .tables .now)) (f .path)) field in
-    let (same, keeps) = c .set-readers .ensures in
-    (search needs, same .0 ∙ l .inv .1, rw (same .1) (marked-more _ _ (l .i) (masksIn (l .table)) (l .inv .2) below mask), λ h. keeps (l .inv .3 h))
+    let (same, rest) = c .set-mask .ensures in
+    (search needs, same .0 ∙ l .inv .1, rw (same .1) (masks-more _ _ (l .i) (masksIn (l .table)) (l .inv .2) below mask), λ h. rest .0 (l .inv .3 h))
 
 returns : tie.Need-returns Inv-loop μ-loop
 returns c =
     let l = c .before .loop in
     let n = c .before .before in
-    (l .inv .1, (marked-all _ _ (l .i) (masksIn (l .table)) (l .inv .2) (omega (arith, c .loop-test .left, n .count .ensures)), l .inv .3))
+    (l .inv .1, (masks-all _ _ (l .i) (masksIn (l .table)) (l .inv .2) (omega (arith, c .loop-test .left, n .count .ensures)), l .inv .3))
 
-pub mark-fields-spec : {M : Type 1} → statement M
-mark-fields-spec =
+pub set-masks-spec : {M : Type 1} → statement M
+set-masks-spec =
     tie.close
     (tie.spec
     Inv-loop
@@ -81,7 +81,7 @@ mark-fields-spec =
     loop-holds
     slot-at-requires
     readers-requires
-    set-readers-requires
+    set-mask-requires
     add-i
     loop-less
     loop-again

@@ -2,8 +2,8 @@
 use native.Mathlib.Nat.{div-one}
 use Rattle.masks.specs.Bits.{encodeMask}
 use borrow.Author.Needs.{needs}
-use Rattle.masks.proofs.mask_bytes.Statement.{statement}
-use Rattle.masks.proofs.mask_bytes.Tie as tie
+use Rattle.masks.proofs.encode_mask.Statement.{statement}
+use Rattle.masks.proofs.encode_mask.Tie as tie
 
 byte-at-requires : tie.Need-byte-at-requires
 byte-at-requires c κs = search needs
@@ -22,7 +22,7 @@ unfolding encodeMask
 returns c =
     rw (c .before .before .before .byte-at .ensures, c .before .before .byte-at2 .ensures, c .before .byte-at3 .ensures, c .byte-at4 .ensures, div-one)
 
-pub mask-bytes-spec : {M : Type 1} → statement M
-mask-bytes-spec =
+pub encode-mask-spec : {M : Type 1} → statement M
+encode-mask-spec =
     tie.close
     (tie.spec byte-at-requires byte-at-requires-2 byte-at-requires-3 byte-at-requires-4 returns)

@@ -17,17 +17,17 @@ module _ (t : Tables) (fs : Fields) where
   given f = readersOf t (f .path)
 
   -- those below i are set
-  pub record MarkedBelow (i : ℕ) (ms : List ℕ) : Type 0 where
+  pub record MasksBelow (i : ℕ) (ms : List ℕ) : Type 0 where
     pub many : length ms ≡ length fs
     pub same : take i ms ≡ take i (map given fs)
 
-  pub marked-start : (ms : List ℕ) → length ms ≡ length fs → MarkedBelow 0 ms
-  marked-start ms n = record { many = n; same = refl }
+  pub masks-start : (ms : List ℕ) → length ms ≡ length fs → MasksBelow 0 ms
+  masks-start ms n = record { many = n; same = refl }
 
-  module _ (i : ℕ) (ms : List ℕ) (below : MarkedBelow i ms) where
-    pub marked-more : i < length fs → {m : ℕ} → m ≡ given (fieldAt i fs) → MarkedBelow (i + 1) (set ms i m)
+  module _ (i : ℕ) (ms : List ℕ) (below : MasksBelow i ms) where
+    pub masks-more : i < length fs → {m : ℕ} → m ≡ given (fieldAt i fs) → MasksBelow (i + 1) (set ms i m)
     unfolding fieldAt
-    marked-more h {m} is =
+    masks-more h {m} is =
         let within : i < length ms = omega (arith, below .many) in
         let wanted : i < length (map given fs) = rw length-map h in
         record {
@@ -35,6 +35,6 @@ module _ (t : Tables) (fs : Fields) where
           same = rw (add-one i, take-suc-set ms i m within, take-suc (map given fs) i 0 wanted, below .same) (ap (λ (x : ℕ). take i (map given fs) ++ x ∷ []) (is ∙ sym (getD-map given i fs 0 _ h)));
         }
 
-    pub marked-all : length fs ≤ i → Agreed t fs ms
-    marked-all h =
+    pub masks-all : length fs ≤ i → Agreed t fs ms
+    masks-all h =
         sym (take-all i ms (omega (arith, below .many))) ∙ below .same ∙ take-all i (map given fs) (rw length-map h)
