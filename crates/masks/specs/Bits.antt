@@ -3,7 +3,7 @@ use Prim.Native.Nat.{ℕ, zero, suc, _+_, _*_, _/_, _%_, _^_}
 use mathlib.Core.Bool.{Bool}
 use mathlib.Core.List.{[], _∷_}
 use lib.Dec.{eqb}
-use lib.ListN.{getD}
+use lib.ListN.{getD, drop}
 use Rattle.model.specs.Base.{Bytes, if_then_else_}
 use Rattle.model.specs.Limits.{maxUsers}
 
@@ -21,14 +21,26 @@ maskOf test zero = 0
 maskOf test (suc n) = maskOf test n + (if test n then 2 ^ n else 0)
 
 -- ── In bytes, the one that counts least first ──
--- how many: a bit for each user place
+abbrev pub byteBits : ℕ
+byteBits = 8
+
+-- how many bytes: a bit for each user place
 abbrev pub maskBytes : ℕ
-maskBytes = maxUsers / 8
+maskBytes = maxUsers / byteBits
 
--- the number of the first four bytes
+-- the first n bytes as one number
+unfoldable pub littleEndian : ℕ → Bytes → ℕ
+littleEndian zero s = 0
+littleEndian (suc n) s = getD s 0 0 + 2 ^ byteBits * littleEndian n (drop 1 s)
+
+-- and a number as n bytes
+unfoldable pub bytesOf : ℕ → ℕ → Bytes
+bytesOf zero m = []
+bytesOf (suc n) m = m % 2 ^ byteBits ∷ bytesOf n (m / 2 ^ byteBits)
+
+-- a mask, out of its bytes and in them
 unfoldable pub decodeMask : Bytes → ℕ
-decodeMask s = getD s 0 0 + 2 ^ 8 * (getD s 1 0 + 2 ^ 8 * (getD s 2 0 + 2 ^ 8 * getD s 3 0))
+decodeMask s = littleEndian maskBytes s
 
--- and the bytes of a number
 unfoldable pub encodeMask : ℕ → Bytes
-encodeMask m = m % 2 ^ 8 ∷ m / 2 ^ 8 % 2 ^ 8 ∷ m / 2 ^ 16 % 2 ^ 8 ∷ m / 2 ^ 24 % 2 ^ 8 ∷ []
+encodeMask m = bytesOf maskBytes m

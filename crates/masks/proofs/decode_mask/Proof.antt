@@ -1,5 +1,6 @@
 -- Byte after byte, the one that counts least last.
-use Rattle.masks.specs.Bits.{decodeMask}
+use lib.Seq.{getD-drop}
+use Rattle.masks.specs.Bits.{littleEndian, decodeMask}
 use borrow.Author.Needs.{needs}
 use Rattle.masks.proofs.decode_mask.Statement.{statement}
 use Rattle.masks.proofs.decode_mask.Tie as tie
@@ -29,8 +30,8 @@ with-byte-requires-4 : tie.Need-with-byte-requires-4
 with-byte-requires-4 c κs = search needs
 
 returns : tie.Need-returns
-unfolding decodeMask
-returns c = search needs
+unfolding decodeMask littleEndian
+returns c = simp getD-drop (search needs)
 
 pub decode-mask-spec : {M : Type 1} → statement M
 decode-mask-spec =
