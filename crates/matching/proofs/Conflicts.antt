@@ -1,7 +1,7 @@
--- Steps that overlap, and what is left of two paths in conflict from a place on.
+-- Steps that overlap, what is left of two paths in conflict from a place on, and what their lengths say.
 use Prim.Native.Nat.{ℕ, _+_, _*_, _-_, _≤_, _<_, min}
-use mathlib.Core.Path.{_≡_, refl}
-use mathlib.Core.Bool.{Bool, true, false, _&&_}
+use mathlib.Core.Path.{_≡_, refl, _∙_}
+use mathlib.Core.Bool.{Bool, true, false, _&&_, and-false, or-false}
 use mathlib.Core.List.{List, [], _∷_}
 use mathlib.Core.Logic.{inl, inr}
 use native.Mathlib.Omega.{arith}
@@ -12,15 +12,15 @@ use denote.Enum.Declared.{tagOf}
 use borrow.Author.Tests.{ltb-true, ltb-false}
 use Rattle.model.specs.Limits.{maxDepth}
 use Rattle.model.specs.Base.{Bytes, any, among}
-use Rattle.model.specs.Paths.{Step, names, wildcard, environment}
-use Rattle.model.specs.Rights.{overlap, isAbove}
+use Rattle.model.specs.Paths.{Step, Steps, names, wildcard, environment}
+use Rattle.model.specs.Rights.{overlap, isAbove, conflict}
 use Rattle.model.proofs.Lists.{by-cases}
 use Rattle.steps.specs.Steps.{stepRow, namesIn, byKind, kindOf, stepIn, stepsIn}
 use Rattle.steps.specs.declared.step.Kind.{Kind}
 use Rattle.steps.specs.declared.step.Kind.the-variants.{Names, Wildcard, Environment}
 use Rattle.steps.proofs.step.Kind.{the-type}
 use Rattle.steps.proofs.StepRows.{step-told}
-use Rattle.layout.proofs.Counts.{counted-step, counted-over}
+use Rattle.layout.proofs.Counts.{length-counted, counted-step, counted-over}
 
 -- ── A step of another kind than a list of names overlaps every step ──
 -- the variants Wildcard and Environment by their numbers, as the code's `else` tells them
@@ -78,3 +78,28 @@ module _ (a b : Bytes) (i : ℕ) where
   above-end p = by-cases (ltb (min (getD a 0 0) maxDepth) (min (getD b 0 0) maxDepth))
       (λ e. rw (counted-over stepIn stepRow maxDepth a i (omega arith), counted-step stepIn stepRow maxDepth b i (omega (arith, ltb-true)), e))
       (λ e. rw (counted-over stepIn stepRow maxDepth a i (omega arith), counted-over stepIn stepRow maxDepth b i (omega (arith, ltb-false)), e))
+
+-- ── Only a shorter path is above another ──
+not-above : (p q : Steps) → length q ≤ length p → isAbove p q ≡ false
+unfolding isAbove
+not-above [] [] h = refl
+not-above [] (u ∷ q) h = absurd (omega arith)
+not-above (t ∷ p) [] h = refl
+not-above (t ∷ p) (u ∷ q) h = rw (not-above p q (omega arith)) (and-false (overlap t u))
+
+longer-not-above : (a b : Bytes) → min (getD b 0 0) maxDepth ≤ min (getD a 0 0) maxDepth → isAbove (stepsIn a) (stepsIn b) ≡ false
+unfolding stepsIn
+longer-not-above a b h = not-above (stepsIn a) (stepsIn b) (simp length-counted h)
+
+-- so the lengths say which of two paths can be above the other
+module _ (a b : Bytes) where
+  pub conflict-shorter : min (getD a 0 0) maxDepth < min (getD b 0 0) maxDepth → conflict (stepsIn a) (stepsIn b) ≡ isAbove (stepsIn a) (stepsIn b)
+  unfolding conflict
+  conflict-shorter h = rw (longer-not-above b a (omega arith)) (or-false (isAbove (stepsIn a) (stepsIn b)))
+
+  pub conflict-longer : min (getD b 0 0) maxDepth ≤ min (getD a 0 0) maxDepth → conflict (stepsIn a) (stepsIn b) ≡ isAbove (stepsIn b) (stepsIn a)
+  unfolding conflict
+  conflict-longer h = rw (longer-not-above a b h)
+
+  pub conflict-equal : min (getD a 0 0) maxDepth ≡ min (getD b 0 0) maxDepth → conflict (stepsIn a) (stepsIn b) ≡ false
+  conflict-equal h = conflict-longer (omega arith) ∙ longer-not-above b a (omega arith)

@@ -1,5 +1,5 @@
 -- Matching by loops: what is left of a test over rows, of a user's environment lines and of two paths at a place.
-use Prim.Native.Nat.{ℕ, suc, _+_, _*_, _-_, _≤_, _<_, min}
+use Prim.Native.Nat.{ℕ, zero, suc, _+_, _*_, _-_, _≤_, _<_, min}
 use mathlib.Core.Path.{_≡_, refl, sym, ap, _∙_}
 use mathlib.Core.Bool.{Bool, true, false, _&&_, _||_, and-true, and-false, and-assoc}
 use mathlib.Core.List.{List, [], _∷_}
@@ -16,14 +16,14 @@ use Rattle.model.specs.Paths.{Step, Steps}
 use Rattle.model.specs.Paths as paths
 use Rattle.model.specs.Tables.{Binding}
 use Rattle.model.specs.Rights.{listed, firstIs, admits, matches}
-use Rattle.model.proofs.Lists.{by-cases, never, and-both, keep-yes, keep-no}
+use Rattle.model.proofs.Lists.{by-cases, never, and-both, or-neither, all-keep, all-map, any-false, false-any, keep-yes, keep-no}
 use Rattle.paths.specs.Layout.{pathIn}
 use Rattle.steps.specs.Steps.{stepRow, namesIn, byKind, kindOf, stepIn, stepsIn}
 use Rattle.steps.specs.Environments.{bindingRow, bindingIn, bindingsIn}
 use Rattle.steps.specs.declared.step.Kind.{Kind}
 use Rattle.steps.proofs.StepRows.{step-told}
 use Rattle.layout.proofs.Counts.{length-counted, counted-step, counted-over}
-use Rattle.matching.specs.Parts.{decides, mayAdmit, isMet, paired, mayMatch}
+use Rattle.matching.specs.Parts.{decides, mayAdmit, isMet, asks, hasValue, paired, mayMatch}
 
 -- ── Whether any row of a slot passes, from the row i on ──
 module _ {A : Type 0} (decode : Bytes → A) (k m : ℕ) (p : A → Bool) (s : Bytes) (i : ℕ) where
@@ -41,16 +41,16 @@ module _ {A : Type 0} (decode : Bytes → A) (k m : ℕ) (p : A → Bool) (s : B
 abbrev lineAt : Bytes → ℕ → Bytes
 lineAt s i = take bindingRow (drop (i * bindingRow) s)
 
--- the values that are listed under the name n in the lines from the row i on: none where no line is left
-pub listed-over : (s n : Bytes) (i : ℕ) → length (inUse bindingRow maxBindings s) ≤ i → listed (drop i (bindingsIn s)) n ≡ []
-unfolding listed keep bindingsIn
-listed-over s n i h = rw (rows-over bindingIn bindingRow maxBindings s refl i h)
+-- what is left of the lines from the row i on: none behind the last
+pub lines-over : (s : Bytes) (i : ℕ) → length (inUse bindingRow maxBindings s) ≤ i → drop i (bindingsIn s) ≡ []
+unfolding bindingsIn
+lines-over s i h = rows-over bindingIn bindingRow maxBindings s refl i h
 
-module _ (s n : Bytes) (i : ℕ) (h : i < maxBindings) (passed : i ≤ length (inUse bindingRow maxBindings s)) where
-  pub listed-stop : getD s (i * bindingRow) 0 ≡ 0 → listed (drop i (bindingsIn s)) n ≡ []
-  listed-stop e = listed-over s n i (used-last bindingRow maxBindings s i h passed (byte-empty bindingRow maxBindings s i (omega arith) e))
+module _ (s : Bytes) (i : ℕ) (h : i < maxBindings) (passed : i ≤ length (inUse bindingRow maxBindings s)) where
+  pub lines-stop : getD s (i * bindingRow) 0 ≡ 0 → drop i (bindingsIn s) ≡ []
+  lines-stop e = lines-over s i (used-last bindingRow maxBindings s i h passed (byte-empty bindingRow maxBindings s i (omega arith) e))
 
-  -- a row that is not empty, whose name was compared with n
+  -- a row that is not empty
   module _ (f : getD s (i * bindingRow) 0 ≡ 0 → ⊥) where
     pub line-more : i < length (inUse bindingRow maxBindings s)
     line-more = used-more bindingRow maxBindings s i h passed (byte-full bindingRow maxBindings s i (omega arith) f)
@@ -59,17 +59,28 @@ module _ (s n : Bytes) (i : ℕ) (h : i < maxBindings) (passed : i ≤ length (i
     unfolding bindingsIn
     line-next = row-left bindingIn bindingRow maxBindings s refl i line-more refl
 
-    module _ {name : Bytes} {r : Bool} (e : name ≡ nameIn (take nameRow (drop (i * bindingRow) s))) (t : r ≡ (name == n)) where
+    line-value : {value : Bytes} → value ≡ nameIn (take keyRow (drop (i * bindingRow + nameRow) s)) → bindingIn (lineAt s i) .value ≡ value
+    unfolding bindingIn
+    line-value v = rw (part-part (i * bindingRow) bindingRow s nameRow keyRow (omega arith), v)
+
+    -- whether some line from there on has the value k: r says whether this one has it
+    pub value-step : (k : Bytes) {value : Bytes} {r : Bool} → value ≡ nameIn (take keyRow (drop (i * bindingRow + nameRow) s)) → r ≡ (k == value)
+        → hasValue (drop i (bindingsIn s)) k ≡ (r || hasValue (drop (i + 1) (bindingsIn s)) k)
+    unfolding hasValue any
+    value-step k v t = rw (line-next, line-value v, t)
+
+    -- its name was compared with n: the values that are listed under n from there on
+    module _ (n : Bytes) {name : Bytes} {r : Bool} (e : name ≡ nameIn (take nameRow (drop (i * bindingRow) s))) (t : r ≡ (name == n)) where
       line-name : (bindingIn (lineAt s i) .name == n) ≡ r
       unfolding bindingIn
       line-name = rw (take-take nameRow bindingRow (drop (i * bindingRow) s) (omega arith), ← e) (sym t)
 
       pub listed-yes : {value : Bytes} → r ≡ true → value ≡ nameIn (take keyRow (drop (i * bindingRow + nameRow) s))
           → listed (drop i (bindingsIn s)) n ≡ value ∷ listed (drop (i + 1) (bindingsIn s)) n
-      unfolding listed bindingIn
+      unfolding listed
       listed-yes y v =
           let first = keep-yes (λ (b : Binding). b .name == n) (bindingIn (lineAt s i)) (drop (i + 1) (bindingsIn s)) (line-name ∙ y) in
-          rw (line-next, first, part-part (i * bindingRow) bindingRow s nameRow keyRow (omega arith), v)
+          rw (line-next, first, line-value v)
 
       pub listed-no : r ≡ false → listed (drop i (bindingsIn s)) n ≡ listed (drop (i + 1) (bindingsIn s)) n
       unfolding listed
@@ -85,10 +96,25 @@ unfolding admits asked
 admits-listed bs paths.equals n k = refl
 admits-listed bs paths.isIn n k = refl
 
-pub asked-none : (o : paths.Operator) (k : Bytes) {vs : List Bytes} → vs ≡ [] → asked o k vs ≡ false
+-- the key is none of them
+asked-absent : (o : paths.Operator) (k : Bytes) (vs : List Bytes) → among k vs ≡ false → asked o k vs ≡ false
 unfolding asked firstIs among any
-asked-none paths.equals k e = rw e
-asked-none paths.isIn k e = rw e
+asked-absent paths.equals k [] h = refl
+asked-absent paths.equals k (v ∷ vs) h = or-neither (k == v) (among k vs) h .0
+asked-absent paths.isIn k vs h = h
+
+pub asked-none : (o : paths.Operator) (n k : Bytes) {bs : List Binding} → bs ≡ [] → asked o k (listed bs n) ≡ false
+unfolding listed keep among any
+asked-none o n k e = rw e (asked-absent o k [] refl)
+
+-- an environment step that admits a key has a line with that value
+pub admits-held : (bs : List Binding) (o : paths.Operator) (n k : Bytes) → hasValue bs k ≡ false → admits bs (paths.environment o n) k ≡ false
+unfolding hasValue listed among
+admits-held bs o n k h =
+    let named = keep (λ (b : Binding). b .name == n) bs in
+    let apart = all-keep _ (λ (b : Binding). b .name == n) bs (any-false (λ (b : Binding). k == b .value) bs h) in
+    admits-listed bs o n k
+    ∙ asked-absent o k (listed bs n) (false-any (λ (v : Bytes). k == v) _ (all-map (λ (v : Bytes). (k == v) ≡ false) (λ (b : Binding). b .value) named apart))
 
 -- the first of them is v, and r says whether it is the key k
 module _ (k v : Bytes) {vs ws : List Bytes} (e : vs ≡ v ∷ ws) {r : Bool} (t : r ≡ (k == v)) where
@@ -108,8 +134,8 @@ pub asked-later : (s n : Bytes) (i : ℕ) → i < maxBindings → i ≤ length (
     → decides o r ≡ false → asked o k (listed (drop i (bindingsIn s)) n) ≡ asked o k (listed (drop (i + 1) (bindingsIn s)) n)
 asked-later s n i h passed f o k v t d =
     by-cases (nameIn (take nameRow (drop (i * bindingRow) s)) == n)
-    (λ y. asked-left k _ (listed-yes s n i h passed f refl refl y v) t o d)
-    (λ y. ap (asked o k) (listed-no s n i h passed f refl refl y))
+    (λ y. asked-left k _ (listed-yes s i h passed f n refl refl y v) t o d)
+    (λ y. ap (asked o k) (listed-no s i h passed f n refl refl y))
 
 -- ── What a step admits: its kind k was matched with v, and the names are the part of its row behind the first byte ──
 module _ (row key : Bytes) {k v : Kind} (h : k ≡ kindOf (getD row 0 0)) (e : k ≡ v) where
@@ -126,6 +152,20 @@ admits-parts bs (paths.names ns) k = sym (and-true (among k ns))
 admits-parts bs paths.wildcard k = refl
 admits-parts bs (paths.environment o n) k = refl
 
+-- a step that does not ask the lines admits what it may admit
+admits-unasked : (bs : List Binding) (t : Step) (k : Bytes) → asks t ≡ false → admits bs t k ≡ mayAdmit t k
+unfolding asks admits mayAdmit
+admits-unasked bs (paths.names ns) k h = refl
+admits-unasked bs paths.wildcard k h = refl
+admits-unasked bs (paths.environment o n) k h = never h
+
+-- one that asks them is not met where no line has the key as its value
+unmet : (bs : List Binding) (t : Step) (k : Bytes) → asks t ≡ true → hasValue bs k ≡ false → isMet bs t k ≡ false
+unfolding asks isMet
+unmet bs (paths.names ns) k a h = never (sym a)
+unmet bs paths.wildcard k a h = never (sym a)
+unmet bs (paths.environment o n) k a h = admits-held bs o n k h
+
 -- ── A policy path and a field's path, from the step i on ──
 module _ (test : Step → Bytes → Bool) where
   paired-lengths : (ts : Steps) (ks : Keys) → paired test ts ks ≡ true → length ts ≡ length ks
@@ -134,6 +174,15 @@ module _ (test : Step → Bytes → Bool) where
   paired-lengths [] (k ∷ ks) h = never (sym h)
   paired-lengths (t ∷ ts) [] h = never (sym h)
   paired-lengths (t ∷ ts) (k ∷ ks) h = ap suc (paired-lengths ts ks (and-both (test t k) (paired test ts ks) h .1))
+
+  -- what fails from a step on fails from the first
+  paired-later : (ts : Steps) (ks : Keys) (i : ℕ) → paired test (drop i ts) (drop i ks) ≡ false → paired test ts ks ≡ false
+  unfolding paired
+  paired-later ts ks zero h = h
+  paired-later [] [] (suc i) h = h
+  paired-later [] (k ∷ ks) (suc i) h = refl
+  paired-later (t ∷ ts) [] (suc i) h = refl
+  paired-later (t ∷ ts) (k ∷ ks) (suc i) h = rw (paired-later ts ks i h) (and-false (test t k))
 
   module _ (s slot : Bytes) where
     pub paired-counts : paired test (stepsIn s) (pathIn slot) ≡ true → min (getD slot 0 0) maxDepth ≡ min (getD s 0 0) maxDepth
@@ -176,3 +225,24 @@ matches-not bs ts ks h = matches-parts bs ts ks ∙ rw h
 -- where it may match, the lines decide
 pub matches-met : (bs : List Binding) (ts : Steps) (ks : Keys) → mayMatch ts ks ≡ true → matches bs ts ks ≡ paired (isMet bs) ts ks
 matches-met bs ts ks h = matches-parts bs ts ks ∙ rw h
+
+-- where no step asks the lines, a path that may match does
+pub matches-unasked : (bs : List Binding) (ts : Steps) (ks : Keys) → any asks ts ≡ false → mayMatch ts ks ≡ true → matches bs ts ks ≡ true
+unfolding any mayMatch paired matches
+matches-unasked bs [] [] h m = refl
+matches-unasked bs [] (k ∷ ks) h m = m
+matches-unasked bs (t ∷ ts) [] h m = m
+matches-unasked bs (t ∷ ts) (k ∷ ks) h m =
+    let no = or-neither (asks t) (any asks ts) h in
+    let may = and-both (mayAdmit t k) (mayMatch ts ks) m in
+    rw (admits-unasked bs t k (no .0), may .0) (matches-unasked bs ts ks (no .1) (may .1))
+
+-- where a step asks the lines and none has its key as the value, the path does not match
+pub matches-unheld : (bs : List Binding) (s slot : Bytes) (i : ℕ) {row key : Bytes}
+    → i < min (getD s 0 0) maxDepth → mayMatch (stepsIn s) (pathIn slot) ≡ true
+    → row ≡ take stepRow (drop (i * stepRow + 1) s) → key ≡ nameIn (take keyRow (drop (i * keyRow + 1) slot))
+    → asks (stepIn row) ≡ true → hasValue bs key ≡ false → matches bs (stepsIn s) (pathIn slot) ≡ false
+unfolding mayMatch
+matches-unheld bs s slot i {row} {key} h m e k a v =
+    let step = paired-step (isMet bs) s slot i h (omega (arith, paired-counts mayAdmit s slot m)) e k (sym (unmet bs (stepIn row) key a v)) in
+    matches-met bs (stepsIn s) (pathIn slot) m ∙ paired-later (isMet bs) (stepsIn s) (pathIn slot) i step

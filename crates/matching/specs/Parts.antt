@@ -1,7 +1,7 @@
 -- Matching in two parts: what the path alone decides, and what a user's environment lines decide after that.
 use mathlib.Core.List.{List, [], _∷_}
 use mathlib.Core.Bool.{Bool, true, false, _&&_}
-use Rattle.model.specs.Base.{Bytes, among}
+use Rattle.model.specs.Base.{Bytes, any, among, _==_}
 use Rattle.model.specs.Fields.{Keys}
 use Rattle.model.specs.Paths.{Operator, equals, isIn, Step, names, wildcard, environment, Steps}
 use Rattle.model.specs.Tables.{Binding}
@@ -23,6 +23,16 @@ unfoldable pub isMet : List Binding → Step → Bytes → Bool
 isMet bs (names ns) k = true
 isMet bs wildcard k = true
 isMet bs (environment o n) k = admits bs (environment o n) k
+
+-- a step asks a user's environment lines
+unfoldable pub asks : Step → Bool
+asks (names ns) = false
+asks wildcard = false
+asks (environment o n) = true
+
+-- some environment line has the value k
+unfoldable pub hasValue : List Binding → Bytes → Bool
+hasValue bs k = any (λ b. k == b .value) bs
 
 -- as many steps as keys, and each step passes the test with its key
 unfoldable pub paired : (Step → Bytes → Bool) → Steps → Keys → Bool

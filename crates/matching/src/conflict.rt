@@ -72,14 +72,20 @@ fn is_above(a: &[u8], b: &[u8]) -> bool
     m < n
 }
 
+// Whether the paths are in conflict. Only the shorter can be above the other: paths of equal length never conflict, so most lines need no look at their steps.
 pub fn conflict(a: &[u8], b: &[u8]) -> bool
     requires { ⌜ (stepsSlot ≤ length (now a)) × (stepsSlot ≤ length (now b)) ⌝ }
     ensures { λ r. ⌜ r ≡ conflict (stepsIn (now (a .entry))) (stepsIn (now (b .entry))) ⌝ }
 {
-    if is_above(a, b) {
-        return true;
+    let m = count(a, MAX_DEPTH);
+    let n = count(b, MAX_DEPTH);
+    if m < n {
+        return is_above(a, b);
     }
-    is_above(b, a)
+    if n < m {
+        return is_above(b, a);
+    }
+    false
 }
 
 // A field's path as steps: each key counts as a list of one.

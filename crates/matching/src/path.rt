@@ -20,12 +20,12 @@ ghost use mathlib.Core.Bool.{true};
 ghost use Prim.Native.Nat.{_≤_};
 ghost use lib.ListN.{length};
 ghost use Rattle.model.specs.Paths.{environment};
-ghost use Rattle.model.specs.Base.{among};
+ghost use Rattle.model.specs.Base.{any, among};
 ghost use Rattle.model.specs.Rights.{admits, matches};
 ghost use Rattle.paths.specs.Layout.{pathSlot, pathIn};
 ghost use Rattle.steps.specs.Steps.{namesSlot, stepRow, stepsSlot, operatorOf, namesIn, stepIn, stepsIn};
 ghost use Rattle.steps.specs.Environments.{bindingsBytes, bindingsIn};
-ghost use Rattle.matching.specs.Parts.{decides, mayAdmit, isMet, mayMatch};
+ghost use Rattle.matching.specs.Parts.{decides, mayAdmit, isMet, asks, hasValue, mayMatch};
 
 // Whether the key is one of the names.
 pub fn has_name(names: &[u8], key: &[u8]) -> bool
@@ -75,6 +75,25 @@ fn is_listed(lines: &[u8], operator: Operator, n: &[u8], key: &[u8]) -> bool
     false
 }
 
+// Whether some line has the key as its value: where none has, no environment step admits it.
+pub fn has_value(lines: &[u8], key: &[u8]) -> bool
+    requires { ⌜ bindingsBytes ≤ length (now lines) ⌝ }
+    ensures { λ r. ⌜ r ≡ hasValue (bindingsIn (now (lines .entry))) (now (key .entry)) ⌝ }
+{
+    let mut i = 0;
+    while i < BINDINGS {
+        let at = i * BINDING;
+        if lines[at] == 0 {
+            return false;
+        }
+        if same(key, name_from(lines, at + NAME_ROW, KEY_ROW)) {
+            return true;
+        }
+        i += 1;
+    }
+    false
+}
+
 // Whether the step in a row admits the key, given the right environment lines.
 fn may_admit(step: &[u8], key: &[u8]) -> bool
     requires { ⌜ length (now step) ≡ stepRow ⌝ }
@@ -83,6 +102,18 @@ fn may_admit(step: &[u8], key: &[u8]) -> bool
     match kind_of(step[0]) {
         Kind::Names => has_name(&step[1..], key),
         Kind::Wildcard => true,
+        Kind::Environment(_) => true,
+    }
+}
+
+// Whether the step in a row asks the environment lines.
+pub fn asks(step: &[u8]) -> bool
+    requires { ⌜ length (now step) ≡ stepRow ⌝ }
+    ensures { λ r. ⌜ r ≡ asks (stepIn (now (step .entry))) ⌝ }
+{
+    match kind_of(step[0]) {
+        Kind::Names => false,
+        Kind::Wildcard => false,
         Kind::Environment(_) => true,
     }
 }
@@ -129,6 +160,22 @@ pub fn may_match(steps: &[u8], slot: &[u8]) -> bool
     true
 }
 
+// Whether any step of the policy path asks the environment lines.
+pub fn asks_lines(steps: &[u8]) -> bool
+    requires { ⌜ stepsSlot ≤ length (now steps) ⌝ }
+    ensures { λ r. ⌜ r ≡ any asks (stepsIn (now (steps .entry))) ⌝ }
+{
+    let depth = count(steps, MAX_DEPTH);
+    let mut i = 0;
+    while i < depth {
+        if asks(row_at(steps, STEP, i)) {
+            return true;
+        }
+        i += 1;
+    }
+    false
+}
+
 // Whether a policy path that may match does so with these environment lines.
 pub fn lines_match(lines: &[u8], steps: &[u8], slot: &[u8]) -> bool
     requires { ⌜ (bindingsBytes ≤ length (now lines)) × (stepsSlot ≤ length (now steps)) × (pathSlot ≤ length (now slot)) ⌝ }
@@ -146,13 +193,16 @@ pub fn lines_match(lines: &[u8], steps: &[u8], slot: &[u8]) -> bool
     true
 }
 
-// Whether the policy path in one slot matches the field's path in the other.
+// Whether the policy path in one slot matches the field's path in the other. The lines are asked only where a step asks them.
 pub fn matches(lines: &[u8], steps: &[u8], slot: &[u8]) -> bool
     requires { ⌜ (bindingsBytes ≤ length (now lines)) × (stepsSlot ≤ length (now steps)) × (pathSlot ≤ length (now slot)) ⌝ }
     ensures { λ r. ⌜ r ≡ matches (bindingsIn (now (lines .entry))) (stepsIn (now (steps .entry))) (pathIn (now (slot .entry))) ⌝ }
 {
     if !may_match(steps, slot) {
         return false;
+    }
+    if !asks_lines(steps) {
+        return true;
     }
     lines_match(lines, steps, slot)
 }

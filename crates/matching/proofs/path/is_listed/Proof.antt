@@ -8,7 +8,7 @@ use Rattle.steps.specs.Steps.{operatorOf}
 use Rattle.layout.specs.Layout.{inUse}
 use Rattle.layout.proofs.Used.{used-fit}
 use Rattle.steps.specs.Environments.{bindingRow, bindingsIn}
-use Rattle.matching.proofs.Matched.{listed-over, listed-stop, line-more, listed-yes, listed-no, asked, admits-listed, asked-none, asked-decided, asked-later}
+use Rattle.matching.proofs.Matched.{lines-over, lines-stop, line-more, listed-yes, listed-no, asked, admits-listed, asked-none, asked-decided, asked-later}
 use native.Mathlib.Omega.{arith}
 use lib.ListN.{length, drop}
 use borrow.Author.Needs.{needs}
@@ -35,7 +35,7 @@ shared-slice-read-if1 c = search needs
 returns : tie.Need-returns Inv-loop μ-loop
 returns c =
     let l = c .before .before .before .loop in
-    sym (l .inv .1 ∙ asked-none _ _ (listed-stop _ _ (l .i) (c .before .before .loop-test .taken) (l .inv .0) (c .if1 .taken)))
+    sym (l .inv .1 ∙ asked-none _ _ _ (lines-stop _ (l .i) (c .before .before .loop-test .taken) (l .inv .0) (c .if1 .taken)))
 
 add-name-from : tie.Need-add-name-from Inv-loop μ-loop
 add-name-from c = search needs
@@ -61,7 +61,7 @@ returns-2 c =
     let k = q .before .before in
     let m = k .before .before .before in
     let l = m .before .before .before .loop in
-    let first = listed-yes _ _ (l .i) (m .before .before .loop-test .taken) (l .inv .0) (m .if1 .left) (q .name-from2 .ensures) (c .before .same2 .ensures) (c .if3 .taken) (k .before .before .name-from .ensures) in
+    let first = listed-yes _ (l .i) (m .before .before .loop-test .taken) (l .inv .0) (m .if1 .left) _ (q .name-from2 .ensures) (c .before .same2 .ensures) (c .if3 .taken) (k .before .before .name-from .ensures) in
     sym (l .inv .1 ∙ asked-decided _ _ first (k .before .same .ensures) _ (sym (k .decides .ensures) ∙ q .before .if2 .taken))
 
 add-i : tie.Need-add-i Inv-loop μ-loop
@@ -86,7 +86,7 @@ met c =
     let test = k .before .before .loop-test .taken in
     let full = k .if1 .left in
     ⊎-elim {C = Left c}
-    (λ w. ap (asked _ _) (listed-no _ _ (l .i) test (l .inv .0) full (w .1 .ensures) (w .2 .ensures) (w .3 .left)))
+    (λ w. ap (asked _ _) (listed-no _ (l .i) test (l .inv .0) full _ (w .1 .ensures) (w .2 .ensures) (w .3 .left)))
     (λ w. asked-later _ _ (l .i) test (l .inv .0) full _ _ (c .before .before .before .name-from .ensures) (c .before .before .same .ensures) (sym (c .before .decides .ensures) ∙ w .left))
     (c .if2 .came)
 
@@ -95,13 +95,13 @@ unfolding Left
 loop-again c =
     let k = c .before .before .before .before in
     let l = k .before .before .before .loop in
-    let more = line-more _ (k .before .before .before .before .before .before .before .args .n .now) (l .i) (k .before .before .loop-test .taken) (l .inv .0) (k .if1 .left) in
+    let more = line-more _ (l .i) (k .before .before .loop-test .taken) (l .inv .0) (k .if1 .left) in
     (omega arith, l .inv .1 ∙ met c)
 
 returns-3 : tie.Need-returns-3 Inv-loop μ-loop
 returns-3 c =
     let l = c .before .loop in
-    sym (l .inv .1 ∙ asked-none _ _ (listed-over _ _ (l .i) (omega (arith, used-fit bindingRow maxBindings (c .before .before .before .before .before .args .lines .now)))))
+    sym (l .inv .1 ∙ asked-none _ _ _ (lines-over _ (l .i) (omega (arith, used-fit bindingRow maxBindings (c .before .before .before .before .before .args .lines .now)))))
 
 pub is-listed-spec : {M : Type 1} → statement M
 is-listed-spec =
