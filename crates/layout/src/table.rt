@@ -30,12 +30,12 @@ pub fn row_at(t: &[u8], size: usize, i: usize) -> &[u8]
     &t[start..end]
 }
 
-// How many rows are in use.
-pub fn row_count(t: &[u8], size: usize, most: usize) -> usize
-    requires { ⌜ Holds size most (now t) ⌝ }
+// How many rows are in use, of which the first `from` are known to be.
+fn count_from(t: &[u8], size: usize, most: usize, from: usize) -> usize
+    requires { ⌜ Holds size most (now t) × (from ≤ length (inUse size most (now t))) ⌝ }
     ensures { λ r. ⌜ r ≡ length (inUse size most (now (t .entry))) ⌝ }
 {
-    let mut i: usize = 0;
+    let mut i = from;
     while i < most {
         if t[i * size] == 0 {
             return i;
@@ -43,6 +43,14 @@ pub fn row_count(t: &[u8], size: usize, most: usize) -> usize
         i += 1;
     }
     i
+}
+
+// How many rows are in use.
+pub fn row_count(t: &[u8], size: usize, most: usize) -> usize
+    requires { ⌜ Holds size most (now t) ⌝ }
+    ensures { λ r. ⌜ r ≡ length (inUse size most (now (t .entry))) ⌝ }
+{
+    count_from(t, size, most, 0)
 }
 
 // One row more behind those in use, where there is room for it: the row behind it is made empty.
@@ -92,12 +100,12 @@ fn put_before(tail: &mut [u8], row: &[u8])
     copy(tail, row);
 }
 
-// Where what a new row moves ends: the rows in use, one more for it, and the empty one behind them; at most all rows.
-fn moved_end(t: &[u8], size: usize, most: usize) -> usize
-    requires { ⌜ Holds size most (now t) ⌝ }
+// Where what a new row moves ends: the rows in use, of which the first `from` are, one more for it, and the empty one behind them; at most all rows.
+fn moved_end(t: &[u8], size: usize, most: usize, from: usize) -> usize
+    requires { ⌜ Holds size most (now t) × (from ≤ length (inUse size most (now t))) ⌝ }
     ensures { λ r. ⌜ r ≡ movedEnd size most (now (t .entry)) ⌝ }
 {
-    least(row_count(t, size, most) + 2, most) * size
+    least(count_from(t, size, most, from) + 2, most) * size
 }
 
 // A row at the place i, before what stood there: only rows in use move, and the empty one behind them. Of more than `most`, the last falls off.
@@ -108,7 +116,7 @@ pub fn insert_row(t: &mut [u8], size: usize, most: usize, i: usize, row: &[u8])
     ensures { λ _. ⌜ now (t .exit) ≡ insertedRow size most i (now (row .entry)) (now (t .entry)) ⌝ }
 {
     let start = i * size;
-    let end = moved_end(t, size, most);
+    let end = moved_end(t, size, most, i);
     put_before(&mut t[start..end], row);
 }
 

@@ -8,13 +8,13 @@ use borrow.Author.Needs.{needs}
 use Rattle.layout.proofs.table.moved_end.Statement.{statement}
 use Rattle.layout.proofs.table.moved_end.Tie as tie
 
-row-count-requires : tie.Need-row-count-requires
-row-count-requires c κs = search needs
+count-from-requires : tie.Need-count-from-requires
+count-from-requires c κs = search needs
 
 add-least : tie.Need-add-least
 add-least c =
     let s = c .before .before in
-    omega (arith, used-few (s .args .size) (s .args .most) (s .args .t .now) (s .pre), s .good)
+    omega (arith, used-few (s .args .size) (s .args .most) (s .args .t .now) (s .pre .0), s .good)
 
 least-requires : tie.Need-least-requires
 least-requires c κs = search needs
@@ -23,11 +23,11 @@ mul-result : tie.Need-mul-result
 mul-result c =
     let s = c .before .before .before in
     let l : c .least .result ≤ s .args .most = omega arith in
-    omega (arith, mul-le-mul-right (s .args .size) l, s .pre .1)
+    omega (arith, mul-le-mul-right (s .args .size) l, s .pre .0 .1)
 
 returns : tie.Need-returns
-returns c = rw (c .least .ensures, c .before .row-count .ensures)
+returns c = rw (c .least .ensures, c .before .count-from .ensures)
 
 pub moved-end-spec : {M : Type 1} → statement M
 moved-end-spec =
-    tie.close (tie.spec row-count-requires add-least least-requires mul-result returns)
+    tie.close (tie.spec count-from-requires add-least least-requires mul-result returns)
