@@ -9,19 +9,33 @@ use crate::memory::bindings;
 use crate::memory::is_for;
 use crate::memory::is_write;
 use crate::memory::policy_of;
+use layout::counted;
+use layout::counted::count;
 use layout::table::is_empty;
 use layout::table::row_at;
 use layout::table::row_count;
+use lexical::limits::MAX_DEPTH;
+use lexical::limits::MAX_USERS;
+use masks::both;
+use masks::first_bit;
+use masks::first_places;
 use masks::has_bit;
 use masks::with_bit;
+use masks::without_bit;
+use matching::path::asks;
+use matching::path::asks_lines;
+use matching::path::has_value;
 use matching::path::lines_match;
 use matching::path::matches;
 use matching::path::may_match;
+use paths::key::key_at;
+use steps::policy::STEP;
 ghost use mathlib.Core.Path.{_≡_};
 ghost use mathlib.Core.Bool.{true, _&&_, _||_};
 ghost use Prim.Native.Nat.{ℕ, _≤_, _<_};
 ghost use lib.Dec.{eqb};
-ghost use lib.ListN.{length};
+ghost use lib.ListN.{length, getD};
+ghost use mathlib.Core.List.{[]};
 ghost use Rattle.model.specs.Limits.{maxUsers};
 ghost use Rattle.model.specs.Tables.{userAt};
 ghost use Rattle.model.specs.Rights.{mayWrite};
@@ -31,7 +45,11 @@ ghost use Rattle.paths.specs.Layout.{pathSlot, pathIn};
 ghost use Rattle.layout.specs.Layout.{inUse};
 ghost use Rattle.matching.specs.Parts.{mayMatch};
 ghost use Rattle.tables.specs.Memory.{userRow, ruleRow, policyBytes, userIn, usersIn, ruleIn, policyIn, tablesIn};
-ghost use Rattle.tables.specs.Grants.{givesRead, givesWrite, readsByLine};
+ghost use Rattle.tables.specs.Grants.{givesRead, givesWrite, readsByLine, holdsValue, Found, Covers};
+ghost use Rattle.steps.specs.Steps.{stepsSlot, stepsIn};
+
+// What is no mask: who holds a key was not asked yet.
+const NOT_FOUND: u64 = 1 << MAX_USERS;
 
 // Whether a line gives a user the right to write a path.
 fn gives_write(rule: &[u8], user: &[u8], path: &[u8]) -> bool
@@ -66,7 +84,7 @@ pub fn may_write(policy: &[u8], user: &[u8], path: &[u8]) -> bool
     false
 }
 
-// Whether a line that may match a path gives a user the right to read it.
+// Whether a line that may match a path gives a user the right to read it. A path without environment steps asks no environment line.
 fn gives_read(rule: &[u8], user: &[u8], path: &[u8]) -> bool
     requires { ⌜ (length (now rule) ≡ ruleRow) × (length (now user) ≡ userRow) × (pathSlot ≤ length (now path)) ⌝ }
     requires { ⌜ mayMatch (ruleIn (now rule) .path) (pathIn (now path)) ≡ true ⌝ }
@@ -75,7 +93,11 @@ fn gives_read(rule: &[u8], user: &[u8], path: &[u8]) -> bool
     if !is_for(rule, user) {
         return false;
     }
-    lines_match(bindings(user), &rule[STEPS_AT..], path)
+    let steps = &rule[STEPS_AT..];
+    if !asks_lines(steps) {
+        return true;
+    }
+    lines_match(bindings(user), steps, path)
 }
 
 // A mask with the bit of the place j set where a line that may match the path gives this user the right to read it. Who is marked already is not asked again.
@@ -93,23 +115,109 @@ fn with_reader(mask: u32, j: usize, rule: &[u8], user: &[u8], path: &[u8]) -> u3
     with_bit(mask, j)
 }
 
-// A mask with the bits set of those of the n users to whom a line that may match the path gives the right to read it.
-fn with_readers(mask: u32, tables: &[u8; TABLES], n: usize, rule: &[u8], path: &[u8]) -> u32
+// A mask with the bits set of those to whom a line that may match the path gives the right to read it. Only the users of the mask `able` are asked, which leaves out nobody for whom it matches.
+fn with_readers(mask: u32, able: u32, tables: &[u8; TABLES], rule: &[u8], path: &[u8]) -> u32
     requires { ⌜ (length (now rule) ≡ ruleRow) × (pathSlot ≤ length (now path)) ⌝ }
-    requires { ⌜ n ≡ length (inUse userRow maxUsers (now tables)) ⌝ }
     requires { ⌜ mayMatch (ruleIn (now rule) .path) (pathIn (now path)) ≡ true ⌝ }
+    requires { ⌜ Covers (usersIn (now tables)) (ruleIn (now rule) .path) (pathIn (now path)) able ⌝ }
     ensures { λ r. ⌜ ((k : ℕ) → bitAt r k ≡ (bitAt mask k || readsByLine (pathIn (now (path .entry))) (ruleIn (now (rule .entry))) (userAt (usersIn (now (tables .entry))) k))) ⌝ }
 {
     let mut marked = mask;
-    let mut j: usize = 0;
-    while j < n {
+    let mut rest = able;
+    while rest != 0 {
+        let j = first_bit(rest);
         marked = with_reader(marked, j, rule, row_at(tables, USER, j), path);
-        j += 1;
+        rest = without_bit(rest, j);
     }
     marked
 }
 
-// Who may read a path: a mask, whose bit at a user's place is set where that user may. Lines that match for nobody are passed over once, not for each user.
+// Who of the n users has an environment line with this value.
+fn holders(tables: &[u8; TABLES], n: usize, key: &[u8]) -> u32
+    requires { ⌜ n ≡ length (inUse userRow maxUsers (now tables)) ⌝ }
+    ensures { λ r. ⌜ ((k : ℕ) → bitAt r k ≡ holdsValue (now (key .entry)) (userAt (usersIn (now (tables .entry))) k)) ⌝ }
+{
+    let mut held: u32 = 0;
+    let mut j: usize = 0;
+    while j < n {
+        if has_value(bindings(row_at(tables, USER, j)), key) {
+            held = with_bit(held, j);
+        }
+        j += 1;
+    }
+    held
+}
+
+// Who holds the i-th key of a path as a value: found out when it is first asked.
+fn holders_at(
+    found: &mut [u64; MAX_DEPTH],
+    tables: &[u8; TABLES],
+    n: usize,
+    path: &[u8],
+    i: usize,
+) -> u32
+    requires { ⌜ (pathSlot ≤ length (now path)) × (i < length (pathIn (now path))) × (n ≡ length (inUse userRow maxUsers (now tables))) ⌝ }
+    requires { ⌜ Found (usersIn (now tables)) (pathIn (now path)) (now found) ⌝ }
+    ensures { λ r. ⌜ ((k : ℕ) → bitAt r k ≡ holdsValue (getD (pathIn (now (path .entry))) i []) (userAt (usersIn (now (tables .entry))) k)) ⌝ }
+    ensures { λ _. ⌜ Found (usersIn (now (tables .entry))) (pathIn (now (path .entry))) (now (found .exit)) ⌝ }
+{
+    let held = found[i];
+    if held < NOT_FOUND {
+        return held as u32;
+    }
+    let mask = holders(tables, n, key_at(path, i));
+    found[i] = mask as u64;
+    mask
+}
+
+// Those of a mask whom the i-th step of a policy path may admit: an environment step admits nobody who does not hold the key.
+fn admitted(
+    mask: u32,
+    found: &mut [u64; MAX_DEPTH],
+    tables: &[u8; TABLES],
+    n: usize,
+    steps: &[u8],
+    path: &[u8],
+    i: usize,
+) -> u32
+    requires { ⌜ (stepsSlot ≤ length (now steps)) × (pathSlot ≤ length (now path)) × (n ≡ length (inUse userRow maxUsers (now tables))) ⌝ }
+    requires { ⌜ (mayMatch (stepsIn (now steps)) (pathIn (now path)) ≡ true) × (i < length (stepsIn (now steps))) ⌝ }
+    requires { ⌜ Found (usersIn (now tables)) (pathIn (now path)) (now found) ⌝ }
+    requires { ⌜ Covers (usersIn (now tables)) (stepsIn (now steps)) (pathIn (now path)) mask ⌝ }
+    ensures { λ r. ⌜ Covers (usersIn (now (tables .entry))) (stepsIn (now (steps .entry))) (pathIn (now (path .entry))) r ⌝ }
+    ensures { λ _. ⌜ Found (usersIn (now (tables .entry))) (pathIn (now (path .entry))) (now (found .exit)) ⌝ }
+{
+    if !asks(counted::row_at(steps, STEP, i)) {
+        return mask;
+    }
+    both(mask, holders_at(found, tables, n, path, i))
+}
+
+// Those of the n users whom each step of a policy path that may match may admit.
+fn candidates(
+    found: &mut [u64; MAX_DEPTH],
+    tables: &[u8; TABLES],
+    n: usize,
+    steps: &[u8],
+    path: &[u8],
+) -> u32
+    requires { ⌜ (stepsSlot ≤ length (now steps)) × (pathSlot ≤ length (now path)) × (n ≡ length (inUse userRow maxUsers (now tables))) ⌝ }
+    requires { ⌜ mayMatch (stepsIn (now steps)) (pathIn (now path)) ≡ true ⌝ }
+    requires { ⌜ Found (usersIn (now tables)) (pathIn (now path)) (now found) ⌝ }
+    ensures { λ r. ⌜ Covers (usersIn (now (tables .entry))) (stepsIn (now (steps .entry))) (pathIn (now (path .entry))) r ⌝ }
+    ensures { λ _. ⌜ Found (usersIn (now (tables .entry))) (pathIn (now (path .entry))) (now (found .exit)) ⌝ }
+{
+    let m = count(steps, MAX_DEPTH);
+    let mut mask = first_places(n);
+    let mut i: usize = 0;
+    while i < m {
+        mask = admitted(mask, found, tables, n, steps, path, i);
+        i += 1;
+    }
+    mask
+}
+
+// Who may read a path: a mask, whose bit at a user's place is set where that user may. Lines that match for nobody are passed over once, not for each user; who holds a key is found out once, not for each line.
 pub fn readers(tables: &[u8; TABLES], path: &[u8]) -> u32
     requires { ⌜ pathSlot ≤ length (now path) ⌝ }
     ensures { λ r. ⌜ r ≡ readersOf (tablesIn (now (tables .entry))) (pathIn (now (path .entry))) ⌝ }
@@ -117,12 +225,15 @@ pub fn readers(tables: &[u8; TABLES], path: &[u8]) -> u32
     let users = row_count(tables, USER, USERS);
     let policy = policy_of(tables);
     let n = row_count(policy, RULE, RULES);
+    let mut found = [NOT_FOUND; MAX_DEPTH];
     let mut mask: u32 = 0;
     let mut i: usize = 0;
     while i < n {
         let rule = row_at(policy, RULE, i);
-        if may_match(&rule[STEPS_AT..], path) {
-            mask = with_readers(mask, tables, users, rule, path);
+        let steps = &rule[STEPS_AT..];
+        if may_match(steps, path) {
+            let able = candidates(&mut found, tables, users, steps, path);
+            mask = with_readers(mask, able, tables, rule, path);
         }
         i += 1;
     }

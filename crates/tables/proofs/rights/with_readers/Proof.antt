@@ -1,57 +1,61 @@
--- Each turn asks one user more.
-use Prim.Native.Nat.{_-_, _≤_}
+-- Each turn asks one user of the mask, who is then no longer left.
+use Prim.Native.Nat.{ℕ, _<_}
+use mathlib.Core.Path.{_≡_, refl, sym, _∙_}
+use mathlib.Core.Bool.{true, not}
 use borrow.Author.Needs.{needs}
-use Rattle.model.specs.Limits.{maxUsers}
-use Rattle.model.specs.Tables.{userAt}
-use Rattle.masks.proofs.Bits.{SetBelow, below-start}
+use lib.Dec.{eqb}
+use lib.ListN.{length}
+use Rattle.model.proofs.Lists.{and-both}
+use Rattle.masks.specs.Bits.{bitAt}
+use Rattle.masks.proofs.Bits.{asked-end}
 use Rattle.paths.specs.Layout.{pathIn}
-use Rattle.layout.proofs.Used.{counted-fit}
-use Rattle.tables.specs.Memory.{userRow, usersIn, ruleIn}
-use Rattle.tables.specs.Grants.{readsByLine}
+use Rattle.tables.specs.Memory.{usersIn, ruleIn}
 use Rattle.tables.proofs.Users.{user-inside}
-use Rattle.tables.proofs.Given.{user-asked, all-asked}
+use Rattle.tables.proofs.Given.{user-below, ReadersBut, readers-able, readers-next}
 use Rattle.tables.proofs.rights.with_readers.Statement.{statement}
 use Rattle.tables.proofs.rights.with_readers.Tie as tie
 
 abbrev Inv-loop : tie.InvT-loop
-Inv-loop mask tables n rule path marked₀ j₀ marked j =
-    (j ≤ n) × SetBelow (λ k. readsByLine (pathIn path) (ruleIn rule) (userAt (usersIn tables) k)) mask j marked
+Inv-loop mask able tables rule path marked₀ rest₀ marked rest =
+    ((k : ℕ) → bitAt rest k ≡ true → k < length (usersIn tables)) × ReadersBut tables (pathIn path) (ruleIn rule) mask rest marked
 
 abbrev μ-loop : tie.MeasureT-loop
-μ-loop mask tables n rule path marked₀ j₀ marked j = n - j
+μ-loop mask able tables rule path marked₀ rest₀ marked rest = rest
 
 loop-holds : tie.Need-loop-holds Inv-loop μ-loop
-loop-holds c = (search needs, below-start _ _)
+loop-holds c =
+    let covers = c .before .before .pre .1 .1 in
+    (covers .users, readers-able _ _ _ _ _ covers)
+
+first-bit-requires : tie.Need-first-bit-requires Inv-loop μ-loop
+first-bit-requires c κs = search needs
 
 row-at-requires : tie.Need-row-at-requires Inv-loop μ-loop
 row-at-requires c κs =
-    let start = c .before .before .before .before .before in
-    user-inside _ (start .pre .1 .0) (c .before .before .loop .j) (c .before .loop-test .taken) (search needs)
+    let f = c .before .first-bit in
+    user-inside _ refl (f .result) (user-below _ _ (c .before .before .before .loop .inv .0 _ (f .ensures .1))) (search needs)
 
 with-reader-requires : tie.Need-with-reader-requires Inv-loop μ-loop
-with-reader-requires c κs =
-    let start = c .before .before .before .before .before .before in
-    let fit = counted-fit userRow maxUsers (start .args .tables .now) (start .pre .1 .0) in
-    (search needs, start .pre .1 .1)
+with-reader-requires c κs = (search needs, c .before .before .before .before .before .before .before .pre .1 .0)
 
-add-j : tie.Need-add-j Inv-loop μ-loop
-add-j c = search needs
+without-bit-requires : tie.Need-without-bit-requires Inv-loop μ-loop
+without-bit-requires c κs = let f = c .before .before .before .first-bit in (f .ensures .0, f .ensures .1)
 
 loop-less : tie.Need-loop-less Inv-loop μ-loop
-loop-less c = search needs
+loop-less c = c .without-bit .ensures .0
 
 loop-again : tie.Need-loop-again Inv-loop μ-loop
 loop-again c =
-    let k = c .before in
-    let l = k .before .before .before .loop in
-    let count = k .before .before .before .before .before .before .pre .1 .0 in
-    let test = k .before .before .loop-test .taken in
-    (search needs, user-asked _ _ _ count _ (l .j) (l .marked) (l .inv .1) test (k .row-at .ensures .0) _ (c .with-reader .ensures))
+    let k = c .before .before in
+    let f = k .before .before .first-bit in
+    let l = k .before .before .before .before .loop in
+    let below = l .inv .0 _ (f .ensures .1) in (
+      λ i is. l .inv .0 i (and-both (not (eqb i (f .result))) (bitAt (l .rest) i) (sym (c .without-bit .ensures .1 i) ∙ is) .1),
+      readers-next _ _ _ _ (l .rest) (l .marked) (l .inv .1) (f .result) below (k .row-at .ensures .0) _ _ (f .ensures .1) (c .before .with-reader .ensures) (c .without-bit .ensures .1),
+    )
 
 returns : tie.Need-returns Inv-loop μ-loop
-returns c =
-    let l = c .before .loop in
-    all-asked _ _ _ (c .before .before .before .before .pre .1 .0) _ (l .j) (l .marked) (l .inv .1) (search needs)
+returns c = let l = c .before .loop in asked-end _ _ (l .rest) (l .marked) (l .inv .1) (search needs)
 
 pub with-readers-spec : {M : Type 1} → statement M
 with-readers-spec =
@@ -60,9 +64,10 @@ with-readers-spec =
     Inv-loop
     μ-loop
     loop-holds
+    first-bit-requires
     row-at-requires
     with-reader-requires
-    add-j
+    without-bit-requires
     loop-less
     loop-again
     returns)
