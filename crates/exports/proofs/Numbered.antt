@@ -12,7 +12,7 @@ use Rattle.model.specs.Serving.{Outcome}
 use Rattle.server.specs.declared.answer.Reply.{Reply}
 use Rattle.opening.specs.Memory.{Arrays}
 use Rattle.server.specs.Masked.{Effect}
-use Rattle.server.specs.Replies.{answerIn, toldIn, outcomeIn, Lent, Leaves}
+use Rattle.server.specs.Replies.{answerIn, toldIn, outcomeIn, Outputs, Leaves}
 use Rattle.exports.specs.Numbers.{faultNumber, faultText, faultLine, kindOf, numberOf, Tells, ServesAs}
 
 -- a reply's kind and number, where the reply with what it left is an outcome
@@ -22,7 +22,7 @@ unfolding outcomeIn
 reply-tells r s b l is k n = rw (← is) (record { kind-is = k; number-is = n; state-is = refl; buffer-is = refl; list-is = refl })
 
 -- a reply to a line with this effect
-pub serves-as : (r : Reply) {w : Effect} {text : Bytes} {before after : Arrays} {left : Lent} {kind number : ℕ} → Leaves w text before r after left
+pub serves-as : (r : Reply) {w : Effect} {text : Bytes} {before after : Arrays} {left : Outputs} {kind number : ℕ} → Leaves w text before r after left
     → kind ≡ kindOf (answerIn r) → number ≡ numberOf (answerIn r) (toldIn r) → ServesAs w before kind number after (left .buffer) (left .list)
 serves-as r l k n = record { tells = reply-tells r _ _ _ (l .is) k n; logins = l .logins; fields = l .fields; masks = l .masks }
 

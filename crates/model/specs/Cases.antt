@@ -19,12 +19,12 @@ use Rattle.model.specs.Program.{serve}
 use Rattle.model.specs.Program
 
 -- lines, each ended by 0A
-rows : List String → Bytes
+unfoldable pub rows : List String → Bytes
 rows [] = []
 rows (s ∷ ss) = text s ++ (0x0A ∷ rows ss)
 
 -- ── "One afternoon in the hall" ──
-clubTexts : Texts
+unfoldable pub clubTexts : Texts
 unfolding rows
 clubTexts = record {
   usersText = rows (
@@ -118,10 +118,10 @@ numbers (session n) = 1 ∷ n ∷ []
 numbers (length-is n) = 2 ∷ n ∷ []
 numbers accepted = 3 ∷ []
 
-asked : ℕ → String → Act
+unfoldable pub asked : ℕ → String → Act
 asked room s = line (text s) (replicate room 0) (replicate listRoom 0)
 
-clubState : State
+unfoldable pub clubState : State
 unfolding clubTexts
 clubState = afterOpening initial clubTexts
 

@@ -33,7 +33,7 @@ use Rattle.server.specs.declared.answer.Reply.{Reply}
 use Rattle.server.specs.declared.answer.Reply.the-variants.{Refused, Session, Length, Accepted}
 use Rattle.server.proofs.answer.Reply.{the-type}
 use Rattle.server.specs.Masked.{decideGetMasked, decideMasked, decideLineMasked, decisionMasked, maskFor, notifiedMasked, concludeMasked, effectOf, effectByMasks}
-use Rattle.server.specs.Replies.{answerIn, toldIn, outcomeIn, Lent, StandsAt, act, eventOf, ServedByMasks}
+use Rattle.server.specs.Replies.{answerIn, toldIn, outcomeIn, Outputs, StandsAt, act, eventOf, ServedByMasks}
 use Rattle.server.proofs.Agree.{memory-agrees, agrees-after}
 use Rattle.printing.specs.Printed.{Inside, Left, RespondsByMasks, RespondsByPolicy}
 
@@ -142,7 +142,7 @@ module _ (s : State) (ms : List ℕ) (b : Bytes) (l : List ℕ) (t : Bytes) (at 
       (λ x shows-it fits. let z : _≡_ {A = ℕ} 0 1 = cc in absurd (omega arith))
 
 -- ── The reply r to a line, with what it left ──
-module _ (before : Arrays) (t : Bytes) (given : Lent) (r : Reply) (after : Arrays) (left : Lent) (served : ServedByMasks before t given r after left) where
+module _ (before : Arrays) (t : Bytes) (given : Outputs) (r : Reply) (after : Arrays) (left : Outputs) (served : ServedByMasks before t given r after left) where
   abbrev s : State
   s = stateOf before
 
@@ -217,7 +217,7 @@ module _ (before : Arrays) (t : Bytes) (given : Lent) (r : Reply) (after : Array
         (λ q c asks h. let (less, room) = told-fits s ms b l q c h in (less, rw (length-over _ l room) room)))
 
 -- ── Where the masks agree with the policy, all this is as documents 01 and 02 say ──
-pub said : (before : Arrays) (t : Bytes) (given : Lent) (after : Arrays) (left : Lent) (from : Bytes) (n : ℕ) (out : Bytes) → after .tables ≡ before .tables
+pub said : (before : Arrays) (t : Bytes) (given : Outputs) (after : Arrays) (left : Outputs) (from : Bytes) (n : ℕ) (out : Bytes) → after .tables ≡ before .tables
     → RespondsByMasks before t given after left from n out → RespondsByMasks before t given after left from n out × RespondsByPolicy before t given after left from n out
 said before t given after left from n out same masked = (
   masked,

@@ -16,7 +16,7 @@ use Rattle.opening.specs.declared.answer.Opening.the-variants as opening
 use Rattle.server.specs.declared.answer.Reply.{Reply}
 use Rattle.server.specs.declared.answer.Reply.the-variants as reply
 use Rattle.server.specs.Masked.{Effect, effectByMasks, effectByPolicy}
-use Rattle.server.specs.Replies.{Lent, fieldsAfter, act, eventOf}
+use Rattle.server.specs.Replies.{Outputs, fieldsAfter, act, eventOf}
 
 -- ── Lengths, in bytes ──
 -- `OK;` and `NO;`
@@ -57,11 +57,11 @@ Inside (reply.Length n) room = n ≤ room
 Inside (reply.Accepted k at) room = Unit {0}
 
 -- the state, the buffer and the list that an act leaves
-abbrev pub Left : Outcome → State → Lent → Type 0
+abbrev pub Left : Outcome → State → Outputs → Type 0
 Left o s left = (s ≡ o .state) × (left .buffer ≡ o .buffer) × (left .list ≡ o .list)
 
 -- a line has its effect: what it leaves, in meaning and in memory, and what is printed for it, n bytes, written over the start of `over` as far as there is room
-pub record Responds (w : Effect) (text : Bytes) (before : Arrays) (given : Lent) (after : Arrays) (left : Lent) (over : Bytes) (n : ℕ) (out : Bytes) : Type 0 where
+pub record Responds (w : Effect) (text : Bytes) (before : Arrays) (given : Outputs) (after : Arrays) (left : Outputs) (over : Bytes) (n : ℕ) (out : Bytes) : Type 0 where
   pub leaves : Left (w .outcome) (stateOf after) left
   pub logins : after .logins ≡ numbersAfter (w .decided) (before .logins)
   pub fields : after .fields ≡ fieldsAfter (w .mask) (w .decided) (before .fields)
@@ -70,11 +70,11 @@ pub record Responds (w : Effect) (text : Bytes) (before : Arrays) (given : Lent)
   pub short : n ≤ mostPrinted
 
 -- by the masks, whatever the arrays hold
-abbrev pub RespondsByMasks : Arrays → Bytes → Lent → Arrays → Lent → Bytes → ℕ → Bytes → Type 0
+abbrev pub RespondsByMasks : Arrays → Bytes → Outputs → Arrays → Outputs → Bytes → ℕ → Bytes → Type 0
 RespondsByMasks before text given after left over n out =
     Responds (effectByMasks (stateOf before) (masksOf before) (act text given)) text before given after left over n out
 
 -- where the masks agree with the policy as documents 01 and 02 say, and they agree again
-abbrev pub RespondsByPolicy : Arrays → Bytes → Lent → Arrays → Lent → Bytes → ℕ → Bytes → Type 0
+abbrev pub RespondsByPolicy : Arrays → Bytes → Outputs → Arrays → Outputs → Bytes → ℕ → Bytes → Type 0
 RespondsByPolicy before text given after left over n out =
     Agree before → Responds (effectByPolicy (stateOf before) (act text given)) text before given after left over n out × Agree after

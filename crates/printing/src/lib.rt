@@ -18,7 +18,7 @@ ghost use Rattle.rows.specs.Rows.{Wrote};
 ghost use Rattle.model.specs.Limits.{maxCopy};
 ghost use Rattle.model.specs.Program.{printAnswer};
 ghost use Rattle.opening.specs.Memory.{arrays};
-ghost use Rattle.server.specs.Replies.{answerIn, lent};
+ghost use Rattle.server.specs.Replies.{answerIn, outputs};
 ghost use Rattle.printing.specs.Printed.{markLength, mostNumbered, mostFault, numbered, openingText, Inside, RespondsByMasks, RespondsByPolicy};
 
 // The list that a push is lent.
@@ -64,15 +64,15 @@ pub fn respond(
 ) -> usize
     ensures { λ r. ⌜ RespondsByMasks
         (arrays (now (tables .entry)) (now (logins .entry)) (now (fields .entry)))
-        (now (line .entry)) (lent (now (buffer .entry)) (now (list .entry)))
+        (now (line .entry)) (outputs (now (buffer .entry)) (now (list .entry)))
         (arrays (now (tables .entry)) (now (logins .exit)) (now (fields .exit)))
-        (lent (now (buffer .exit)) (now (list .exit)))
+        (outputs (now (buffer .exit)) (now (list .exit)))
         (now (out .entry)) r (now (out .exit)) ⌝ }
     ensures { λ r. ⌜ RespondsByPolicy
         (arrays (now (tables .entry)) (now (logins .entry)) (now (fields .entry)))
-        (now (line .entry)) (lent (now (buffer .entry)) (now (list .entry)))
+        (now (line .entry)) (outputs (now (buffer .entry)) (now (list .entry)))
         (arrays (now (tables .entry)) (now (logins .exit)) (now (fields .exit)))
-        (lent (now (buffer .exit)) (now (list .exit)))
+        (outputs (now (buffer .exit)) (now (list .exit)))
         (now (out .entry)) r (now (out .exit)) ⌝ }
 {
     let reply = request(tables, logins, fields, line, buffer, list);

@@ -35,7 +35,7 @@ use Rattle.deliveries.specs.Receivers.{receiversOf}
 use Rattle.deliveries.proofs.Received.{receivers-of}
 use Rattle.server.specs.Masked.{shownTo, decideGetMasked, decideMasked, decideLineMasked, decisionMasked, maskAt, maskFor, notifiedMasked, concludeMasked, masksAfter, Effect, effectOf, effectByMasks, effectByPolicy}
 use Rattle.server.specs.declared.answer.Reply.{Reply}
-use Rattle.server.specs.Replies.{outcomeIn, Lent, act, ServedByMasks, ServedByPolicy, LeavesDecided}
+use Rattle.server.specs.Replies.{outcomeIn, Outputs, act, ServedByMasks, ServedByPolicy, LeavesDecided}
 
 -- ── Copies ──
 module _ (t : Tables) (few : length (t .users) ≤ maxUsers) (i : ℕ) (u : User) (is : userAt (t .users) i ≡ some u) where
@@ -150,7 +150,7 @@ agrees-after before after x same a fields masks =
     let kept = fields ∙ ap (λ (w : Effect). w .outcome .state .fields) is in
     masks ∙ ap (λ (w : Effect). w .masks) is ∙ rw (same, kept)
 
-pub masked-said : (before after : Arrays) (text : Bytes) (given left : Lent) (r : Reply) → after .tables ≡ before .tables
+pub masked-said : (before after : Arrays) (text : Bytes) (given left : Outputs) (r : Reply) → after .tables ≡ before .tables
     → ServedByMasks before text given r after left → ServedByPolicy before text given r after left
 unfolding outcomeIn
 masked-said before after text given left r same masked a = (
@@ -159,7 +159,7 @@ masked-said before after text given left r same masked a = (
 )
 
 -- where something was decided for a line, it is served by the masks, and as the documents say
-pub line-served : (before after : Arrays) (text : Bytes) (given left : Lent) (r : Reply) → after .tables ≡ before .tables
+pub line-served : (before after : Arrays) (text : Bytes) (given left : Outputs) (r : Reply) → after .tables ≡ before .tables
     → {d : Result ℕ Change} → decisionMasked (stateOf before) (masksOf before) (act text given) ≡ d
     → LeavesDecided d text before given r after left → ServedByMasks before text given r after left × ServedByPolicy before text given r after left
 unfolding effectByMasks bufferOf listOf

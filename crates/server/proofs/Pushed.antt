@@ -46,7 +46,7 @@ use Rattle.requests.specs.declared.Request.the-variants.{InSession}
 use Rattle.requests.specs.Lines.{requestIn, ReadsAs, RequestStands, PushStands, SlotAfter}
 use Rattle.opening.specs.Memory.{arrays, stateIn}
 use Rattle.server.specs.declared.answer.Reply.the-variants.{Accepted}
-use Rattle.server.specs.Replies.{outcomeIn, lent, LeavesDecided}
+use Rattle.server.specs.Replies.{outcomeIn, outputs, LeavesDecided}
 use Rattle.server.specs.Masked.{decideMasked, decideLineMasked, decisionMasked, maskAt, maskFor, notifiedMasked, concludeMasked, masksAfter, effectOf}
 
 -- ── A line s that was taken apart, its path in a slot ──
@@ -130,7 +130,7 @@ module _ (tables : Bytes) (logins : List ℕ) (fields : Bytes) (n : ℕ) (path :
           → (v : Value) → fieldsIn fields₁ ≡ storedAt path v (fieldsIn fields) → masksIn fields₁ ≡ storedMasks at mask (masksIn fields)
           → fields₁ ≡ storedBytes at (slotOf path mask v) fields
           → isEmpty path ≡ false → Proper path v → (text : Bytes) (from : ℕ) → PushStands text p from v
-          → LeavesDecided (pushing v (length l)) text (arrays tables logins fields) (lent b l) (Accepted told from) (arrays tables logins₁ fields₁) (lent b l₁)
+          → LeavesDecided (pushing v (length l)) text (arrays tables logins fields) (outputs b l) (Accepted told from) (arrays tables logins₁ fields₁) (outputs b l₁)
       unfolding outcomeIn stateIn effectOf concludeMasked masksAfter maskFor answerOf apply shown notifiedMasked over storedAt storedField
       push-done b l h logins₁ fields₁ mask reached state v stored masks bytes keyed proper text from stands = rw (push-ruled is (length l) h v) (record {
         is = rw (reached .listed, reached .counted, state .states, stored, keyed, held-valid v (proper .1), mask, push-place);

@@ -36,13 +36,13 @@ use Rattle.sessions.proofs.Known.{no-session, in-session, session-unknown, sess
 use Rattle.opening.specs.Memory.{Arrays, arrays, stateIn}
 use Rattle.server.specs.declared.answer.Reply.{Reply}
 use Rattle.server.specs.declared.answer.Reply.the-variants.{Refused, Session, Length, Accepted}
-use Rattle.server.specs.Replies.{outcomeIn, lent, fieldsAfter, Position, LeavesDecided}
+use Rattle.server.specs.Replies.{outcomeIn, outputs, fieldsAfter, Position, LeavesDecided}
 use Rattle.server.specs.Masked.{shownTo, decideGetMasked, decideMasked, maskFor, notifiedMasked, concludeMasked, masksAfter, effectOf}
 
 -- ── Refusals: all is as it was ──
 -- p is still the buffer b that was lent
 pub left-refused : {d : Result ℕ Change} {e : ℕ} → d ≡ refused e → (text : Bytes) (a : Arrays) (b : Bytes) (l : List ℕ) {p : Bytes} → p ≡ b
-    → LeavesDecided d text a (lent b l) (Refused e) a (lent p l)
+    → LeavesDecided d text a (outputs b l) (Refused e) a (outputs p l)
 unfolding outcomeIn effectOf concludeMasked masksAfter unchanged
 left-refused h text a b l kept = record { is = rw (h, kept); logins = rw h; fields = rw h; masks = rw h; position = tt }
 
@@ -69,7 +69,7 @@ module _ (tables : Bytes) (logins : List ℕ) (n k : Bytes) where
   pub login-left : (after : List ℕ) {answer : LoginReply} (r : LoginReply) → LoggedIn tables logins n k answer after → answer ≡ r
       → (fs b : Bytes) (l : List ℕ) (text : Bytes)
       → LeavesDecided (decideMasked (stateIn tables logins fs) (masksIn fs) (login n k) (roomFor (login n k) b l)) text
-      (arrays tables logins fs) (lent b l) (loginReply r) (arrays tables after fs) (lent b l)
+      (arrays tables logins fs) (outputs b l) (loginReply r) (arrays tables after fs) (outputs b l)
   unfolding effectOf outcomeIn stateIn concludeMasked masksAfter unchanged answerOf apply shown notifiedMasked over
   login-left after {answer} r logged is fs b l text = rw (login-decides fs (roomFor (login n k) b l)) (record {
     is = went entering refl .0;
@@ -98,13 +98,13 @@ written-over c b h = written-clipped 0 c b ∙ rw (sub-zero, take-all (length b)
 
 -- it is decided to show the text c, and p is still the buffer b that was lent
 module _ {d : Result ℕ Change} (c b : Bytes) (decides : d ≡ decideShow c (length b)) (text : Bytes) (a : Arrays) (l : List ℕ) {p : Bytes} (kept : p ≡ b) where
-  pub shown-refused : {n : ℕ} {o : Bytes} → Wrote 0 c [] n o → length p < n → LeavesDecided d text a (lent b l) (Refused 15) a (lent p l)
+  pub shown-refused : {n : ℕ} {o : Bytes} → Wrote 0 c [] n o → length p < n → LeavesDecided d text a (outputs b l) (Refused 15) a (outputs p l)
   unfolding decideShow _>>_ refuse_if_
   shown-refused (is, _) h =
       let short : length b < length c = omega (arith, ap length kept) in
       left-refused (decides ∙ rw (lt-ltb (length b) (length c) short)) text a b l kept
 
-  pub shown-done : {m : ℕ} {q : Bytes} → Wrote 0 c p m q → m ≤ length b → LeavesDecided d text a (lent b l) (Length m) a (lent q l)
+  pub shown-done : {m : ℕ} {q : Bytes} → Wrote 0 c p m q → m ≤ length b → LeavesDecided d text a (outputs b l) (Length m) a (outputs q l)
   unfolding outcomeIn effectOf concludeMasked masksAfter decideShow _>>_ refuse_if_ answerOf apply shown notifiedMasked over
   shown-done (is, stands) h =
       let fits : length c ≤ length b = omega arith in
@@ -150,7 +150,7 @@ module _ (tables : Bytes) (logins : List ℕ) (fields : Bytes) (n : ℕ) {o : Se
 
     pub logout-left : {after : List ℕ} → StateStored logins i c after → (text b : Bytes) (l : List ℕ)
         → LeavesDecided (decideMasked (stateIn tables logins fields) (masksIn fields) (inSession n logout) (roomFor (inSession n logout) b l)) text
-        (arrays tables logins fields) (lent b l) (Accepted 0 0) (arrays tables after fields) (lent b l)
+        (arrays tables logins fields) (outputs b l) (Accepted 0 0) (arrays tables after fields) (outputs b l)
     unfolding outcomeIn stateIn effectOf concludeMasked masksAfter answerOf apply shown notifiedMasked over closed
     logout-left stored text b l = rw (logout-decides (roomFor (inSession n logout) b l)) (record {
       is = rw (stored .states, shut);
@@ -176,7 +176,7 @@ module _ (tables : Bytes) (logins : List ℕ) (fields b : Bytes) where
 
   -- what is concluded from the decision is the outcome, since nobody is told
   pub save-outcome : {p : Bytes} {r : Reply} {text : Bytes}
-      → LeavesDecided (decision (stateIn tables logins fields) (save b)) text (arrays tables logins fields) (lent b []) r (arrays tables logins fields) (lent p [])
+      → LeavesDecided (decision (stateIn tables logins fields) (save b)) text (arrays tables logins fields) (outputs b []) r (arrays tables logins fields) (outputs p [])
       → outcomeIn r (stateIn tables logins fields) p [] ≡ outcome (stateIn tables logins fields) (save b)
   unfolding outcome bufferOf listOf effectOf decideShow _>>_ refuse_if_ concludeMasked conclude notifiedMasked notified
   save-outcome left = left .is ∙ rw save-shows (same (saved (shownIn All fields)))

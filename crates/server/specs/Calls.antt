@@ -26,13 +26,13 @@ use Rattle.opening.specs.declared.answer.Opening.{Opening}
 use Rattle.opening.specs.declared.answer.Opening.the-variants.{Done}
 use Rattle.server.specs.declared.answer.Reply.{Reply}
 use Rattle.server.specs.Masked.{masksAfter, effectByMasks, effectByPolicy}
-use Rattle.server.specs.Replies.{outcomeIn, Lent, act, eventOf, ServedByMasks, Saved}
+use Rattle.server.specs.Replies.{outcomeIn, Outputs, act, eventOf, ServedByMasks, Saved}
 
 -- ── Calls ──
 -- requests and saves, each on what the one before returned: what happened at each, and the arrays at the end. No request writes the tables
 pub data Calls : Arrays → List Event → Arrays → Type 0 where
   none : (a : Arrays) → Calls a [] a
-  requested : (a b c : Arrays) (text : Bytes) (given left : Lent) (r : Reply) (es : List Event)
+  requested : (a b c : Arrays) (text : Bytes) (given left : Outputs) (r : Reply) (es : List Event)
       → b .tables ≡ a .tables → ServedByMasks a text given r b left → Calls b es c
       → Calls a (eventOf (stateOf a) (act text given) (outcomeIn r (stateOf b) (left .buffer) (left .list)) ∷ es) c
   saved : (a c : Arrays) (before after : Bytes) (r : Reply) (es : List Event)

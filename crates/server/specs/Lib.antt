@@ -1,3 +1,4 @@
 pub mod Masked
+pub mod MaskedCases
 pub mod Replies
 pub mod Calls

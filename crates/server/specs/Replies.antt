@@ -46,13 +46,13 @@ toldIn (Accepted k at) = k
 unfoldable pub outcomeIn : Reply → State → Bytes → List ℕ → Outcome
 outcomeIn r s b l = record { answer = answerIn r; state = s; buffer = b; list = l; told = toldIn r }
 
--- the buffer and the list that are lent beside the arrays
-pub record Lent : Type 0 where
+-- the buffer and the list, lent beside the arrays, that a request may write
+pub record Outputs : Type 0 where
   pub buffer : Bytes
   pub list : List ℕ
 
-abbrev pub lent : Bytes → List ℕ → Lent
-lent buffer list = record { buffer = buffer; list = list }
+abbrev pub outputs : Bytes → List ℕ → Outputs
+outputs buffer list = record { buffer = buffer; list = list }
 
 -- ── What is left, once it is decided what a request changes ──
 -- the bytes of the fields: a field is stored in its place, with the mask of its path; what stores none keeps every byte
@@ -77,7 +77,7 @@ Position (Length n) d text = Unit {0}
 Position (Accepted k at) d text = StandsAt d text at
 
 -- a line has its effect: the reply with all that it left, in meaning; the login states, the fields and the masks in memory; the reply's position
-pub record Leaves (w : Effect) (text : Bytes) (before : Arrays) (r : Reply) (after : Arrays) (left : Lent) : Type 0 where
+pub record Leaves (w : Effect) (text : Bytes) (before : Arrays) (r : Reply) (after : Arrays) (left : Outputs) : Type 0 where
   pub is : outcomeIn r (stateOf after) (left .buffer) (left .list) ≡ w .outcome
   pub logins : after .logins ≡ numbersAfter (w .decided) (before .logins)
   pub fields : after .fields ≡ fieldsAfter (w .mask) (w .decided) (before .fields)
@@ -85,7 +85,7 @@ pub record Leaves (w : Effect) (text : Bytes) (before : Arrays) (r : Reply) (aft
   pub position : Position r (w .decided) text
 
 -- a line with what is lent to it
-abbrev pub act : Bytes → Lent → Act
+abbrev pub act : Bytes → Outputs → Act
 act text given = line text (given .buffer) (given .list)
 
 -- an act with its outcome, as it happened in a state
@@ -93,39 +93,39 @@ abbrev pub eventOf : State → Act → Outcome → Event
 eventOf s a o = record { before = s; act = a; request = requestOfAct a; result = o }
 
 -- a line is served by the masks, whatever the arrays hold
-abbrev pub ServedByMasks : Arrays → Bytes → Lent → Reply → Arrays → Lent → Type 0
+abbrev pub ServedByMasks : Arrays → Bytes → Outputs → Reply → Arrays → Outputs → Type 0
 ServedByMasks before text given r after left = Leaves (effectByMasks (stateOf before) (masksOf before) (act text given)) text before r after left
 
 -- where the masks agree with the policy it is served as documents 01 and 02 say, and they agree again
-abbrev pub ServedByPolicy : Arrays → Bytes → Lent → Reply → Arrays → Lent → Type 0
+abbrev pub ServedByPolicy : Arrays → Bytes → Outputs → Reply → Arrays → Outputs → Type 0
 ServedByPolicy before text given r after left = Agree before → Leaves (effectByPolicy (stateOf before) (act text given)) text before r after left × Agree after
 
 -- d was decided for a line
-abbrev pub LeavesDecided : Result ℕ Change → Bytes → Arrays → Lent → Reply → Arrays → Lent → Type 0
+abbrev pub LeavesDecided : Result ℕ Change → Bytes → Arrays → Outputs → Reply → Arrays → Outputs → Type 0
 LeavesDecided d text before given r after left = Leaves (effectOf (stateOf before) (masksOf before) (given .buffer) (given .list) d) text before r after left
 
 -- a request that was taken from a line is served by the masks
-abbrev pub Answered : Arrays → Bytes → model.Request → Lent → Reply → Arrays → Lent → Type 0
+abbrev pub Answered : Arrays → Bytes → model.Request → Outputs → Reply → Arrays → Outputs → Type 0
 Answered before text q given r after left =
     LeavesDecided (decideMasked (stateOf before) (masksOf before) q (roomFor q (given .buffer) (given .list))) text before given r after left
 
 -- LOGIN in a line, whatever the fields, the buffer and the list, which stay
 abbrev pub LoginServed : Bytes → List ℕ → Bytes → ℕ → ℕ → Reply → List ℕ → Type 0
 LoginServed tables before text from cut r after = (fields b : Bytes) (l : List ℕ)
-    → Answered (arrays tables before fields) text (requestIn text [] (Login from cut)) (lent b l) r (arrays tables after fields) (lent b l)
+    → Answered (arrays tables before fields) text (requestIn text [] (Login from cut)) (outputs b l) r (arrays tables after fields) (outputs b l)
 
 -- GET of a session, whatever the line and the list, which stays
 abbrev pub GetServed : Arrays → ℕ → Bytes → Reply → Bytes → Type 0
-GetServed a n before r after = (text : Bytes) (l : List ℕ) → Answered a text (model.inSession n model.get) (lent before l) r a (lent after l)
+GetServed a n before r after = (text : Bytes) (l : List ℕ) → Answered a text (model.inSession n model.get) (outputs before l) r a (outputs after l)
 
 -- PUSH of a value at a path in a session, whatever the buffer, which stays
 abbrev pub PushServed : Arrays → Bytes → ℕ → Keys → Value → List ℕ → Reply → Arrays → List ℕ → Type 0
-PushServed before text n p v given r after left = (b : Bytes) → Answered before text (model.inSession n (model.push p v)) (lent b given) r after (lent b left)
+PushServed before text n p v given r after left = (b : Bytes) → Answered before text (model.inSession n (model.push p v)) (outputs b given) r after (outputs b left)
 
 -- LOGOUT of a session, whatever the line, the fields, the buffer and the list, which stay
 abbrev pub LogoutServed : Bytes → List ℕ → ℕ → Reply → List ℕ → Type 0
 LogoutServed tables before n r after = (text fields b : Bytes) (l : List ℕ)
-    → Answered (arrays tables before fields) text (model.inSession n model.logout) (lent b l) r (arrays tables after fields) (lent b l)
+    → Answered (arrays tables before fields) text (model.inSession n model.logout) (outputs b l) r (arrays tables after fields) (outputs b l)
 
 -- a path in canonical bytes and a value within its limits, both standing in the line from a position on
 pub record Storable (path text : Bytes) (at : ℕ) (value : Scalar) : Type 0 where

@@ -41,7 +41,7 @@ ghost use Rattle.record.specs.Slots.{fieldsIn, masksIn};
 ghost use Rattle.record.specs.Search.{placeIn};
 ghost use Rattle.opening.specs.Memory.{arrays};
 ghost use Rattle.server.specs.Masked.{maskAt};
-ghost use Rattle.server.specs.Replies.{lent, ServedByMasks, ServedByPolicy, LoginServed, GetServed, PushServed, LogoutServed, Storable};
+ghost use Rattle.server.specs.Replies.{outputs, ServedByMasks, ServedByPolicy, LoginServed, GetServed, PushServed, LogoutServed, Storable};
 
 // LOGIN, the user in the line from a position up to the `;` at `cut`, behind which the key stands.
 fn login(
@@ -158,14 +158,14 @@ pub fn request(
 ) -> Reply
     ensures { λ r. ⌜ ServedByMasks
         (arrays (now (tables .entry)) (now (logins .entry)) (now (fields .entry)))
-        (now (line .entry)) (lent (now (buffer .entry)) (now (list .entry))) r
+        (now (line .entry)) (outputs (now (buffer .entry)) (now (list .entry))) r
         (arrays (now (tables .entry)) (now (logins .exit)) (now (fields .exit)))
-        (lent (now (buffer .exit)) (now (list .exit))) ⌝ }
+        (outputs (now (buffer .exit)) (now (list .exit))) ⌝ }
     ensures { λ r. ⌜ ServedByPolicy
         (arrays (now (tables .entry)) (now (logins .entry)) (now (fields .entry)))
-        (now (line .entry)) (lent (now (buffer .entry)) (now (list .entry))) r
+        (now (line .entry)) (outputs (now (buffer .entry)) (now (list .entry))) r
         (arrays (now (tables .entry)) (now (logins .exit)) (now (fields .exit)))
-        (lent (now (buffer .exit)) (now (list .exit))) ⌝ }
+        (outputs (now (buffer .exit)) (now (list .exit))) ⌝ }
 {
     let mut path = [0u8; PATH];
     let Parsed::Is(asked) = parse(line, &mut path) else {

@@ -13,8 +13,8 @@ use Rattle.server.proofs.request.get.Tie as tie
 
 -- where the ways meet, the buffer is as it was lent, and the copy that is then written fits
 met : (c : tie.After-slice-known4)
-    → let lent = c .before .before .before .before .before .before .before .before .before .before .before .before .before .before .before .before .before .before .args .buffer .now in
-    (c .before .before .before .before .if1 .buffer ≡ lent) × (c .before .before .put-copy2 .result ≤ length lent)
+    → let buffer = c .before .before .before .before .before .before .before .before .before .before .before .before .before .before .before .before .before .before .args .buffer .now in
+    (c .before .before .before .before .if1 .buffer ≡ buffer) × (c .before .before .put-copy2 .result ≤ length buffer)
 met c =
     let copy = c .before .before .put-copy2 .ensures in
     let head = c .before .before .before .before .before .before .before .put-head .ensures .0 in

@@ -12,8 +12,8 @@ use Rattle.server.proofs.save.save.Tie as tie
 
 -- where the ways meet, the buffer is as it was lent, and the text that is then written fits
 met : (c : tie.After-slice-known3)
-    → let lent = c .before .before .before .before .before .before .args .buffer .now in
-    (c .before .before .before .before .if1 .buffer ≡ lent) × (c .before .before .put-saved2 .result ≤ length lent)
+    → let buffer = c .before .before .before .before .before .before .args .buffer .now in
+    (c .before .before .before .before .if1 .buffer ≡ buffer) × (c .before .before .put-saved2 .result ≤ length buffer)
 met c =
     let text = c .before .before .put-saved2 .ensures in
     ⊎-elim
