@@ -8,7 +8,8 @@ pub type Texts = [Vec<u8>; 4];
 pub type Line = Vec<u8>;
 
 const USERS: usize = 32;
-const ROLES: [&str; 4] = ["driver", "repairer", "owner", "keeper"];
+const KEEPER: &str = "keeper";
+const ROLES: [&str; 4] = ["driver", "repairer", "owner", KEEPER];
 
 /// Engines of a full hall, each of so many fields, and a user's own ones.
 const ENGINES: usize = 32;
@@ -104,18 +105,39 @@ impl Hall {
 
     /// A hall of 32 users with so many policy lines and fields.
     pub fn sized(policy_lines: usize, fields: usize, allowance: usize) -> Hall {
+        Hall::ruled((0..policy_lines).map(policy_line), fields, allowance)
+    }
+
+    /// 32 users, so many policy lines and 256 fields. The last four lines give
+    /// each role its own settings; all lines before them are for the keepers, who
+    /// are logged in and ask nothing. So however many lines there are, those who
+    /// ask get the same copies, and their pushes reach the same users, of whom no
+    /// keeper is one. The keepers' lines stand in front, so that nobody who looks
+    /// for a right from there is spared them.
+    pub fn with_keepers(policy_lines: usize) -> Hall {
+        let keepers = (ROLES.len()..policy_lines).map(keepers_line);
+        let asking = || (0..USERS).filter(|user| role(*user) != KEEPER);
+        Hall {
+            gets: asking().map(get).collect(),
+            held_pushes: asking().flat_map(|user| held_pushes(user, ENGINES)).collect(),
+            ..Hall::ruled(keepers.chain((0..ROLES.len()).map(policy_line)), 256, 0)
+        }
+    }
+
+    /// A hall of 32 users with this policy and so many fields.
+    fn ruled(policy: impl Iterator<Item = String>, fields: usize, allowance: usize) -> Hall {
         let engines = fields / ENGINE_FIELDS;
         let record = joined((0..engines).map(engine), ",");
         Hall {
             texts: [
                 table("user;role;key;allowance", (0..USERS).map(|user| user_line(user, allowance))),
                 table("user;name;value", (0..USERS).flat_map(environment_lines)),
-                table("role;access;path", (0..policy_lines).map(policy_line)),
+                table("role;access;path", policy),
                 format!("{{{record}}}").into(),
             ],
             logins: (0..USERS).map(|user| format!("LOGIN;user{user};key{user}").into()).collect(),
             logouts: (0..USERS).map(|user| format!("LOGOUT;{}", session(user)).into()).collect(),
-            gets: (0..USERS).map(|user| format!("GET;{}", session(user)).into()).collect(),
+            gets: (0..USERS).map(get).collect(),
             held_pushes: (0..USERS).flat_map(|user| held_pushes(user, engines)).collect(),
             new_pushes: (0..USERS).flat_map(new_pushes).collect(),
             forbidden: (0..USERS).map(|user| push(user, engine_name(0), "name", "\"x\"")).collect(),
@@ -238,8 +260,13 @@ pub fn session(user: usize) -> usize {
     user * RANGE + 1
 }
 
+/// Next to each other, users have different roles.
+fn role(user: usize) -> &'static str {
+    ROLES[user % ROLES.len()]
+}
+
 fn user_line(user: usize, allowance: usize) -> String {
-    format!("user{user};{};key{user};{allowance}", ROLES[user % ROLES.len()])
+    format!("user{user};{};key{user};{allowance}", role(user))
 }
 
 fn engine_name(engine: usize) -> String {
@@ -275,6 +302,24 @@ fn policy_line(place: usize) -> String {
         _ if turn == 15 => "*;READ;$.*.name".into(),
         _ => format!("{role};WRITE;$[=~mine].note"),
     }
+}
+
+/// The same kinds for the keepers, of fields that nobody pushes: neither the
+/// first setting nor the second.
+fn keepers_line(place: usize) -> String {
+    let turn = place % (ENGINES / 2);
+    let [one, other] = [engine_name(turn), engine_name(turn + ENGINES / 2)];
+    let right = match place % 4 {
+        0 => "WRITE;$[in~mine].cv['3','4']".into(),
+        1 => format!("READ;$['{one}','{other}'].name"),
+        2 => format!("READ;$['{one}','{other}'].cv['5','6']"),
+        _ => "WRITE;$[=~mine].note".into(),
+    };
+    format!("{KEEPER};{right}")
+}
+
+fn get(user: usize) -> Line {
+    format!("GET;{}", session(user)).into()
 }
 
 fn push(user: usize, engine: String, below: &str, value: &str) -> Line {

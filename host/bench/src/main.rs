@@ -13,12 +13,12 @@ mod timing;
 use std::process::ExitCode;
 use std::{env, fs};
 
-use growth::Cost;
+use growth::{Cost, Growth};
 use halls::Hall;
 use program::Programs;
 use timing::{measure, measure_long, Contest, Rates};
 
-const USAGE: &str = "usage: bench [--svg FILE] [--serve FILE] [--long-day]";
+const USAGE: &str = "usage: bench [--svg FILE] [--serve FILE] [--long-day] [--growth]";
 
 #[derive(Default)]
 struct Options {
@@ -28,6 +28,8 @@ struct Options {
     serve: Option<String>,
     /// Whether the long day is all that is measured.
     only_long_day: bool,
+    /// Whether the growths are all that is measured.
+    only_growths: bool,
 }
 
 impl Options {
@@ -38,6 +40,7 @@ impl Options {
                 "--svg" => options.svg = Some(words.next()?),
                 "--serve" => options.serve = Some(words.next()?),
                 "--long-day" => options.only_long_day = true,
+                "--growth" => options.only_growths = true,
                 _ => return None,
             }
         }
@@ -54,22 +57,25 @@ fn main() -> ExitCode {
         print_long_day(options.serve.as_deref());
         return ExitCode::SUCCESS;
     }
-    let example = Hall::example();
-    print_rows("The example: 3 users, 4 policy lines, 6 fields", &example, &example);
-    let title = "A full hall: 32 users, 64 policy lines, 256 fields";
-    print_rows(title, &Hall::full(), &Hall::with_room());
-    print_long_day(options.serve.as_deref());
-    let by_fields = growth::by_fields();
-    print_costs("Microseconds by fields, at 64 policy lines", "fields", &by_fields);
-    let by_policy = growth::by_policy();
-    print_costs("Microseconds by policy lines, at 256 fields", "policy lines", &by_policy);
-    match options.svg.map(|file| fs::write(file, svg::plot(&by_fields, &by_policy))) {
+    if !options.only_growths {
+        print_halls();
+        print_long_day(options.serve.as_deref());
+    }
+    let growths = print_growths();
+    match options.svg.map(|file| fs::write(file, svg::plot(&growths))) {
         Some(Err(error)) => {
             eprintln!("bench: {error}");
             ExitCode::FAILURE
         }
         _ => ExitCode::SUCCESS,
     }
+}
+
+fn print_halls() {
+    let example = Hall::example();
+    print_rows("The example: 3 users, 4 policy lines, 6 fields", &example, &example);
+    let title = "A full hall: 32 users, 64 policy lines, 256 fields";
+    print_rows(title, &Hall::full(), &Hall::with_room());
 }
 
 /// Prints a hall's rows; new fields are pushed in a hall that has room.
@@ -128,12 +134,22 @@ fn print_row(name: &str, rates: &Rates) {
     println!("| {name} | {:.0} | {:.0} | {:.2} |", rates.proved, rates.second, rates.ratio);
 }
 
-fn print_costs(title: &str, size: &str, costs: &[Cost]) {
-    println!("## {title}\n");
-    println!("| {size} | GET proved | GET second | PUSH proved | PUSH second |");
-    println!("|---:|---:|---:|---:|---:|");
-    for Cost { size, get, push } in costs {
-        println!("| {size} | {:.2} | {:.2} | {:.2} | {:.2} |", get[0], get[1], push[0], push[1]);
+/// Measures and prints one growth after the other.
+fn print_growths() -> [Growth; 3] {
+    [growth::by_fields, growth::by_policy, growth::by_others_policy].map(|measured| {
+        let growth = measured();
+        print_growth(&growth);
+        growth
+    })
+}
+
+fn print_growth(Growth { size, at, costs }: &Growth) {
+    println!("## Microseconds by {size}, {at}\n");
+    println!("| {size} | bytes of a copy | GET proved | GET second | PUSH proved | PUSH second |");
+    println!("|---:|---:|---:|---:|---:|---:|");
+    for Cost { size, copy, get, push } in costs {
+        let [get, push] = [get, push].map(|[proved, second]| format!("{proved:.2} | {second:.2}"));
+        println!("| {size} | {copy} | {get} | {push} |");
     }
     println!();
 }

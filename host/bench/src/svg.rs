@@ -3,11 +3,12 @@
 
 use std::fmt::Write;
 
-use crate::growth::Cost;
+use crate::growth::{Cost, Growth};
 
 const WIDTH: f64 = 900.0;
 const ROW: f64 = 370.0;
-const HEIGHT: f64 = 70.0 + 2.0 * ROW;
+const ROWS: usize = 3;
+const HEIGHT: f64 = 70.0 + ROWS as f64 * ROW;
 const COLOURS: [&str; 2] = ["#1f5fa8", "#c4501b"];
 const NAMES: [&str; 2] = ["proved", "second"];
 
@@ -85,23 +86,25 @@ impl<'a> Panel<'a> {
     }
 }
 
-/// The plot of how costs grow with the fields and with the policy lines.
-pub fn plot(by_fields: &[Cost], by_policy: &[Cost]) -> String {
+/// The plot of how costs grow, a row for each growth.
+pub fn plot(growths: &[Growth; ROWS]) -> String {
     let mut out = format!(
         "<svg xmlns=\"http://www.w3.org/2000/svg\" viewBox=\"0 0 {WIDTH} {HEIGHT}\" \
          font-family=\"sans-serif\" font-size=\"13\">\n\
          <rect width=\"{WIDTH}\" height=\"{HEIGHT}\" fill=\"white\"/>\n"
     );
     out += &text(WIDTH / 2.0, 26.0, "middle", "Microseconds a request: 32 users logged in");
-    out += &row(80.0, "fields, at 64 policy lines", by_fields);
-    out += &row(80.0 + ROW, "policy lines, at 256 fields", by_policy);
+    for (place, growth) in growths.iter().enumerate() {
+        out += &row(80.0 + ROW * place as f64, growth);
+    }
     out += &legend();
     out + "</svg>\n"
 }
 
-fn row(top: f64, size: &str, costs: &[Cost]) -> String {
-    let get = Panel::new((70.0, top), size, costs, |cost| cost.get);
-    let push = Panel::new((520.0, top), size, costs, |cost| cost.push);
+fn row(top: f64, Growth { size, at, costs }: &Growth) -> String {
+    let size = format!("{size}, {at}");
+    let get = Panel::new((70.0, top), &size, costs, |cost| cost.get);
+    let push = Panel::new((520.0, top), &size, costs, |cost| cost.push);
     get.draw("GET", costs, |cost| cost.get)
         + &push.draw("PUSH to a held field", costs, |cost| cost.push)
 }

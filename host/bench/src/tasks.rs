@@ -31,10 +31,16 @@ impl Desk {
         }
     }
 
+    /// The number that a line is answered with, which is not to be refused.
+    fn accepted<S: Subject>(&mut self, server: &mut S, line: &Line) -> usize {
+        let answer = server.ask(line, &mut self.buffer, &mut self.list);
+        assert!(answer >= 0, "{} is refused {}", line.escape_ascii(), -answer);
+        answer as usize
+    }
+
     fn ask_accepted<S: Subject>(&mut self, server: &mut S, lines: &[Line]) {
         for line in lines {
-            let answer = server.ask(line, &mut self.buffer, &mut self.list);
-            assert!(answer >= 0, "{} is refused {}", line.escape_ascii(), -answer);
+            self.accepted(server, line);
         }
     }
 }
@@ -173,4 +179,24 @@ pub fn check(hall: &Hall) {
         assert_eq!(answer, other, "{}", line.escape_ascii());
         assert!(ours.buffer == theirs.buffer && ours.list == theirs.list);
     }
+}
+
+/// The copies that are asked for in the hall.
+pub fn copies(hall: &Hall) -> Vec<Vec<u8>> {
+    let (mut server, mut desk) = (attended::<jesovanga::Server>(hall), Desk::new());
+    let copy = |line| {
+        let length = desk.accepted(&mut server, line);
+        desk.buffer[..length].to_vec()
+    };
+    hall.gets.iter().map(copy).collect()
+}
+
+/// The sessions that each push to a held field reaches.
+pub fn reached(hall: &Hall) -> Vec<Vec<u32>> {
+    let (mut server, mut desk) = (attended::<jesovanga::Server>(hall), Desk::new());
+    let sessions = |line| {
+        let count = desk.accepted(&mut server, line);
+        desk.list[..count].to_vec()
+    };
+    hall.held_pushes.iter().map(sessions).collect()
 }
