@@ -15,7 +15,7 @@ use Rattle.model.specs.Base.{Bytes, if_then_else_, firstFrom, _==_}
 use Rattle.model.specs.Limits.{maxUsers}
 use Rattle.model.specs.Tables.{User, userAt}
 use Rattle.tables.specs.Memory.{userRow, usersBytes, quotaAt, userIn, usersIn}
-use Rattle.layout.proofs.Used.{used-fit, used-last, used-more, byte-empty, byte-full, row-left, rows-over}
+use Rattle.layout.proofs.Used.{length-table, used-fit, used-last, used-more, byte-empty, byte-full, row-left, rows-over}
 
 -- the element at an index is the first of what is left there
 elem-left : {A : Type 0} (xs : List A) (i : ℕ) → getElem? xs i ≡ getElem? (drop i xs) 0
@@ -50,6 +50,11 @@ module _ (s : Bytes) {m : ℕ} (counted : m ≡ length (inUse userRow maxUsers s
     pub user-some : {row : Bytes} → row ≡ take userRow (drop (i * userRow) s) → userAt (usersIn s) i ≡ some (userIn row)
     unfolding userAt
     user-some is = rw (elem-left (usersIn s) i, user-left is)
+
+-- a user is at each index below their number
+pub user-below : (s : Bytes) (k : ℕ) → k < length (usersIn s) → k < length (inUse userRow maxUsers s)
+unfolding usersIn
+user-below s k h = rw length-table at h
 
 -- ── The search for the name n, from the user i on ──
 abbrev pub namedFrom : Bytes → Bytes → ℕ → Option (ℕ × User)

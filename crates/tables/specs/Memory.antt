@@ -4,8 +4,8 @@ use mathlib.Core.Path.{_≡_}
 use mathlib.Core.Option.{Option, none, some}
 use mathlib.Core.List.{List, [], _∷_, _++_}
 use lib.Dec.{eqb}
-use lib.ListN.{getD, take, drop}
-use Rattle.layout.specs.Layout.{table, nameRow, nameIn, encodeName, encodeTable, Canonical, CanonicalName, CanonicalTable}
+use lib.ListN.{length, getD, take, drop}
+use Rattle.layout.specs.Layout.{inUse, table, nameRow, nameIn, encodeName, encodeTable, Canonical, CanonicalName, CanonicalTable}
 use Rattle.model.specs.Base.{Bytes, if_then_else_}
 use Rattle.model.specs.Limits.{maxUsers, maxRules}
 use Rattle.model.specs.Tables.{User, Access, READ, WRITE, Rule, Tables}
@@ -65,6 +65,10 @@ userIn row = record {
 -- rows up to the first whose name is empty
 unfoldable pub usersIn : Bytes → List User
 usersIn s = table userIn userRow maxUsers s
+
+-- how many users there are
+abbrev pub userCount : Bytes → ℕ
+userCount s = length (inUse userRow maxUsers s)
 
 abbrev pub accessIn : ℕ → Access
 accessIn b = if eqb b 1 then WRITE else READ

@@ -1,4 +1,6 @@
 // Who may read and who may write a path.
+use crate::candidates::NOT_FOUND;
+use crate::candidates::candidates;
 use crate::memory::RULE;
 use crate::memory::RULES;
 use crate::memory::STEPS_AT;
@@ -9,47 +11,32 @@ use crate::memory::bindings;
 use crate::memory::is_for;
 use crate::memory::is_write;
 use crate::memory::policy_of;
-use layout::counted;
-use layout::counted::count;
 use layout::table::is_empty;
 use layout::table::row_at;
 use layout::table::row_count;
 use lexical::limits::MAX_DEPTH;
-use lexical::limits::MAX_USERS;
-use masks::both;
 use masks::first_bit;
-use masks::first_places;
 use masks::has_bit;
 use masks::with_bit;
 use masks::without_bit;
-use matching::path::asks;
 use matching::path::asks_lines;
-use matching::path::has_value;
 use matching::path::lines_match;
 use matching::path::matches;
 use matching::path::may_match;
-use paths::key::key_at;
-use steps::policy::STEP;
 ghost use mathlib.Core.Path.{_≡_};
 ghost use mathlib.Core.Bool.{true, _&&_, _||_};
 ghost use Prim.Native.Nat.{ℕ, _≤_, _<_};
 ghost use lib.Dec.{eqb};
-ghost use lib.ListN.{length, getD};
-ghost use mathlib.Core.List.{[]};
+ghost use lib.ListN.{length};
 ghost use Rattle.model.specs.Limits.{maxUsers};
 ghost use Rattle.model.specs.Tables.{userAt};
 ghost use Rattle.model.specs.Rights.{mayWrite};
 ghost use Rattle.masks.specs.Bits.{bitAt};
 ghost use Rattle.masks.specs.Readers.{readersOf};
 ghost use Rattle.paths.specs.Layout.{pathSlot, pathIn};
-ghost use Rattle.layout.specs.Layout.{inUse};
 ghost use Rattle.matching.specs.Parts.{mayMatch};
 ghost use Rattle.tables.specs.Memory.{userRow, ruleRow, policyBytes, userIn, usersIn, ruleIn, policyIn, tablesIn};
-ghost use Rattle.tables.specs.Grants.{givesRead, givesWrite, readsByLine, holdsValue, Found, Covers};
-ghost use Rattle.steps.specs.Steps.{stepsSlot, stepsIn};
-
-// What is no mask: who holds a key was not asked yet.
-const NOT_FOUND: u64 = 1 << MAX_USERS;
+ghost use Rattle.tables.specs.Grants.{givesRead, givesWrite, readsByLine, Covers};
 
 // Whether a line gives a user the right to write a path.
 fn gives_write(rule: &[u8], user: &[u8], path: &[u8]) -> bool
@@ -130,91 +117,6 @@ fn with_readers(mask: u32, able: u32, tables: &[u8; TABLES], rule: &[u8], path: 
         rest = without_bit(rest, j);
     }
     marked
-}
-
-// Who of the n users has an environment line with this value.
-fn holders(tables: &[u8; TABLES], n: usize, key: &[u8]) -> u32
-    requires { ⌜ n ≡ length (inUse userRow maxUsers (now tables)) ⌝ }
-    ensures { λ r. ⌜ ((k : ℕ) → bitAt r k ≡ holdsValue (now (key .entry)) (userAt (usersIn (now (tables .entry))) k)) ⌝ }
-{
-    let mut held: u32 = 0;
-    let mut j: usize = 0;
-    while j < n {
-        if has_value(bindings(row_at(tables, USER, j)), key) {
-            held = with_bit(held, j);
-        }
-        j += 1;
-    }
-    held
-}
-
-// Who holds the i-th key of a path as a value: found out when it is first asked.
-fn holders_at(
-    found: &mut [u64; MAX_DEPTH],
-    tables: &[u8; TABLES],
-    n: usize,
-    path: &[u8],
-    i: usize,
-) -> u32
-    requires { ⌜ (pathSlot ≤ length (now path)) × (i < length (pathIn (now path))) × (n ≡ length (inUse userRow maxUsers (now tables))) ⌝ }
-    requires { ⌜ Found (usersIn (now tables)) (pathIn (now path)) (now found) ⌝ }
-    ensures { λ r. ⌜ ((k : ℕ) → bitAt r k ≡ holdsValue (getD (pathIn (now (path .entry))) i []) (userAt (usersIn (now (tables .entry))) k)) ⌝ }
-    ensures { λ _. ⌜ Found (usersIn (now (tables .entry))) (pathIn (now (path .entry))) (now (found .exit)) ⌝ }
-{
-    let held = found[i];
-    if held < NOT_FOUND {
-        return held as u32;
-    }
-    let mask = holders(tables, n, key_at(path, i));
-    found[i] = mask as u64;
-    mask
-}
-
-// Those of a mask whom the i-th step of a policy path may admit: an environment step admits nobody who does not hold the key.
-fn admitted(
-    mask: u32,
-    found: &mut [u64; MAX_DEPTH],
-    tables: &[u8; TABLES],
-    n: usize,
-    steps: &[u8],
-    path: &[u8],
-    i: usize,
-) -> u32
-    requires { ⌜ (stepsSlot ≤ length (now steps)) × (pathSlot ≤ length (now path)) × (n ≡ length (inUse userRow maxUsers (now tables))) ⌝ }
-    requires { ⌜ (mayMatch (stepsIn (now steps)) (pathIn (now path)) ≡ true) × (i < length (stepsIn (now steps))) ⌝ }
-    requires { ⌜ Found (usersIn (now tables)) (pathIn (now path)) (now found) ⌝ }
-    requires { ⌜ Covers (usersIn (now tables)) (stepsIn (now steps)) (pathIn (now path)) mask ⌝ }
-    ensures { λ r. ⌜ Covers (usersIn (now (tables .entry))) (stepsIn (now (steps .entry))) (pathIn (now (path .entry))) r ⌝ }
-    ensures { λ _. ⌜ Found (usersIn (now (tables .entry))) (pathIn (now (path .entry))) (now (found .exit)) ⌝ }
-{
-    if !asks(counted::row_at(steps, STEP, i)) {
-        return mask;
-    }
-    both(mask, holders_at(found, tables, n, path, i))
-}
-
-// Those of the n users whom each step of a policy path that may match may admit.
-fn candidates(
-    found: &mut [u64; MAX_DEPTH],
-    tables: &[u8; TABLES],
-    n: usize,
-    steps: &[u8],
-    path: &[u8],
-) -> u32
-    requires { ⌜ (stepsSlot ≤ length (now steps)) × (pathSlot ≤ length (now path)) × (n ≡ length (inUse userRow maxUsers (now tables))) ⌝ }
-    requires { ⌜ mayMatch (stepsIn (now steps)) (pathIn (now path)) ≡ true ⌝ }
-    requires { ⌜ Found (usersIn (now tables)) (pathIn (now path)) (now found) ⌝ }
-    ensures { λ r. ⌜ Covers (usersIn (now (tables .entry))) (stepsIn (now (steps .entry))) (pathIn (now (path .entry))) r ⌝ }
-    ensures { λ _. ⌜ Found (usersIn (now (tables .entry))) (pathIn (now (path .entry))) (now (found .exit)) ⌝ }
-{
-    let m = count(steps, MAX_DEPTH);
-    let mut mask = first_places(n);
-    let mut i: usize = 0;
-    while i < m {
-        mask = admitted(mask, found, tables, n, steps, path, i);
-        i += 1;
-    }
-    mask
 }
 
 // Who may read a path: a mask, whose bit at a user's place is set where that user may. Lines that match for nobody are passed over once, not for each user; who holds a key is found out once, not for each line.

@@ -9,7 +9,8 @@ use Rattle.paths.specs.Layout.{pathIn}
 use Rattle.tables.specs.Memory.{pathAt, usersIn, ruleIn}
 use Rattle.tables.specs.Grants.{Found}
 use Rattle.tables.proofs.Policy.{rule-inside}
-use Rattle.tables.proofs.Given.{ReadersLeft, readers-start, readers-end, readers-same, readers-more, found-none}
+use Rattle.tables.proofs.Held.{found-none}
+use Rattle.tables.proofs.Given.{ReadersLeft, readers-start, readers-end, readers-same, readers-more}
 use Rattle.tables.proofs.rights.readers.Statement.{statement}
 use Rattle.tables.proofs.rights.readers.Tie as tie
 

@@ -10,8 +10,8 @@ use Rattle.masks.specs.Bits.{bitAt}
 use Rattle.masks.proofs.Bits.{asked-end}
 use Rattle.paths.specs.Layout.{pathIn}
 use Rattle.tables.specs.Memory.{usersIn, ruleIn}
-use Rattle.tables.proofs.Users.{user-inside}
-use Rattle.tables.proofs.Given.{user-below, ReadersBut, readers-able, readers-next}
+use Rattle.tables.proofs.Users.{user-inside, user-below}
+use Rattle.tables.proofs.Given.{ReadersBut, readers-able, readers-next}
 use Rattle.tables.proofs.rights.with_readers.Statement.{statement}
 use Rattle.tables.proofs.rights.with_readers.Tie as tie
 

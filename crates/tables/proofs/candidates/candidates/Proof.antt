@@ -8,9 +8,9 @@ use Rattle.paths.specs.Layout.{pathIn}
 use Rattle.steps.specs.Steps.{stepsIn}
 use Rattle.tables.specs.Memory.{userRow, usersIn}
 use Rattle.tables.specs.Grants.{Found, Covers}
-use Rattle.tables.proofs.Given.{covers-all, step-inside}
-use Rattle.tables.proofs.rights.candidates.Statement.{statement}
-use Rattle.tables.proofs.rights.candidates.Tie as tie
+use Rattle.tables.proofs.Held.{covers-all, step-inside}
+use Rattle.tables.proofs.candidates.candidates.Statement.{statement}
+use Rattle.tables.proofs.candidates.candidates.Tie as tie
 
 abbrev Inv-loop : tie.InvT-loop
 Inv-loop found₀ tables n steps path m mask₀ i₀ found mask i =

@@ -3,9 +3,9 @@ use mathlib.Core.Path.{_≡_, sym, _∙_}
 use native.Mathlib.Omega.{arith}
 use borrow.Author.Tests.{not-false}
 use borrow.Author.Needs.{needs}
-use Rattle.tables.proofs.Given.{step-row, key-beside, covers-held}
-use Rattle.tables.proofs.rights.admitted.Statement.{statement}
-use Rattle.tables.proofs.rights.admitted.Tie as tie
+use Rattle.tables.proofs.Held.{step-row, key-beside, covers-held}
+use Rattle.tables.proofs.candidates.admitted.Statement.{statement}
+use Rattle.tables.proofs.candidates.admitted.Tie as tie
 
 row-at-requires : tie.Need-row-at-requires
 row-at-requires c κs =

@@ -2,13 +2,13 @@
 use mathlib.Core.Path.{_≡_, sym, _∙_}
 use native.Mathlib.Omega.{arith}
 use borrow.Author.Needs.{needs}
-use Rattle.tables.proofs.Given.{key-row, key-is, found-more}
-use Rattle.tables.proofs.rights.holders_at.Statement.{statement}
-use Rattle.tables.proofs.rights.holders_at.Tie as tie
-use Rattle.tables.proofs.rights.holders_at.Reads as reads
-use Rattle.tables.proofs.rights.holders_at.Lts as lts
+use Rattle.tables.proofs.Held.{key-row, key-is, found-more}
+use Rattle.tables.proofs.candidates.holders_at.Statement.{statement}
+use Rattle.tables.proofs.candidates.holders_at.Tie as tie
+use Rattle.tables.proofs.candidates.holders_at.Reads as reads
+use Rattle.tables.proofs.candidates.holders_at.Lts as lts
 use Rattle.paths.proofs.key.key_at.Reads as key-at-reads
-use Rattle.tables.proofs.rights.holders.Reads as holders-reads
+use Rattle.tables.proofs.candidates.holders.Reads as holders-reads
 
 mul-held : tie.Need-mul-held
 mul-held c = omega (arith, key-row _ _ (c .before .pre .0 .1))

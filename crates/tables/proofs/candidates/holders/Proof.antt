@@ -8,9 +8,9 @@ use Rattle.masks.proofs.Bits.{below-start}
 use Rattle.layout.proofs.Used.{counted-fit}
 use Rattle.tables.specs.Memory.{userRow}
 use Rattle.tables.proofs.Users.{user-inside}
-use Rattle.tables.proofs.Given.{HoldersBelow, holder-set, holder-skip, holders-end}
-use Rattle.tables.proofs.rights.holders.Statement.{statement}
-use Rattle.tables.proofs.rights.holders.Tie as tie
+use Rattle.tables.proofs.Held.{HoldersBelow, holder-set, holder-skip, holders-end}
+use Rattle.tables.proofs.candidates.holders.Statement.{statement}
+use Rattle.tables.proofs.candidates.holders.Tie as tie
 
 abbrev Inv-loop : tie.InvT-loop
 Inv-loop tables n key held₀ j₀ held j = (j ≤ n) × HoldersBelow tables key j held
