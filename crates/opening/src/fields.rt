@@ -2,14 +2,18 @@
 use crate::answer::Opening;
 use layout::table::row_at;
 use layout::table::row_count;
+use lexical::limits::MAX_DEPTH;
 use loader::read_record;
 use matching::conflict::steps_of;
+use paths::field::shared_keys;
 use reader::grammar::RecordRead;
 use record::slot::set_mask;
 use record::table::RECORD;
 use record::table::SLOTS;
 use record::table::count;
 use record::table::slot_at;
+use tables::candidates::NOT_FOUND;
+use tables::candidates::keep_first;
 use tables::conflicts::has_conflict;
 use tables::memory::RULES;
 use tables::memory::TABLES;
@@ -17,9 +21,9 @@ use tables::memory::USER;
 use tables::memory::USERS;
 use tables::memory::policy_of;
 use tables::memory::quota;
-use tables::rights::readers;
+use tables::rights::readers_by;
 ghost use mathlib.Core.Path.{_≡_};
-ghost use Prim.Native.Nat.{_≤_};
+ghost use Prim.Native.Nat.{_-_, _≤_, _<_};
 ghost use lib.ListN.{length, replicate};
 ghost use Rattle.model.specs.Base.{any};
 ghost use Rattle.model.specs.Limits.{maxText};
@@ -27,9 +31,10 @@ ghost use Rattle.model.specs.Paths.{asSteps};
 ghost use Rattle.model.specs.Rights.{conflictsWith};
 ghost use Rattle.model.specs.Opening.{quotas, openRecord};
 ghost use Rattle.layout.specs.Layout.{Keeps};
-ghost use Rattle.masks.specs.Readers.{Agreed};
-ghost use Rattle.record.specs.Slots.{recordBytes, fieldsIn, masksIn, CanonicalFields};
+ghost use Rattle.masks.specs.Readers.{readersOf, Agreed};
+ghost use Rattle.record.specs.Slots.{recordBytes, fieldsIn, masksIn, fieldAt, CanonicalFields};
 ghost use Rattle.tables.specs.Memory.{usersBytes, policyBytes, usersIn, policyIn, tablesIn};
+ghost use Rattle.tables.specs.Grants.{Found};
 ghost use Rattle.opening.specs.Answers.{openingResult};
 
 // All quotas together.
@@ -88,6 +93,33 @@ pub fn open_record(tables: &[u8; TABLES], table: &mut [u8; RECORD], s: &[u8]) ->
     Opening::Done
 }
 
+// The place before, or the first.
+fn previous(i: usize) -> usize
+    ensures { λ r. ⌜ r ≡ i - 1 ⌝ }
+{
+    if i == 0 {
+        return 0;
+    }
+    i - 1
+}
+
+// The mask of the i-th field: what was found out of the one before serves as far as their paths share keys.
+fn mask_at(
+    found: &mut [u64; MAX_DEPTH],
+    tables: &[u8; TABLES],
+    table: &[u8; RECORD],
+    i: usize,
+) -> u32
+    requires { ⌜ i < length (fieldsIn (now table)) ⌝ }
+    requires { ⌜ Found (usersIn (now tables)) (fieldAt (i - 1) (fieldsIn (now table)) .path) (now found) ⌝ }
+    ensures { λ r. ⌜ r ≡ readersOf (tablesIn (now (tables .entry))) (fieldAt i (fieldsIn (now (table .entry))) .path) ⌝ }
+    ensures { λ _. ⌜ Found (usersIn (now (tables .entry))) (fieldAt i (fieldsIn (now (table .entry))) .path) (now (found .exit)) ⌝ }
+{
+    let slot = slot_at(table, i);
+    keep_first(found, shared_keys(slot_at(table, previous(i)), slot));
+    readers_by(found, tables, slot)
+}
+
 // Beside each field the mask of those who may read it.
 pub fn set_masks(tables: &[u8; TABLES], table: &mut [u8; RECORD])
     ensures { λ _. ⌜ fieldsIn (now (table .exit)) ≡ fieldsIn (now (table .entry)) ⌝ }
@@ -95,9 +127,10 @@ pub fn set_masks(tables: &[u8; TABLES], table: &mut [u8; RECORD])
     ensures { λ _. ⌜ Keeps CanonicalFields (now (table .entry)) (now (table .exit)) ⌝ }
 {
     let n = count(table);
+    let mut found = [NOT_FOUND; MAX_DEPTH];
     let mut i: usize = 0;
     while i < n {
-        let mask = readers(tables, slot_at(table, i));
+        let mask = mask_at(&mut found, tables, table, i);
         set_mask(table, i, mask);
         i += 1;
     }

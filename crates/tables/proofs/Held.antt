@@ -1,27 +1,28 @@
 -- Who holds the keys of a path as environment values, and masks that leave out nobody for whom a policy path matches.
-use Prim.Native.Nat.{ℕ, _+_, _*_, _^_, _≤_, _<_, min}
+use Prim.Native.Nat.{ℕ, zero, suc, _+_, _*_, _^_, _≤_, _<_, min}
 use mathlib.Core.Path.{_≡_, refl, sym, _∙_}
 use mathlib.Core.Bool.{Bool, true, false, _&&_, _||_}
 use mathlib.Core.Option.{some}
-use mathlib.Core.List.{List, []}
+use mathlib.Core.List.{List, [], _∷_}
 use native.Mathlib.Omega.{arith}
 use borrow.Author.Tests.{eqb-true, eqb-false, ltb-true, ltb-false}
 use lib.Dec.{eqb, ltb}
 use lib.ListN.{length, getD, take, drop, set, replicate, getD-replicate, length-replicate, length-set}
 use lib.Seq.{getD-set-same, getD-set-other}
-use Rattle.model.specs.Base.{Bytes}
+use Rattle.model.specs.Base.{Bytes, if_then_else_, _==_}
 use Rattle.model.specs.Limits.{maxDepth, maxUsers}
 use Rattle.model.specs.Fields.{Keys}
 use Rattle.model.specs.Paths.{Steps}
 use Rattle.model.specs.Tables.{User, userAt}
 use Rattle.model.specs.Rights.{matches}
-use Rattle.model.proofs.Lists.{by-cases, and-both}
+use Rattle.model.proofs.Lists.{by-cases, and-both, bytes-eq}
 use Rattle.masks.specs.Bits.{bitAt}
 use Rattle.masks.proofs.Bits.{bit-none, SetBelow, below-set, below-skip, below-end}
 use Rattle.layout.specs.Layout.{keyRow, nameIn}
 use Rattle.layout.proofs.Counts.{length-counted, counted-at}
 use Rattle.layout.proofs.Used.{length-table}
 use Rattle.paths.specs.Layout.{pathIn}
+use Rattle.paths.specs.Fields.{shared}
 use Rattle.steps.specs.Steps.{stepRow, stepIn, stepsIn}
 use Rattle.matching.specs.Parts.{mayAdmit, asks, hasValue, mayMatch}
 use Rattle.matching.proofs.Matched.{paired-counts, matches-unheld}
@@ -78,6 +79,43 @@ module _ (us : List User) (p : Keys) where
         (λ q. let is : j ≡ i = eqb-true j i q in rw (is, getD-set-same found i mask 0 (omega (arith, left .long))) (e k))
         (λ q. let other = getD-set-other found i j mask 0 (eqb-false j i q) in rw other (left .holders j below (rw other at small) k));
   }
+
+-- ── What was found out of one path, kept for another as far as the two share keys ──
+shared-key : (p q : Keys) (j : ℕ) → j < shared p q → getD p j [] ≡ getD q j []
+unfolding shared
+shared-key [] q j h = absurd (omega arith)
+shared-key (k ∷ p) [] j h = absurd (omega arith)
+shared-key (k ∷ p) (l ∷ q) zero h = by-cases (k == l) (λ e. bytes-eq k l e) (λ e. absurd (omega (arith, rw e at h)))
+shared-key (k ∷ p) (l ∷ q) (suc j) h = by-cases (k == l) (λ e. shared-key p q j (omega (arith, rw e at h))) (λ e. absurd (omega (arith, rw e at h)))
+
+-- the first n are as they were, and those from there to i are forgotten
+pub record KeptFirst (n : ℕ) (before : List ℕ) (i : ℕ) (found : List ℕ) : Type 0 where
+  pub long : length found ≡ maxDepth
+  pub kept : (j : ℕ) → j < n → getD found j 0 ≡ getD before j 0
+  pub forgotten : (j : ℕ) → n ≤ j → j < i → getD found j 0 ≡ 2 ^ maxUsers
+
+module _ (n : ℕ) (before : List ℕ) where
+  pub kept-all : length before ≡ maxDepth → KeptFirst n before n before
+  kept-all h = record { long = h; kept = λ j l. refl; forgotten = λ j l m. absurd (omega arith) }
+
+  module _ (i : ℕ) (found : List ℕ) (left : KeptFirst n before i found) where
+    pub kept-next : n ≤ i → i < maxDepth → KeptFirst n before (i + 1) (set found i (2 ^ maxUsers))
+    kept-next h l = record {
+      long = simp length-set (left .long);
+      kept = λ j b. getD-set-other found i j (2 ^ maxUsers) 0 (λ e. omega arith) ∙ left .kept j b;
+      forgotten = λ j b c. by-cases (eqb j i)
+          (λ q. let is : j ≡ i = eqb-true j i q in rw is (getD-set-same found i (2 ^ maxUsers) 0 (omega (arith, left .long))))
+          (λ q. let d = eqb-false j i q in getD-set-other found i j (2 ^ maxUsers) 0 d ∙ left .forgotten j b (omega arith));
+    }
+
+    pub kept-end : maxDepth ≤ i → (us : List User) (p q : Keys) → n ≤ shared p q → Found us p before → Found us q found
+    kept-end h us p q same was = record {
+      long = left .long;
+      holders = λ j below small k. by-cases (ltb j n)
+          (λ l. let first = ltb-true j n l in
+          rw (left .kept j first, ← shared-key p q j (omega arith)) (was .holders j below (rw (left .kept j first) at small) k))
+          (λ l. absurd (omega (arith, left .forgotten j (ltb-false j n l) (omega arith))));
+    }
 
 -- ── A mask that leaves out nobody for whom the steps match the path ──
 module _ (s : Bytes) (ts : Steps) (p : Keys) where

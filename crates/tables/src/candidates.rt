@@ -16,12 +16,15 @@ use paths::key::key_at;
 use steps::policy::STEP;
 ghost use mathlib.Core.Path.{_≡_};
 ghost use mathlib.Core.Bool.{true};
-ghost use mathlib.Core.List.{[]};
+ghost use mathlib.Core.List.{List, []};
 ghost use Prim.Native.Nat.{ℕ, _≤_, _<_};
 ghost use lib.ListN.{length, getD};
-ghost use Rattle.model.specs.Tables.{userAt};
+ghost use Rattle.model.specs.Limits.{maxDepth};
+ghost use Rattle.model.specs.Fields.{Keys};
+ghost use Rattle.model.specs.Tables.{User, userAt};
 ghost use Rattle.masks.specs.Bits.{bitAt};
 ghost use Rattle.paths.specs.Layout.{pathSlot, pathIn};
+ghost use Rattle.paths.specs.Fields.{shared};
 ghost use Rattle.steps.specs.Steps.{stepsSlot, stepsIn};
 ghost use Rattle.matching.specs.Parts.{mayMatch};
 ghost use Rattle.tables.specs.Memory.{usersIn, userCount};
@@ -29,6 +32,18 @@ ghost use Rattle.tables.specs.Grants.{holdsValue, Found, Covers};
 
 // What is no mask: who holds a key was not asked yet.
 pub const NOT_FOUND: u64 = 1 << MAX_USERS;
+
+// What was found out of a path's keys, kept for a path that shares the first n of them: of the others it is forgotten.
+pub fn keep_first(found: &mut [u64; MAX_DEPTH], n: usize)
+    requires { ⌜ length (now found) ≡ maxDepth ⌝ }
+    ensures { λ _. ⌜ ((us : List User) (p q : Keys) → n ≤ shared p q → Found us p (now (found .entry)) → Found us q (now (found .exit))) ⌝ }
+{
+    let mut i = n;
+    while i < MAX_DEPTH {
+        found[i] = NOT_FOUND;
+        i += 1;
+    }
+}
 
 // Who of the n users has an environment line with this value.
 fn holders(tables: &[u8; TABLES], n: usize, key: &[u8]) -> u32

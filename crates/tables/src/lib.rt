@@ -1,5 +1,5 @@
 // The tables in memory: users with their environment lines, policy lines, who may read and write, and which paths conflict.
-mod candidates;
+pub mod candidates;
 pub mod conflicts;
 pub mod memory;
 pub mod push;

@@ -36,7 +36,7 @@ ghost use Rattle.masks.specs.Readers.{readersOf};
 ghost use Rattle.paths.specs.Layout.{pathSlot, pathIn};
 ghost use Rattle.matching.specs.Parts.{mayMatch};
 ghost use Rattle.tables.specs.Memory.{userRow, ruleRow, policyBytes, userIn, usersIn, ruleIn, policyIn, tablesIn};
-ghost use Rattle.tables.specs.Grants.{givesRead, givesWrite, readsByLine, Covers};
+ghost use Rattle.tables.specs.Grants.{givesRead, givesWrite, readsByLine, Found, Covers};
 
 // Whether a line gives a user the right to write a path.
 fn gives_write(rule: &[u8], user: &[u8], path: &[u8]) -> bool
@@ -119,25 +119,35 @@ fn with_readers(mask: u32, able: u32, tables: &[u8; TABLES], rule: &[u8], path: 
     marked
 }
 
-// Who may read a path: a mask, whose bit at a user's place is set where that user may. Lines that match for nobody are passed over once, not for each user; who holds a key is found out once, not for each line.
-pub fn readers(tables: &[u8; TABLES], path: &[u8]) -> u32
+// Who may read a path: a mask, whose bit at a user's place is set where that user may. Lines that match for nobody are passed over once, not for each user; who holds a key of the path is found out once, not for each line, and what is found out is kept.
+pub fn readers_by(found: &mut [u64; MAX_DEPTH], tables: &[u8; TABLES], path: &[u8]) -> u32
     requires { ⌜ pathSlot ≤ length (now path) ⌝ }
+    requires { ⌜ Found (usersIn (now tables)) (pathIn (now path)) (now found) ⌝ }
     ensures { λ r. ⌜ r ≡ readersOf (tablesIn (now (tables .entry))) (pathIn (now (path .entry))) ⌝ }
+    ensures { λ _. ⌜ Found (usersIn (now (tables .entry))) (pathIn (now (path .entry))) (now (found .exit)) ⌝ }
 {
     let users = row_count(tables, USER, USERS);
     let policy = policy_of(tables);
     let n = row_count(policy, RULE, RULES);
-    let mut found = [NOT_FOUND; MAX_DEPTH];
     let mut mask: u32 = 0;
     let mut i: usize = 0;
     while i < n {
         let rule = row_at(policy, RULE, i);
         let steps = &rule[STEPS_AT..];
         if may_match(steps, path) {
-            let able = candidates(&mut found, tables, users, steps, path);
+            let able = candidates(found, tables, users, steps, path);
             mask = with_readers(mask, able, tables, rule, path);
         }
         i += 1;
     }
     mask
+}
+
+// The same where nothing is found out yet.
+pub fn readers(tables: &[u8; TABLES], path: &[u8]) -> u32
+    requires { ⌜ pathSlot ≤ length (now path) ⌝ }
+    ensures { λ r. ⌜ r ≡ readersOf (tablesIn (now (tables .entry))) (pathIn (now (path .entry))) ⌝ }
+{
+    let mut found = [NOT_FOUND; MAX_DEPTH];
+    readers_by(&mut found, tables, path)
 }

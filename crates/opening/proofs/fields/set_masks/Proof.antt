@@ -1,5 +1,5 @@
 -- Each turn sets one mask more, and changes no field.
-use Prim.Native.Nat.{_-_, _≤_, _<_}
+use Prim.Native.Nat.{_+_, _-_, _≤_, _<_}
 use mathlib.Core.Path.{_≡_, refl, ap, _∙_}
 use native.Mathlib.Omega.{arith}
 use borrow.Author.Needs.{needs}
@@ -7,7 +7,9 @@ use lib.ListN.{length}
 use Rattle.layout.specs.Layout.{Keeps}
 use Rattle.model.specs.Fields.{Field}
 use Rattle.masks.specs.Readers.{readersOf}
-use Rattle.tables.specs.Memory.{tablesIn}
+use Rattle.tables.specs.Memory.{usersIn, tablesIn}
+use Rattle.tables.specs.Grants.{Found}
+use Rattle.tables.proofs.Held.{found-none}
 use Rattle.record.specs.Slots.{fieldIn, fieldsIn, masksIn, fieldAt, CanonicalFields}
 use Rattle.record.proofs.Slots.{field-slot}
 use Rattle.record.proofs.Stores.{fields-fit}
@@ -17,25 +19,24 @@ use Rattle.opening.proofs.fields.set_masks.Statement.{statement}
 use Rattle.opening.proofs.fields.set_masks.Tie as tie
 
 abbrev Inv-loop : tie.InvT-loop
-Inv-loop tables table₀ n i₀ table i =
+Inv-loop tables table₀ n found₀ i₀ table found i =
     (i ≤ n) × (fieldsIn table ≡ fieldsIn table₀) × MasksBelow (tablesIn tables) (fieldsIn table₀) i (masksIn table) × Keeps CanonicalFields table₀ table
+    × Found (usersIn tables) (fieldAt (i - 1) (fieldsIn table₀) .path) found
 
 abbrev μ-loop : tie.MeasureT-loop
-μ-loop tables table₀ n i₀ table i = n - i
+μ-loop tables table₀ n found₀ i₀ table found i = n - i
 
 count-requires : tie.Need-count-requires Inv-loop μ-loop
 count-requires c κs = search needs
 
 loop-holds : tie.Need-loop-holds Inv-loop μ-loop
-loop-holds c = let s = c .before .before .args .table .now in (search needs, refl, masks-start _ _ (masksIn s) (masks-count s), λ h. h)
+loop-holds c = let s = c .before .before .args .table .now in (search needs, refl, masks-start _ _ (masksIn s) (masks-count s), (λ h. h), found-none _ _)
 
-slot-at-requires : tie.Need-slot-at-requires Inv-loop μ-loop
-slot-at-requires c κs =
-    let n = c .before .before .before in
-    omega (arith, c .before .loop-test .taken, n .count .ensures, fields-fit (n .before .before .args .table .now))
-
-readers-requires : tie.Need-readers-requires Inv-loop μ-loop
-readers-requires c κs = search needs
+mask-at-requires : tie.Need-mask-at-requires Inv-loop μ-loop
+mask-at-requires c κs =
+    let t = c .before .before in
+    let l = t .before .loop in
+    (omega (arith, t .loop-test .taken, t .before .before .count .ensures, ap length (l .inv .1)), rw (l .inv .1) (l .inv .4))
 
 set-mask-requires : tie.Need-set-mask-requires Inv-loop μ-loop
 set-mask-requires c κs =
@@ -50,20 +51,21 @@ loop-less : tie.Need-loop-less Inv-loop μ-loop
 loop-less c = search needs
 
 loop-again : tie.Need-loop-again Inv-loop μ-loop
-unfolding fieldIn
 loop-again c =
     let r = c .before .before in
-    let at = r .before in
-    let t = at .before .before in
+    let t = r .before .before .before in
     let l = t .before .loop in
     let n = t .before .before in
     let a = n .before .before .args in
     let below : l .i < length (fieldsIn (a .table .now)) = omega (arith, t .loop-test .taken, n .count .ensures) in
-    let now = fieldsIn (l .table) in
-    let field = field-slot (l .table) _ (l .i) (at .slot-at .ensures .0) (rw (l .inv .1) below) ∙ ap (fieldAt (l .i)) (l .inv .1) in
-    let mask = r .readers .ensures ∙ ap (λ (f : Field). readersOf (tablesIn (a .tables .now)) (f .path)) field in
-    let (same, rest) = c .set-mask .ensures in
-    (search needs, same .0 ∙ l .inv .1, rw (same .1) (masks-more _ _ (l .i) (masksIn (l .table)) (l .inv .2) below mask), λ h. rest .0 (l .inv .3 h))
+    let (mask, found) = rw (l .inv .1) at (r .mask-at .ensures) in
+    let (same, rest) = c .set-mask .ensures in (
+      search needs,
+      same .0 ∙ l .inv .1,
+      rw (same .1) (masks-more _ _ (l .i) (masksIn (l .table)) (l .inv .2) below mask),
+      (λ h. rest .0 (l .inv .3 h)),
+      (let back : l .i + 1 - 1 ≡ l .i = omega arith in rw back found),
+    )
 
 returns : tie.Need-returns Inv-loop μ-loop
 returns c =
@@ -79,8 +81,7 @@ set-masks-spec =
     μ-loop
     count-requires
     loop-holds
-    slot-at-requires
-    readers-requires
+    mask-at-requires
     set-mask-requires
     add-i
     loop-less
