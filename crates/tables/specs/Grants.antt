@@ -1,4 +1,4 @@
--- The right that one line gives, and the line of a conflict.
+-- The right that one line gives, whom a line may admit, and the line of a conflict.
 use Prim.Native.Nat.{ℕ, _<_, _^_}
 use mathlib.Core.Path.{_≡_}
 use mathlib.Core.Option.{Option, none, some}
