@@ -1,4 +1,4 @@
-// A mask in a u32, a bit for each user place; and the four bytes that it is kept in. All by shifts.
+// A mask in a u32, a bit for each user place, and the four bytes that it is kept in: bits are set and tested by shifts, and bytes put together and taken apart by them.
 use lexical::limits::MAX_USERS;
 ghost use mathlib.Core.Path.{_≡_};
 ghost use mathlib.Core.Bool.{true, false, not, _&&_, _||_};

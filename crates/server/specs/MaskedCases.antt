@@ -36,12 +36,12 @@ masks : ℕ → ℕ → List ℕ
 masks cv note = 0 ∷ cv ∷ 0 ∷ note ∷ 0 ∷ 0 ∷ []
 
 -- all three have a session: 1, 65537 and 131073
-hall : State
-hall = end clubState (map (asked 0) ("LOGIN;ann;k1" ∷ "LOGIN;bob;k2" ∷ "LOGIN;cy;k3" ∷ []))
+allIn : State
+allIn = end clubState (map (asked 0) ("LOGIN;ann;k1" ∷ "LOGIN;bob;k2" ∷ "LOGIN;cy;k3" ∷ []))
 
 -- bob has left
 bobOut : State
-bobOut = end hall (map (asked 0) ("LOGOUT;65537" ∷ []))
+bobOut = end allIn (map (asked 0) ("LOGOUT;65537" ∷ []))
 
 data Case : Type 0 where
   -- by these masks this push reaches these sessions, and leaves these masks
@@ -50,28 +50,28 @@ data Case : Type 0 where
   copies : List ℕ → String → Case
 
 passes : Case → Bool
-unfolding hall
+unfolding allIn
 passes (pushes s ms l reached left) =
     let e = effectByMasks s ms (asked 0 l) in
     (take (e .outcome .told) (e .outcome .list) == reached) && (e .masks == left)
-passes (copies ms fields) = effectByMasks hall ms (asked 200 "GET;65537") .outcome .buffer ==
+passes (copies ms fields) = effectByMasks allIn ms (asked 200 "GET;65537") .outcome .buffer ==
     over
     (rows ("role;access;path" ∷ "driver;READ;$[*]['name']" ∷ "driver;READ;$[*]['cv']['1','29']" ∷ "name;value" ∷ fields ∷ []))
     (replicate 200 0)
 
 cases : List Case
-unfolding given masks hall bobOut
+unfolding given masks allIn bobOut
 cases =
     -- a new field gets the mask that the policy gives, at its place, and the others move along
-    pushes hall given "PUSH;1;$['e9']['cv']['3'];10" [] (3 ∷ 3 ∷ 7 ∷ 4 ∷ 3 ∷ 1 ∷ 7 ∷ []) ∷
+    pushes allIn given "PUSH;1;$['e9']['cv']['3'];10" [] (3 ∷ 3 ∷ 7 ∷ 4 ∷ 3 ∷ 1 ∷ 7 ∷ []) ∷
     -- a push to a held field reaches those in its mask but the sender, and changes no mask
-    pushes hall given "PUSH;1;$['e7']['cv']['29'];38" (65537 ∷ []) given ∷
-    pushes hall (masks 7 0) "PUSH;1;$['e7']['cv']['29'];38" (65537 ∷ 131073 ∷ []) (masks 7 0) ∷
-    pushes hall (masks 5 2) "PUSH;1;$['e7']['cv']['29'];38" (131073 ∷ []) (masks 5 2) ∷
+    pushes allIn given "PUSH;1;$['e7']['cv']['29'];38" (65537 ∷ []) given ∷
+    pushes allIn (masks 7 0) "PUSH;1;$['e7']['cv']['29'];38" (65537 ∷ 131073 ∷ []) (masks 7 0) ∷
+    pushes allIn (masks 5 2) "PUSH;1;$['e7']['cv']['29'];38" (131073 ∷ []) (masks 5 2) ∷
     -- of them those with an open session
     pushes bobOut (masks 7 0) "PUSH;1;$['e7']['cv']['29'];38" (131073 ∷ []) (masks 7 0) ∷
     -- who may write is asked of the policy: bob is refused
-    pushes hall (masks 7 7) "PUSH;65537;$['e7']['cv']['29'];38" [] (masks 7 7) ∷
+    pushes allIn (masks 7 7) "PUSH;65537;$['e7']['cv']['29'];38" [] (masks 7 7) ∷
     -- bob's copy by the policy's masks
     copies given "{\"e7\":{\"cv\":{\"1\":3,\"29\":6},\"name\":\"Tank 7\"},\"e9\":{\"cv\":{\"1\":12},\"name\":\"Mail\"}}" ∷
     -- where his bit stands beside no field
