@@ -22,11 +22,9 @@ use Rattle.lexical.specs.declared.slice.Order.the-variants.{Less, Equal,
 
 -- ── Whether two texts are the same ──
 module _ (a b : Bytes) where
-  pub same-lengths : (length a ≡ length b → ⊥) → (a == b) ≡ false
-  same-lengths h = by-cases (a == b) (λ e. absurd (h (ap length (bytes-eq a b e)))) (λ e. e)
-
-  pub same-not : (i : ℕ) → (getD a i 0 ≡ getD b i 0 → ⊥) → (a == b) ≡ false
-  same-not i h = by-cases (a == b) (λ e. absurd (h (ap (λ (l : Bytes). getD l i 0) (bytes-eq a b e)))) (λ e. e)
+  -- texts of which something differs
+  pub same-not : {A : Type 0} (f : Bytes → A) → (f a ≡ f b → ⊥) → (a == b) ≡ false
+  same-not f h = by-cases (a == b) (λ e. absurd (h (ap f (bytes-eq a b e)))) (λ e. e)
 
   -- from the end back: nothing is left behind the last byte, one equal byte more before what is equal, and at the start all is
   module _ (i : ℕ) where

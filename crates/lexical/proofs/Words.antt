@@ -9,11 +9,12 @@ use borrow.Author.Tests.{ltb-true, ltb-false, eqb-true, eqb-false, le-ltb, lt-lt
 use lib.Dec.{ltb, eqb}
 use lib.ListN.{length, getD, drop, length-drop}
 use lib.Seq.{getD-drop, drop-drop}
-use Rattle.model.specs.Base.{Bytes}
-use Rattle.model.specs.Fields.{andThen, lex, byOrder}
-use Rattle.model.proofs.Lists.{by-cases}
+use Rattle.model.specs.Base.{Bytes, _==_}
+use Rattle.model.specs.Fields.{andThen, lex, orderKey, byOrder}
+use Rattle.model.proofs.Lists.{by-cases, bytes-refl}
+use Rattle.model.proofs.Order.{key-orders}
 use Rattle.lexical.specs.Orders.{bigEndian}
-use Rattle.lexical.proofs.Slices.{compare-less, compare-same, compare-more}
+use Rattle.lexical.proofs.Slices.{same-not, lex-end, compare-less, compare-same, compare-more}
 
 -- what holds in each of the three orders of two numbers
 by-order : {C : Type 0} (x y : ℕ) → (x < y → C) → (x ≡ y → C) → (y < x → C) → C
@@ -105,3 +106,13 @@ module _ (n : ℕ) (s t : Bytes) (p : n ≤ length s) (q : n ≤ length t) (b : 
     pub second-same : bigEndian n (drop at s) ≡ bigEndian n (drop at t) → lex compare s t ≡ lex compare (drop (at + n) s) (drop (at + n) t)
     second-same f = order-within n s t p q b c at h e
         ∙ rw (order-within n (drop at s) (drop at t) (rw length-drop (omega arith)) (rw length-drop (omega arith)) (later-bytes at s b) (later-bytes at t c) n (omega arith) f, drop-drop n at s, drop-drop n at t)
+
+  -- where both end with equal words from within the first ones on, these decide whether they are the same
+  pub words-same : (at : ℕ) → at ≤ n → length s ≡ at + n → length t ≡ at + n → bigEndian n (drop at s) ≡ bigEndian n (drop at t)
+      → eqb (bigEndian n s) (bigEndian n t) ≡ (s == t)
+  unfolding orderKey
+  words-same at h l m f = by-cases (eqb (bigEndian n s) (bigEndian n t))
+      (λ e.
+      let o = second-same at h (eqb-true (bigEndian n s) (bigEndian n t) e) (omega arith) (omega arith) f ∙ lex-end compare 0 s t (at + n) (omega arith) (omega arith) in
+      rw (e, key-orders .same s t o, bytes-refl t))
+      (λ e. rw (e, same-not s t (bigEndian n) (eqb-false (bigEndian n s) (bigEndian n t) e)))

@@ -3,7 +3,7 @@ use crate::bounds::least;
 ghost use mathlib.Core.Path.{_≡_};
 ghost use mathlib.Core.Bool.{true, false};
 ghost use mathlib.Core.List.{[], _∷_};
-ghost use Prim.Native.Nat.{_≤_, compare};
+ghost use Prim.Native.Nat.{_+_, _≤_, compare};
 ghost use lib.ListN.{length, drop};
 ghost use Rattle.rows.specs.Positions.{runEnd};
 ghost use Rattle.model.specs.Base.{_==_, after, isSome};
@@ -20,23 +20,6 @@ pub enum Order {
     Greater,
 }
 
-// Names often begin alike, so the last bytes are compared first.
-pub fn same(a: &[u8], b: &[u8]) -> bool
-    ensures { λ r. ⌜ r ≡ (now (a .entry) == now (b .entry)) ⌝ }
-{
-    if a.len() != b.len() {
-        return false;
-    }
-    let mut i = a.len();
-    while 0 < i {
-        i -= 1;
-        if a[i] != b[i] {
-            return false;
-        }
-    }
-    true
-}
-
 // The first bytes, a word of them, as one number, in which the first counts most: sums of products, which the compiler turns into one load.
 fn word(a: &[u8]) -> u64
     requires { ⌜ wordBytes ≤ length (now a) ⌝ }
@@ -47,6 +30,50 @@ fn word(a: &[u8]) -> u64
     let r = 16777216 * (a[4] as u64) + 65536 * (a[5] as u64);
     let s = 256 * (a[6] as u64) + (a[7] as u64);
     (p + q) + (r + s)
+}
+
+// Slices of one length, byte by byte: names often begin alike, so the last bytes are compared first.
+fn same_bytes(a: &[u8], b: &[u8]) -> bool
+    requires { ⌜ length (now a) ≡ length (now b) ⌝ }
+    ensures { λ r. ⌜ r ≡ (now (a .entry) == now (b .entry)) ⌝ }
+{
+    let mut i = a.len();
+    while 0 < i {
+        i -= 1;
+        if a[i] != b[i] {
+            return false;
+        }
+    }
+    true
+}
+
+// Slices of one length, of a word to two: the last words, and the first, which reach as far.
+fn same_words(a: &[u8], b: &[u8]) -> bool
+    requires { ⌜ (length (now a) ≡ length (now b)) × (wordBytes ≤ length (now a)) × (length (now a) ≤ wordBytes + wordBytes) ⌝ }
+    ensures { λ r. ⌜ r ≡ (now (a .entry) == now (b .entry)) ⌝ }
+{
+    let last = a.len() - WORD;
+    if word(&a[last..]) != word(&b[last..]) {
+        return false;
+    }
+    word(a) == word(b)
+}
+
+// Whether two slices are the same: by words where these serve, as they do for most names.
+pub fn same(a: &[u8], b: &[u8]) -> bool
+    ensures { λ r. ⌜ r ≡ (now (a .entry) == now (b .entry)) ⌝ }
+{
+    let n = a.len();
+    if n != b.len() {
+        return false;
+    }
+    if n < WORD {
+        return same_bytes(a, b);
+    }
+    if WORD + WORD < n {
+        return same_bytes(a, b);
+    }
+    same_words(a, b)
 }
 
 // The order of what stands from a position on, byte by byte.

@@ -1,61 +1,44 @@
--- Texts of different lengths differ; of equal lengths, each turn finds one byte more that is equal, from the end back.
-use Prim.Native.Nat.{_≤_}
-use mathlib.Core.Path.{_≡_, sym}
+-- Texts of different lengths differ; of equal lengths, words decide or bytes.
+use mathlib.Core.Path.{sym}
 use borrow.Author.Needs.{needs}
-use lib.ListN.{length, drop}
-use Rattle.lexical.proofs.Slices.{same-lengths, same-not, same-end, same-back, same-start}
+use lib.ListN.{length}
+use Rattle.lexical.proofs.Slices.{same-not}
 use Rattle.lexical.proofs.slice.same.Statement.{statement}
 use Rattle.lexical.proofs.slice.same.Tie as tie
 
-abbrev Inv-loop : tie.InvT-loop
-Inv-loop a b i₀ i = (i ≤ length a) × (length a ≡ length b) × (drop i a ≡ drop i b)
+returns : tie.Need-returns
+returns c = sym (same-not _ _ length (c .if1 .taken))
 
-abbrev μ-loop : tie.MeasureT-loop
-μ-loop a b i₀ i = i
+same-bytes-requires : tie.Need-same-bytes-requires
+same-bytes-requires c κs = search needs
 
-returns : tie.Need-returns Inv-loop μ-loop
-returns c = sym (same-lengths _ _ (c .if1 .taken))
+returns-2 : tie.Need-returns-2
+returns-2 c = search needs
 
-loop-holds : tie.Need-loop-holds Inv-loop μ-loop
-loop-holds c =
-    let a = c .before .args in
-    (search needs, search needs, same-end (a .a .now) (a .b .now) (length (a .a .now)) (search needs) (search needs))
+add-if3 : tie.Need-add-if3
+add-if3 c = search needs
 
-sub-i : tie.Need-sub-i Inv-loop μ-loop
-sub-i c = search needs
+same-bytes-requires-2 : tie.Need-same-bytes-requires-2
+same-bytes-requires-2 c κs = search needs
 
-shared-slice-read-if2 : tie.Need-shared-slice-read-if2 Inv-loop μ-loop
-shared-slice-read-if2 c = search needs
+returns-3 : tie.Need-returns-3
+returns-3 c = search needs
 
-shared-slice-read-if2-2 : tie.Need-shared-slice-read-if2-2 Inv-loop μ-loop
-shared-slice-read-if2-2 c = search needs
+same-words-requires : tie.Need-same-words-requires
+same-words-requires c κs = (search needs, search needs, search needs)
 
-returns-2 : tie.Need-returns-2 Inv-loop μ-loop
-returns-2 c = sym (same-not _ _ _ (c .if2 .taken))
-
-loop-less : tie.Need-loop-less Inv-loop μ-loop
-loop-less c = search needs
-
-loop-again : tie.Need-loop-again Inv-loop μ-loop
-loop-again c =
-    let l = c .before .before .before .before .loop in
-    (search needs, search needs, same-back _ _ (l .i) (search needs) (search needs) (search needs) (c .if2 .left) (l .inv .2))
-
-returns-3 : tie.Need-returns-3 Inv-loop μ-loop
-returns-3 c = let l = c .before .loop in sym (same-start _ _ (l .i) (search needs) (l .inv .2))
+returns-4 : tie.Need-returns-4
+returns-4 c = search needs
 
 pub same-spec : {M : Type 1} → statement M
 same-spec =
     tie.close
     (tie.spec
-    Inv-loop
-    μ-loop
     returns
-    loop-holds
-    sub-i
-    shared-slice-read-if2
-    shared-slice-read-if2-2
+    same-bytes-requires
     returns-2
-    loop-less
-    loop-again
-    returns-3)
+    add-if3
+    same-bytes-requires-2
+    returns-3
+    same-words-requires
+    returns-4)
