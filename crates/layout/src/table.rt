@@ -6,11 +6,9 @@ use lexical::bounds::least;
 ghost use mathlib.Core.Path.{_≡_};
 ghost use mathlib.Core.Bool.{false};
 ghost use mathlib.Core.List.{[], _∷_, _++_};
-ghost use Prim.Native.Nat.{_+_, _*_, _-_, _≤_, _<_};
+ghost use Prim.Native.Nat.{_+_, _*_, _≤_, _<_};
 ghost use lib.ListN.{length, take, drop, set};
-ghost use Rattle.rows.specs.Rows.{insertAt};
-ghost use Rattle.rows.specs.Moves.{movedLater};
-ghost use Rattle.layout.specs.Layout.{isEmpty, inUse, Holds, overRow, movedEnd, insertedRow, Tight, Keeps};
+ghost use Rattle.layout.specs.Layout.{isEmpty, inUse, Holds, overRow, movedEnd, Tight, Keeps};
 
 // Whether a row is empty.
 pub fn is_empty(row: &[u8]) -> bool
@@ -79,45 +77,12 @@ pub fn replace_row(t: &mut [u8], size: usize, most: usize, i: usize, row: &[u8])
     copy(&mut t[start..], row);
 }
 
-// Each byte `size` places later: the last fall off, and the first stay as they were.
-fn shift(tail: &mut [u8], size: usize)
-    requires { ⌜ (0 < size) × (size ≤ length (now tail)) ⌝ }
-    ensures { λ _. ⌜ now (tail .exit) ≡ movedLater size (now (tail .entry)) ⌝ }
-{
-    let mut i = tail.len();
-    while size < i {
-        i -= 1;
-        tail[i] = tail[i - size];
-    }
-}
-
-// A row before what stands in `tail`, whose last row falls off.
-fn put_before(tail: &mut [u8], row: &[u8])
-    requires { ⌜ (0 < length (now row)) × (length (now row) ≤ length (now tail)) ⌝ }
-    ensures { λ _. ⌜ now (tail .exit) ≡ now (row .entry) ++ take (length (now (tail .entry)) - length (now (row .entry))) (now (tail .entry)) ⌝ }
-{
-    shift(tail, row.len());
-    copy(tail, row);
-}
-
 // Where what a new row moves ends: the rows in use, of which the first `from` are, one more for it, and the empty one behind them; at most all rows.
-fn moved_end(t: &[u8], size: usize, most: usize, from: usize) -> usize
+pub fn moved_end(t: &[u8], size: usize, most: usize, from: usize) -> usize
     requires { ⌜ Holds size most (now t) × (from ≤ length (inUse size most (now t))) ⌝ }
     ensures { λ r. ⌜ r ≡ movedEnd size most (now (t .entry)) ⌝ }
 {
     least(count_from(t, size, most, from) + 2, most) * size
-}
-
-// A row at the place i, before what stood there: only rows in use move, and the empty one behind them. Of more than `most`, the last falls off.
-pub fn insert_row(t: &mut [u8], size: usize, most: usize, i: usize, row: &[u8])
-    requires { ⌜ Holds size most (now t) × (length (now row) ≡ size) × (isEmpty (now row) ≡ false) ⌝ }
-    requires { ⌜ (i < most) × (i ≤ length (inUse size most (now t))) ⌝ }
-    ensures { λ _. ⌜ inUse size most (now (t .exit)) ≡ take most (insertAt i (now (row .entry)) (inUse size most (now (t .entry)))) ⌝ }
-    ensures { λ _. ⌜ now (t .exit) ≡ insertedRow size most i (now (row .entry)) (now (t .entry)) ⌝ }
-{
-    let start = i * size;
-    let end = moved_end(t, size, most, i);
-    put_before(&mut t[start..end], row);
 }
 
 // A table with zeros behind its rows, copied: only the rows in use are read.

@@ -1,5 +1,5 @@
 // A table of slots, sorted by path: the slots before the first empty one are in use.
-use layout::table::insert_row;
+use crate::insert::insert_slot;
 use layout::table::is_empty;
 use layout::table::replace_row;
 use layout::table::row_at;
@@ -112,7 +112,7 @@ pub fn store_at(table: &mut [u8; RECORD], place: Place, slot: &[u8; SLOT])
         Place::At(at) => replace_row(table, SLOT, SLOTS, at, slot),
         Place::Before(at) => {
             if at < SLOTS {
-                insert_row(table, SLOT, SLOTS, at, slot);
+                insert_slot(table, at, slot);
             }
         }
     }

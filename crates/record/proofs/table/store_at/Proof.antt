@@ -27,8 +27,8 @@ replace-row-requires c κs =
 enum-known-place-2 : tie.Need-enum-known-place-2
 enum-known-place-2 c = search needs
 
-insert-row-requires : tie.Need-insert-row-requires
-insert-row-requires c κs =
+insert-slot-requires : tie.Need-insert-slot-requires
+insert-slot-requires c κs =
     let a = c .before .before .before .before .place2 .given in
     let s = c .before .before .before .before .before .before in
     let h = before-within _ _ (a .0 .0) (sym (s .pre .1) ∙ a .1) in
@@ -50,7 +50,7 @@ unfolding fieldsIn masksIn storedBytes storedMasks
 returns-2 c =
     let a = c .before .before .before .before .before .place2 .given in
     let s = c .before .before .before .before .before .before .before in
-    let (used, bytes) = c .insert-row .ensures in (
+    let (used, bytes) = c .insert-slot .ensures in (
       table-inserted fieldIn slotBytes maxFields (s .args .table .now) _ (s .args .slot .now) (a .0 .0) used
           ∙ before-stored _ _ (a .0 .0) (s .pre .0) (sym (s .pre .1) ∙ a .1),
       (
@@ -76,7 +76,7 @@ store-at-spec =
     enum-known-place
     replace-row-requires
     enum-known-place-2
-    insert-row-requires
+    insert-slot-requires
     returns
     returns-2
     returns-3)
