@@ -1,19 +1,19 @@
 -- First bytes as one number: numbers in order are texts in order.
 use Prim.Native.Nat.{ℕ, zero, suc, _+_, _*_, _^_, _≤_, _<_, compare, Ordering, Ordering·lt, Ordering·eq, Ordering·gt}
-use mathlib.Core.Path.{_≡_, refl, ap, _∙_}
+use mathlib.Core.Path.{_≡_, refl, sym, ap, _∙_}
 use mathlib.Core.Bool.{true, false}
 use mathlib.Core.List.{[], _∷_}
 use native.Mathlib.Nat.{mul-suc, pow-zero, pow-suc, mul-le-mul-left, le-of-suc-le-suc}
 use native.Mathlib.Omega.{arith}
-use borrow.Author.Tests.{ltb-true, ltb-false, eqb-true, eqb-false, le-ltb, lt-ltb}
-use lib.Dec.{ltb, eqb}
+use borrow.Author.Tests.{leb-true, ltb-true, ltb-false, eqb-true, eqb-false, le-ltb, lt-ltb}
+use lib.Dec.{leb, ltb, eqb}
 use lib.ListN.{length, getD, drop, length-drop}
 use lib.Seq.{getD-drop, drop-drop}
 use Rattle.model.specs.Base.{Bytes, _==_}
 use Rattle.model.specs.Fields.{andThen, lex, orderKey, byOrder}
-use Rattle.model.proofs.Lists.{by-cases, bytes-refl}
+use Rattle.model.proofs.Lists.{by-cases, and-both, bytes-refl}
 use Rattle.model.proofs.Order.{key-orders}
-use Rattle.lexical.specs.Orders.{bigEndian}
+use Rattle.lexical.specs.Orders.{wordBytes, bigEndian, AreBytes, firstWord, beginsBefore}
 use Rattle.lexical.proofs.Slices.{same-not, lex-end, compare-less, compare-same, compare-more}
 
 -- what holds in each of the three orders of two numbers
@@ -39,10 +39,6 @@ scaled-same p x y m n h k e = by-order x y
     (λ l. absurd (omega (arith, mul-le-mul-left p l, mul-suc p x)))
     (λ f. (f, omega (arith, ap (λ (z : ℕ). p * z) f)))
     (λ l. absurd (omega (arith, mul-le-mul-left p l, mul-suc p y)))
-
--- bytes
-abbrev pub AreBytes : Bytes → Type 0
-AreBytes s = (i : ℕ) → getD s i 0 < 256
 
 later-bytes : (k : ℕ) (s : Bytes) → AreBytes s → AreBytes (drop k s)
 later-bytes k s h i = rw getD-drop (h (k + i))
@@ -116,3 +112,14 @@ module _ (n : ℕ) (s t : Bytes) (p : n ≤ length s) (q : n ≤ length t) (b : 
       let o = second-same at h (eqb-true (bigEndian n s) (bigEndian n t) e) (omega arith) (omega arith) f ∙ lex-end compare 0 s t (at + n) (omega arith) (omega arith) in
       rw (e, key-orders .same s t o, bytes-refl t))
       (λ e. rw (e, same-not s t (bigEndian n) (eqb-false (bigEndian n s) (bigEndian n t) e)))
+
+-- what begins with a lesser word than the first of s stands before s
+pub begins-behind : (s t : Bytes) → AreBytes s → AreBytes t → beginsBefore t (firstWord s) ≡ true → byOrder (orderKey s t) false false true ≡ true
+unfolding orderKey beginsBefore firstWord
+begins-behind s t b c h = by-cases (leb wordBytes (length s))
+    (λ e.
+    let (q, l) = and-both (leb wordBytes (length t)) _ h in
+    let less = ltb-true (bigEndian wordBytes t) (bigEndian wordBytes s) (rw e at l) in
+    sym (word-behind wordBytes s t (leb-true wordBytes (length s) e) (leb-true wordBytes (length t) q) b c (λ f. omega arith))
+    ∙ lt-ltb (bigEndian wordBytes t) (bigEndian wordBytes s) less)
+    (λ e. absurd (omega (arith, ltb-true (bigEndian wordBytes t) 0 (rw e at (and-both (leb wordBytes (length t)) _ h .1)))))

@@ -6,10 +6,10 @@ ghost use mathlib.Core.List.{[], _∷_};
 ghost use Prim.Native.Nat.{_+_, _≤_, compare};
 ghost use lib.ListN.{length, drop};
 ghost use Rattle.rows.specs.Positions.{runEnd};
-ghost use Rattle.model.specs.Base.{_==_, after, isSome};
+ghost use Rattle.model.specs.Base.{Bytes, _==_, after, isSome};
 ghost use Rattle.model.specs.Fields.{lex, orderKey, byOrder};
 ghost use Rattle.lexical.specs.Classes.{isNot};
-ghost use Rattle.lexical.specs.Orders.{orderOf, wordBytes, bigEndian};
+ghost use Rattle.lexical.specs.Orders.{orderOf, wordBytes, bigEndian, AreBytes, firstWord, beginsBefore};
 
 // Bytes that are compared at once, as one number.
 const WORD: usize = 8;
@@ -154,6 +154,27 @@ pub fn is_behind(a: &[u8], b: &[u8]) -> bool
         return w < v;
     }
     is_behind_from(a, b, second + WORD)
+}
+
+// The first word of a slice, for a search that compares many with it; 0 where it is shorter.
+pub fn first_word(a: &[u8]) -> u64
+    ensures { λ r. ⌜ (r ≡ firstWord (now (a .entry))) × AreBytes (now (a .entry)) ⌝ }
+{
+    if a.len() < WORD {
+        return 0;
+    }
+    word(a)
+}
+
+// Whether b begins with a word that is less than x: then every slice with the first word x stands behind it.
+pub fn begins_before(b: &[u8], x: u64) -> bool
+    ensures { λ r. ⌜ r ≡ beginsBefore (now (b .entry)) x ⌝ }
+    ensures { λ r. ⌜ ((a : Bytes) → AreBytes a → x ≡ firstWord a → r ≡ true → byOrder (orderKey a (now (b .entry))) false false true ≡ true) ⌝ }
+{
+    if b.len() < WORD {
+        return false;
+    }
+    word(b) < x
 }
 
 // Whether the word w stands at the position.

@@ -18,7 +18,7 @@ use Rattle.lexical.proofs.Slices.{orderIn, order-told}
 use Rattle.paths.specs.Layout.{pathIn}
 use Rattle.record.specs.declared.table.Place.the-variants.{At, Before}
 use Rattle.record.specs.Slots.{slotBytes, fieldIn, fieldsIn}
-use Rattle.record.specs.Search.{placeIn}
+use Rattle.record.specs.Search.{placeIn, SearchedTo}
 
 module _ (s : Bytes) where
   -- each slot in use holds one
@@ -49,3 +49,8 @@ module _ (s : Bytes) where
         → placeIn i p (drop i (fieldsIn s)) ≡ placeIn (i + 1) p (drop (i + 1) (fieldsIn s))
     unfolding byOrder
     place-passed p e o = place-step p {v = Greater} e (ap orderOf (sym o)) refl
+
+    -- so a search that has come to the slot goes on behind it
+    pub searched-on : (p : Keys) → isEmpty slot ≡ false → orderPath p (pathIn slot) ≡ Ordering·gt → placeIn 0 p (fieldsIn s) ≡ placeIn i p (drop i (fieldsIn s))
+        → SearchedTo (i + 1) p (fieldsIn s)
+    searched-on p e o q = (omega (arith, fields-more e), q ∙ place-passed p e o)

@@ -1,8 +1,9 @@
 -- Where the search for a path ends, and what is stored of a slot.
-use Prim.Native.Nat.{ℕ, suc}
+use Prim.Native.Nat.{ℕ, suc, _≤_}
+use mathlib.Core.Path.{_≡_}
 use mathlib.Core.List.{List, [], _∷_}
 use lib.Dec.{ltb}
-use lib.ListN.{take, set}
+use lib.ListN.{length, take, drop, set}
 use Rattle.rows.specs.Rows.{insertAt}
 use Rattle.model.specs.Base.{Bytes, if_then_else_}
 use Rattle.model.specs.Limits.{maxFields}
@@ -18,6 +19,10 @@ use Rattle.layout.specs.Layout.{isEmpty, overRow, insertedRow}
 unfoldable pub placeIn : ℕ → Keys → Fields → Place
 placeIn i p [] = Before i
 placeIn i p (g ∷ gs) = let r = placeIn (suc i) p gs in byOrder (orderPath p (g .path)) (Before i) (At i) r
+
+-- a search for p has come to the place i: what is left of it ends where all of it does
+abbrev pub SearchedTo : ℕ → Keys → Fields → Type 0
+SearchedTo i p fs = (i ≤ length fs) × (placeIn 0 p fs ≡ placeIn i p (drop i fs))
 
 -- ── A slot stored ──
 -- the bytes of a table, once a slot is stored at a place: over the one there or before it; behind the last place nothing changes

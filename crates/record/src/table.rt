@@ -7,6 +7,8 @@ use layout::table::row_count;
 use lexical::limits::MAX_FIELDS;
 use lexical::limits::MAX_STRING;
 use lexical::slice::Order;
+use lexical::slice::begins_before;
+use lexical::slice::first_word;
 use lexical::slice::is_behind;
 use masks::MASK;
 use paths::field::PATH;
@@ -20,7 +22,7 @@ ghost use Rattle.model.specs.Limits.{maxFields};
 ghost use Rattle.layout.specs.Layout.{isEmpty, Keeps};
 ghost use Rattle.paths.specs.Layout.{pathSlot, pathIn};
 ghost use Rattle.record.specs.Slots.{slotBytes, maskIn, fieldsIn, masksIn, CanonicalField, CanonicalFields};
-ghost use Rattle.record.specs.Search.{placeIn, storedBytes, storedSlot, storedMasks, storedIn};
+ghost use Rattle.record.specs.Search.{placeIn, SearchedTo, storedBytes, storedSlot, storedMasks, storedIn};
 
 // In a slot, behind the path: the readers mask, how long the value's text is, and room for the longest.
 pub const LENGTH: usize = PATH + MASK;
@@ -56,17 +58,36 @@ pub fn count(table: &[u8; RECORD]) -> usize
     row_count(table, SLOT, SLOTS)
 }
 
-// How far the search for a path comes by first keys alone: it passes the slots whose first key is before the path's, which are most.
+// How far the search for a path comes by first words of first keys alone.
+fn passed_by_words(table: &[u8; RECORD], path: &[u8]) -> usize
+    requires { ⌜ (pathSlot ≤ length (now path)) × (isEmpty (now path) ≡ false) ⌝ }
+    ensures { λ r. ⌜ SearchedTo r (pathIn (now (path .entry))) (fieldsIn (now (table .entry))) ⌝ }
+{
+    let word = first_word(key_at(path, 0));
+    let mut i: usize = 0;
+    while i < SLOTS {
+        let slot = slot_at(table, i);
+        if is_empty(slot) {
+            return i;
+        }
+        if !begins_before(key_at(slot, 0), word) {
+            return i;
+        }
+        i += 1;
+    }
+    i
+}
+
+// How far it comes by first keys alone: it passes the slots whose first key is before the path's, which are most.
 fn passed(table: &[u8; RECORD], path: &[u8]) -> usize
     requires { ⌜ pathSlot ≤ length (now path) ⌝ }
-    ensures { λ r. ⌜ r ≤ length (fieldsIn (now (table .entry))) ⌝ }
-    ensures { λ r. ⌜ placeIn 0 (pathIn (now (path .entry))) (fieldsIn (now (table .entry))) ≡ placeIn r (pathIn (now (path .entry))) (drop r (fieldsIn (now (table .entry)))) ⌝ }
+    ensures { λ r. ⌜ SearchedTo r (pathIn (now (path .entry))) (fieldsIn (now (table .entry))) ⌝ }
 {
     if is_empty(path) {
         return 0;
     }
     let first = key_at(path, 0);
-    let mut i: usize = 0;
+    let mut i: usize = passed_by_words(table, path);
     while i < SLOTS {
         let slot = slot_at(table, i);
         if is_empty(slot) {

@@ -1,21 +1,19 @@
 -- Each slot whose first key is before the path's leaves the search from the next slot on.
-use Prim.Native.Nat.{_-_, _≤_}
+use Prim.Native.Nat.{_-_}
 use mathlib.Core.Path.{_≡_, refl, sym, _∙_}
-use native.Mathlib.Omega.{arith}
 use borrow.Author.Tests.{not-false}
 use borrow.Author.Needs.{needs}
-use lib.ListN.{length, drop}
 use Rattle.model.specs.Limits.{maxFields}
 use Rattle.paths.specs.Layout.{pathIn}
 use Rattle.paths.proofs.Ordered.{paths-behind}
 use Rattle.record.specs.Slots.{fieldsIn}
-use Rattle.record.specs.Search.{placeIn}
-use Rattle.record.proofs.Search.{fields-more, place-passed}
+use Rattle.record.specs.Search.{SearchedTo}
+use Rattle.record.proofs.Search.{searched-on}
 use Rattle.record.proofs.table.passed.Statement.{statement}
 use Rattle.record.proofs.table.passed.Tie as tie
 
 abbrev Inv-loop : tie.InvT-loop
-Inv-loop table path first i₀ i = (i ≤ length (fieldsIn table)) × (placeIn 0 (pathIn path) (fieldsIn table) ≡ placeIn i (pathIn path) (drop i (fieldsIn table)))
+Inv-loop table path first i₀ i = SearchedTo i (pathIn path) (fieldsIn table)
 
 abbrev μ-loop : tie.MeasureT-loop
 μ-loop table path first i₀ i = maxFields - i
@@ -29,8 +27,11 @@ returns c = (search needs, refl)
 key-at-requires : tie.Need-key-at-requires Inv-loop μ-loop
 key-at-requires c κs = search needs
 
+passed-by-words-requires : tie.Need-passed-by-words-requires Inv-loop μ-loop
+passed-by-words-requires c κs = (search needs, sym (c .before .before .is-empty .ensures) ∙ c .before .if1 .left)
+
 loop-holds : tie.Need-loop-holds Inv-loop μ-loop
-loop-holds c = (search needs, refl)
+loop-holds c = c .passed-by-words .ensures
 
 slot-at-requires : tie.Need-slot-at-requires Inv-loop μ-loop
 slot-at-requires c κs = search needs
@@ -60,13 +61,12 @@ loop-again : tie.Need-loop-again Inv-loop μ-loop
 loop-again c =
     let e = c .before .before .before in
     let l = e .before .before .before .before .loop in
-    let k = e .before .before .before .before .before in
+    let k = e .before .before .before .before .before .before in
     let slot = e .before .before .slot-at .ensures .0 in
     let full = sym (e .before .is-empty2 .ensures) ∙ e .if2 .left in
     let behind = paths-behind (k .before .before .before .before .args .path .now) (e .before .before .slot-at .result .now)
     (sym (k .before .before .is-empty .ensures) ∙ k .before .if1 .left) full (k .key-at .ensures) (c .before .before .key-at2 .ensures) (sym (c .before .is-behind .ensures) ∙ not-false (c .before .is-behind .result) (c .if3 .left)) in
-    let more = fields-more _ (l .i) slot (search needs) (l .inv .0) full in
-    (omega arith, l .inv .1 ∙ place-passed _ (l .i) slot (search needs) (l .inv .0) _ full behind)
+    searched-on _ (l .i) slot (search needs) (l .inv .0) _ full behind (l .inv .1)
 
 returns-4 : tie.Need-returns-4 Inv-loop μ-loop
 returns-4 c = search needs
@@ -80,6 +80,7 @@ passed-spec =
     is-empty-requires
     returns
     key-at-requires
+    passed-by-words-requires
     loop-holds
     slot-at-requires
     is-empty-requires-2
