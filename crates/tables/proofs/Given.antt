@@ -45,6 +45,14 @@ module _ (p : Keys) (r : Rule) where
   reads-same rs none h = refl
   reads-same rs (some u) h = rw (matches-not (u .environment) (r .path) p h, and-false)
 
+-- m rows were counted: the line in the row at i may not match
+pub lines-passed : (q : Bytes) (p : Keys) {m : ℕ} → m ≡ length (inUse ruleRow maxRules q) → (i : ℕ) → i < m → {row : Bytes} → row ≡ take ruleRow (drop (i * ruleRow) q)
+    → mayMatch (stepsIn (take (length row - pathAt) (drop pathAt row))) p ≡ false → (o : Option User) → readsBy (drop i (policyIn q)) o p ≡ readsBy (drop (i + 1) (policyIn q)) o p
+unfolding ruleIn
+lines-passed q p counted i below {row} here h o =
+    let no : mayMatch (ruleIn row .path) p ≡ false = rw (tail-part pathAt row) at h in
+    rw (rule-left q counted i below here) (reads-same p (ruleIn row) (drop (i + 1) (policyIn q)) o no)
+
 -- ── The bit of one user, at j, by one line, of which b says whether it gives the right ──
 module _ (m j k : ℕ) (b : Bool) where
   -- who is marked already stays so
@@ -75,14 +83,13 @@ module _ (s q : Bytes) (p : Keys) {m : ℕ} (counted : m ≡ length (inUse ruleR
   readers-end h fits =
       mask-is (λ j. readsAt (tablesIn s) j p) maxUsers mask fits (λ j. sym (left j ∙ rw (rules-over q counted i h, reads-none) (or-false _)))
 
-  -- the line in the row at i may not match, or the bits of those whom it lets read are set
-  module _ (below : i < m) {row : Bytes} (here : row ≡ take ruleRow (drop (i * ruleRow) q)) where
-    pub readers-same : mayMatch (stepsIn (take (length row - pathAt) (drop pathAt row))) p ≡ false → ReadersLeft s q p (i + 1) mask
-    unfolding ReadersLeft ruleIn
-    readers-same h j =
-        let no : mayMatch (ruleIn row .path) p ≡ false = rw (tail-part pathAt row) at h in
-        left j ∙ rw (rule-left q counted i below here, reads-same p (ruleIn row) (drop (i + 1) (policyIn q)) (userAt (usersIn s) j) no)
+  -- no line before r lets anybody read
+  pub readers-on : (r : ℕ) → ((o : Option User) → readsBy (drop i (policyIn q)) o p ≡ readsBy (drop r (policyIn q)) o p) → ReadersLeft s q p r mask
+  unfolding ReadersLeft
+  readers-on r e j = left j ∙ rw (e (userAt (usersIn s) j))
 
+  -- the bits of those are set whom the line in the row at i lets read
+  module _ (below : i < m) {row : Bytes} (here : row ≡ take ruleRow (drop (i * ruleRow) q)) where
     pub readers-more : (new : ℕ) → ((k : ℕ) → bitAt new k ≡ (bitAt mask k || readsByLine p (ruleIn row) (userAt (usersIn s) k))) → ReadersLeft s q p (i + 1) new
     unfolding ReadersLeft
     readers-more new e j = left j ∙ rw (rule-left q counted i below here, reads-more p (ruleIn row), e j, or-assoc)

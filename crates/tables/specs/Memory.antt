@@ -85,6 +85,13 @@ ruleIn row = record { role = nameIn (take nameRow row); access = accessIn (getD 
 unfoldable pub policyIn : Bytes → List Rule
 policyIn s = table ruleIn ruleRow maxRules s
 
+-- how many lines there are, and the one in the i-th row
+abbrev pub ruleCount : Bytes → ℕ
+ruleCount s = length (inUse ruleRow maxRules s)
+
+abbrev pub ruleAt : ℕ → Bytes → Rule
+ruleAt i s = ruleIn (take ruleRow (drop (i * ruleRow) s))
+
 -- the users' rows, and behind them the policy's
 unfoldable pub tablesIn : Bytes → Tables
 tablesIn s = record { users = usersIn s; policy = policyIn (drop usersBytes s) }

@@ -25,17 +25,19 @@ use matching::path::matches;
 use matching::path::may_match;
 ghost use mathlib.Core.Path.{_≡_};
 ghost use mathlib.Core.Bool.{true, _&&_, _||_};
+ghost use mathlib.Core.Option.{Option};
 ghost use Prim.Native.Nat.{ℕ, _≤_, _<_};
 ghost use lib.Dec.{eqb};
-ghost use lib.ListN.{length};
+ghost use lib.ListN.{length, drop};
 ghost use Rattle.model.specs.Limits.{maxUsers};
-ghost use Rattle.model.specs.Tables.{userAt};
+ghost use Rattle.model.specs.Tables.{User, userAt};
 ghost use Rattle.model.specs.Rights.{mayWrite};
+ghost use Rattle.model.specs.Serving.{readsBy};
 ghost use Rattle.masks.specs.Bits.{bitAt};
 ghost use Rattle.masks.specs.Readers.{readersOf};
 ghost use Rattle.paths.specs.Layout.{pathSlot, pathIn};
 ghost use Rattle.matching.specs.Parts.{mayMatch};
-ghost use Rattle.tables.specs.Memory.{userRow, ruleRow, policyBytes, userIn, usersIn, ruleIn, policyIn, tablesIn};
+ghost use Rattle.tables.specs.Memory.{userRow, ruleRow, policyBytes, userIn, usersIn, ruleIn, ruleAt, policyIn, ruleCount, tablesIn};
 ghost use Rattle.tables.specs.Grants.{givesRead, givesWrite, readsByLine, Found, Covers};
 
 // Whether a line gives a user the right to write a path.
@@ -119,6 +121,24 @@ fn with_readers(mask: u32, able: u32, tables: &[u8; TABLES], rule: &[u8], path: 
     marked
 }
 
+// The next of the n lines, from a place on, that may match a path for somebody; n where none may. The lines before it let nobody read the path.
+fn next_line(policy: &[u8], n: usize, from: usize, path: &[u8]) -> usize
+    requires { ⌜ (length (now policy) ≡ policyBytes) × (pathSlot ≤ length (now path)) × (n ≡ ruleCount (now policy)) × (from ≤ n) ⌝ }
+    ensures { λ r. ⌜ (from ≤ r) × (r ≤ n) ⌝ }
+    ensures { λ r. ⌜ (r < n → mayMatch (ruleAt r (now (policy .entry)) .path) (pathIn (now (path .entry))) ≡ true) ⌝ }
+    ensures { λ r. ⌜ ((o : Option User) → readsBy (drop from (policyIn (now (policy .entry)))) o (pathIn (now (path .entry))) ≡ readsBy (drop r (policyIn (now (policy .entry)))) o (pathIn (now (path .entry)))) ⌝ }
+{
+    let mut i = from;
+    while i < n {
+        let rule = row_at(policy, RULE, i);
+        if may_match(&rule[STEPS_AT..], path) {
+            return i;
+        }
+        i += 1;
+    }
+    i
+}
+
 // Who may read a path: a mask, whose bit at a user's place is set where that user may. Lines that match for nobody are passed over once, not for each user; who holds a key of the path is found out once, not for each line, and what is found out is kept.
 pub fn readers_by(found: &mut [u64; MAX_DEPTH], tables: &[u8; TABLES], path: &[u8]) -> u32
     requires { ⌜ pathSlot ≤ length (now path) ⌝ }
@@ -130,15 +150,12 @@ pub fn readers_by(found: &mut [u64; MAX_DEPTH], tables: &[u8; TABLES], path: &[u
     let policy = policy_of(tables);
     let n = row_count(policy, RULE, RULES);
     let mut mask: u32 = 0;
-    let mut i: usize = 0;
+    let mut i = next_line(policy, n, 0, path);
     while i < n {
         let rule = row_at(policy, RULE, i);
-        let steps = &rule[STEPS_AT..];
-        if may_match(steps, path) {
-            let able = candidates(found, tables, users, steps, path);
-            mask = with_readers(mask, able, tables, rule, path);
-        }
-        i += 1;
+        let able = candidates(found, tables, users, &rule[STEPS_AT..], path);
+        mask = with_readers(mask, able, tables, rule, path);
+        i = next_line(policy, n, i + 1, path);
     }
     mask
 }

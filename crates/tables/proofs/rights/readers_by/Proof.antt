@@ -1,21 +1,23 @@
--- Each turn leaves, for the users whose bit is not set, the question for the lines behind the one that it asked.
-use Prim.Native.Nat.{_-_, _^_, _≤_, _<_}
-use mathlib.Core.Path.{sym, _∙_}
-use mathlib.Core.Logic.{⊎-elim}
+-- Each turn leaves, for the users whose bit is not set, the question for the lines behind the one that it asked, up to the next that may match.
+use Prim.Native.Nat.{_+_, _-_, _^_, _≤_, _<_}
+use mathlib.Core.Path.{_≡_, sym, _∙_}
+use mathlib.Core.Bool.{true}
 use borrow.Author.Needs.{needs}
 use Rattle.rows.proofs.Parts.{tail-part}
 use Rattle.model.specs.Limits.{maxUsers}
 use Rattle.paths.specs.Layout.{pathIn}
-use Rattle.tables.specs.Memory.{pathAt, usersIn, ruleIn}
+use Rattle.matching.specs.Parts.{mayMatch}
+use Rattle.tables.specs.Memory.{pathAt, usersIn, ruleIn, ruleAt}
 use Rattle.tables.specs.Grants.{Found}
 use Rattle.tables.proofs.Policy.{rule-inside}
-use Rattle.tables.proofs.Given.{ReadersLeft, readers-start, readers-end, readers-same, readers-more}
+use Rattle.tables.proofs.Given.{ReadersLeft, readers-start, readers-end, readers-on, readers-more}
 use Rattle.tables.proofs.rights.readers_by.Statement.{statement}
 use Rattle.tables.proofs.rights.readers_by.Tie as tie
 
 abbrev Inv-loop : tie.InvT-loop
 Inv-loop found₀ tables path users policy n mask₀ i₀ found mask i =
     (i ≤ n) × (mask < 2 ^ maxUsers) × Found (usersIn tables) (pathIn path) found × ReadersLeft tables policy (pathIn path) i mask
+    × (i < n → mayMatch (ruleAt i policy .path) (pathIn path) ≡ true)
 
 abbrev μ-loop : tie.MeasureT-loop
 μ-loop found₀ tables path users policy n mask₀ i₀ found mask i = n - i
@@ -29,60 +31,71 @@ policy-of-requires c κs = search needs
 row-count-requires-2 : tie.Need-row-count-requires-2 Inv-loop μ-loop
 row-count-requires-2 c κs = search needs
 
+next-line-requires : tie.Need-next-line-requires Inv-loop μ-loop
+next-line-requires c κs = (search needs, search needs, c .row-count2 .ensures, search needs)
+
 loop-holds : tie.Need-loop-holds Inv-loop μ-loop
-loop-holds c = (search needs, search needs, c .before .before .before .before .before .before .pre .1, readers-start _ _ _ (c .before .policy-of .ensures .0))
+loop-holds c =
+    let next = c .next-line .ensures in (
+      next .0 .1,
+      search needs,
+      c .before .before .before .before .before .before .before .pre .1,
+      readers-on _ _ _ (c .before .row-count2 .ensures) 0 0 (readers-start _ _ _ (c .before .before .policy-of .ensures .0)) _ (next .1 .1),
+      next .1 .0,
+    )
 
 row-at-requires : tie.Need-row-at-requires Inv-loop μ-loop
-row-at-requires c κs = rule-inside _ (c .before .before .row-count2 .ensures) (c .before .loop .i) (c .loop-test .taken) (search needs)
+row-at-requires c κs = rule-inside _ (c .before .before .before .row-count2 .ensures) (c .before .loop .i) (c .loop-test .taken) (search needs)
 
-sub-steps : tie.Need-sub-steps Inv-loop μ-loop
-sub-steps c = search needs
+sub-candidates : tie.Need-sub-candidates Inv-loop μ-loop
+sub-candidates c = search needs
 
-part-steps-start : tie.Need-part-steps-start Inv-loop μ-loop
-part-steps-start c = search needs
+part-candidates-start : tie.Need-part-candidates-start Inv-loop μ-loop
+part-candidates-start c = search needs
 
-part-steps-end : tie.Need-part-steps-end Inv-loop μ-loop
-part-steps-end c = search needs
-
-may-match-requires : tie.Need-may-match-requires Inv-loop μ-loop
-may-match-requires c κs = search needs
+part-candidates-end : tie.Need-part-candidates-end Inv-loop μ-loop
+part-candidates-end c = search needs
 
 candidates-requires : tie.Need-candidates-requires Inv-loop μ-loop
+unfolding ruleIn
 candidates-requires c κs =
-    let k = c .before .before in
-    let l = k .before .before .before .before in
-    ((search needs, search needs, l .before .before .before .before .row-count .ensures), (sym (k .may-match .ensures) ∙ c .before .if1 .taken, l .loop .inv .2))
+    let row = c .before .before in
+    let l = row .before .before in
+    let count = l .before .before .before .before .before in
+    let may = l .loop .inv .4 (row .before .loop-test .taken) in
+    ((search needs, count .before .before .before .pre .0, count .row-count .ensures), (rw (tail-part pathAt _, row .row-at .ensures .0) may, l .loop .inv .2))
 
 with-readers-requires : tie.Need-with-readers-requires Inv-loop μ-loop
 unfolding ruleIn
 with-readers-requires c κs =
-    let k = c .before .before .before in
-    let start = k .before .before .before .before .before .before .before .before .before .before .before in
-    let may = rw (tail-part pathAt _) at (sym (k .may-match .ensures) ∙ c .before .before .if1 .taken) in
-    ((k .before .before .row-at .ensures .1, start .pre .0), (may, rw (tail-part pathAt _) at (c .candidates .ensures .0)))
+    let row = c .before .before .before in
+    let l = row .before .before in
+    let start = l .before .before .before .before .before .before .before .before in
+    let may = l .loop .inv .4 (row .before .loop-test .taken) in
+    ((row .row-at .ensures .1, start .pre .0), (rw (row .row-at .ensures .0) may, rw (tail-part pathAt _) at (c .candidates .ensures .0)))
 
-add-i : tie.Need-add-i Inv-loop μ-loop
-add-i c = search needs
+add-next-line : tie.Need-add-next-line Inv-loop μ-loop
+add-next-line c = search needs
+
+next-line-requires-2 : tie.Need-next-line-requires-2 Inv-loop μ-loop
+next-line-requires-2 c κs = (search needs, search needs, c .before .before .before .before .before .before .before .before .row-count2 .ensures, search needs)
 
 loop-less : tie.Need-loop-less Inv-loop μ-loop
 loop-less c = search needs
 
 loop-again : tie.Need-loop-again Inv-loop μ-loop
 loop-again c =
-    let k = c .before .before .before in
-    let l = k .before .before .loop in
-    let count = k .before .before .before .row-count2 .ensures in
-    let test = k .before .loop-test .taken in
-    let row = k .row-at .ensures .0 in
-    ⊎-elim
-    (λ w. (search needs, search needs, rw (w .4) (w .2 .ensures .1), rw (w .5) (readers-more _ _ _ count (l .i) (l .mask) (l .inv .3) test row _ (w .3 .ensures))))
-    (λ w. (search needs, search needs, rw (w .1) (l .inv .2), rw (w .2) (readers-same _ _ _ count (l .i) (l .mask) (l .inv .3) test row (sym (c .before .may-match .ensures) ∙ w .0 .left))))
-    (c .if1 .came)
+    let next = c .next-line2 .ensures in
+    let row = c .before .before .before .before .before in
+    let l = row .before .before .loop in
+    let count = row .before .before .before .before .row-count2 .ensures in
+    let asked = readers-more _ _ _ count (l .i) (l .mask) (l .inv .3) (row .before .loop-test .taken) (row .row-at .ensures .0) _ (c .before .with-readers .ensures) in
+    (next .0 .1, search needs, c .before .before .candidates .ensures .1, readers-on _ _ _ count (l .i + 1) _ asked _ (next .1 .1), next .1 .0)
 
 returns : tie.Need-returns Inv-loop μ-loop
 returns c =
     let l = c .before .loop in
-    (readers-end _ _ _ (c .before .before .row-count2 .ensures) (l .i) (l .mask) (l .inv .3) (search needs) (search needs), l .inv .2)
+    (readers-end _ _ _ (c .before .before .before .row-count2 .ensures) (l .i) (l .mask) (l .inv .3) (search needs) (search needs), l .inv .2)
 
 pub readers-by-spec : {M : Type 1} → statement M
 readers-by-spec =
@@ -93,15 +106,16 @@ readers-by-spec =
     row-count-requires
     policy-of-requires
     row-count-requires-2
+    next-line-requires
     loop-holds
     row-at-requires
-    sub-steps
-    part-steps-start
-    part-steps-end
-    may-match-requires
+    sub-candidates
+    part-candidates-start
+    part-candidates-end
     candidates-requires
     with-readers-requires
-    add-i
+    add-next-line
+    next-line-requires-2
     loop-less
     loop-again
     returns)
