@@ -159,12 +159,12 @@ admits-unasked bs (paths.names ns) k h = refl
 admits-unasked bs paths.wildcard k h = refl
 admits-unasked bs (paths.environment o n) k h = never h
 
--- one that asks them is not met where no line has the key as its value
-unmet : (bs : List Binding) (t : Step) (k : Bytes) → asks t ≡ true → hasValue bs k ≡ false → isMet bs t k ≡ false
-unfolding asks isMet
-unmet bs (paths.names ns) k a h = never (sym a)
-unmet bs paths.wildcard k a h = never (sym a)
-unmet bs (paths.environment o n) k a h = admits-held bs o n k h
+-- one that asks them does not admit what no line has as its value
+admits-unheld : (bs : List Binding) (t : Step) (k : Bytes) → asks t ≡ true → hasValue bs k ≡ false → admits bs t k ≡ false
+unfolding asks
+admits-unheld bs (paths.names ns) k a h = never (sym a)
+admits-unheld bs paths.wildcard k a h = never (sym a)
+admits-unheld bs (paths.environment o n) k a h = admits-held bs o n k h
 
 -- ── A policy path and a field's path, from the step i on ──
 module _ (test : Step → Bytes → Bool) where
@@ -174,15 +174,6 @@ module _ (test : Step → Bytes → Bool) where
   paired-lengths [] (k ∷ ks) h = never (sym h)
   paired-lengths (t ∷ ts) [] h = never (sym h)
   paired-lengths (t ∷ ts) (k ∷ ks) h = ap suc (paired-lengths ts ks (and-both (test t k) (paired test ts ks) h .1))
-
-  -- what fails from a step on fails from the first
-  paired-later : (ts : Steps) (ks : Keys) (i : ℕ) → paired test (drop i ts) (drop i ks) ≡ false → paired test ts ks ≡ false
-  unfolding paired
-  paired-later ts ks zero h = h
-  paired-later [] [] (suc i) h = h
-  paired-later [] (k ∷ ks) (suc i) h = refl
-  paired-later (t ∷ ts) [] (suc i) h = refl
-  paired-later (t ∷ ts) (k ∷ ks) (suc i) h = rw (paired-later ts ks i h) (and-false (test t k))
 
   module _ (s slot : Bytes) where
     pub paired-counts : paired test (stepsIn s) (pathIn slot) ≡ true → min (getD slot 0 0) maxDepth ≡ min (getD s 0 0) maxDepth
@@ -238,11 +229,10 @@ matches-unasked bs (t ∷ ts) (k ∷ ks) h m =
     rw (admits-unasked bs t k (no .0), may .0) (matches-unasked bs ts ks (no .1) (may .1))
 
 -- where a step asks the lines and none has its key as the value, the path does not match
-pub matches-unheld : (bs : List Binding) (s slot : Bytes) (i : ℕ) {row key : Bytes}
-    → i < min (getD s 0 0) maxDepth → mayMatch (stepsIn s) (pathIn slot) ≡ true
-    → row ≡ take stepRow (drop (i * stepRow + 1) s) → key ≡ nameIn (take keyRow (drop (i * keyRow + 1) slot))
-    → asks (stepIn row) ≡ true → hasValue bs key ≡ false → matches bs (stepsIn s) (pathIn slot) ≡ false
-unfolding mayMatch
-matches-unheld bs s slot i {row} {key} h m e k a v =
-    let step = paired-step (isMet bs) s slot i h (omega (arith, paired-counts mayAdmit s slot m)) e k (sym (unmet bs (stepIn row) key a v)) in
-    matches-met bs (stepsIn s) (pathIn slot) m ∙ paired-later (isMet bs) (stepsIn s) (pathIn slot) i step
+pub matches-unheld : (bs : List Binding) (ts : Steps) (ks : Keys) (i : ℕ) (z : Step) → i < length ts → asks (getD ts i z) ≡ true → hasValue bs (getD ks i []) ≡ false
+    → matches bs ts ks ≡ false
+unfolding matches
+matches-unheld bs [] ks i z h a v = absurd (omega arith)
+matches-unheld bs (t ∷ ts) [] i z h a v = refl
+matches-unheld bs (t ∷ ts) (k ∷ ks) zero z h a v = rw (admits-unheld bs t k a v)
+matches-unheld bs (t ∷ ts) (k ∷ ks) (suc i) z h a v = rw (matches-unheld bs ts ks i z (omega arith) a v) (and-false (admits bs t k))

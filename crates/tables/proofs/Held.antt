@@ -2,19 +2,17 @@
 use Prim.Native.Nat.{ℕ, zero, suc, _+_, _*_, _^_, _≤_, _<_, min}
 use mathlib.Core.Path.{_≡_, refl, sym, _∙_}
 use mathlib.Core.Bool.{Bool, true, false, _&&_, _||_}
-use mathlib.Core.Option.{some}
 use mathlib.Core.List.{List, [], _∷_}
 use native.Mathlib.Omega.{arith}
 use borrow.Author.Tests.{eqb-true, eqb-false, ltb-true, ltb-false}
 use lib.Dec.{eqb, ltb}
 use lib.ListN.{length, getD, take, drop, set, replicate, getD-replicate, length-replicate, length-set}
 use lib.Seq.{getD-set-same, getD-set-other}
-use Rattle.model.specs.Base.{Bytes, if_then_else_, _==_}
+use Rattle.model.specs.Base.{Bytes, _==_}
 use Rattle.model.specs.Limits.{maxDepth, maxUsers}
 use Rattle.model.specs.Fields.{Keys}
-use Rattle.model.specs.Paths.{Steps}
+use Rattle.model.specs.Paths.{Steps, wildcard}
 use Rattle.model.specs.Tables.{User, userAt}
-use Rattle.model.specs.Rights.{matches}
 use Rattle.model.proofs.Lists.{by-cases, and-both, bytes-eq}
 use Rattle.masks.specs.Bits.{bitAt}
 use Rattle.masks.proofs.Bits.{bit-none, SetBelow, below-set, below-skip, below-end}
@@ -53,14 +51,10 @@ module _ (s v : Bytes) {m : ℕ} (counted : m ≡ userCount s) (j mask : ℕ) (l
       below-end (λ k. holdsValue v (userAt (usersIn s) k)) 0 j mask left (λ k l. rw (user-none s counted k (omega arith))) k ∙ rw (bit-none k)
 
 -- ── Who holds the keys of a path ──
--- the key at i stands in a row
-pub key-row : (s : Bytes) (i : ℕ) → i < length (pathIn s) → i < min (getD s 0 0) maxDepth
+-- the key in the row at i
+pub key-is : (s : Bytes) (i : ℕ) → i < min (getD s 0 0) maxDepth → {key : Bytes} → key ≡ nameIn (take keyRow (drop (i * keyRow + 1) s)) → key ≡ getD (pathIn s) i []
 unfolding pathIn
-key-row s i h = rw length-counted at h
-
-pub key-is : (s : Bytes) (i : ℕ) → i < length (pathIn s) → {key : Bytes} → key ≡ nameIn (take keyRow (drop (i * keyRow + 1) s)) → key ≡ getD (pathIn s) i []
-unfolding pathIn
-key-is s i h e = e ∙ sym (counted-at nameIn keyRow maxDepth s i [] (key-row s i h))
+key-is s i h e = e ∙ sym (counted-at nameIn keyRow maxDepth s i [] h)
 
 module _ (us : List User) (p : Keys) where
   -- nothing was found out yet
@@ -88,74 +82,62 @@ shared-key (k ∷ p) [] j h = absurd (omega arith)
 shared-key (k ∷ p) (l ∷ q) zero h = by-cases (k == l) (λ e. bytes-eq k l e) (λ e. absurd (omega (arith, rw e at h)))
 shared-key (k ∷ p) (l ∷ q) (suc j) h = by-cases (k == l) (λ e. shared-key p q j (omega (arith, rw e at h))) (λ e. absurd (omega (arith, rw e at h)))
 
--- the first n are as they were, and those from there to i are forgotten
+-- what is known was known before, and of those below i only the first n are
 pub record KeptFirst (n : ℕ) (before : List ℕ) (i : ℕ) (found : List ℕ) : Type 0 where
   pub long : length found ≡ maxDepth
-  pub kept : (j : ℕ) → j < n → getD found j 0 ≡ getD before j 0
-  pub forgotten : (j : ℕ) → n ≤ j → j < i → getD found j 0 ≡ 2 ^ maxUsers
+  pub known : (j : ℕ) → getD found j 0 < 2 ^ maxUsers → (getD found j 0 ≡ getD before j 0) × (j < i → j < n)
 
 module _ (n : ℕ) (before : List ℕ) where
   pub kept-all : length before ≡ maxDepth → KeptFirst n before n before
-  kept-all h = record { long = h; kept = λ j l. refl; forgotten = λ j l m. absurd (omega arith) }
+  kept-all h = record { long = h; known = λ j small. (refl, λ l. l) }
 
   module _ (i : ℕ) (found : List ℕ) (left : KeptFirst n before i found) where
-    pub kept-next : n ≤ i → i < maxDepth → KeptFirst n before (i + 1) (set found i (2 ^ maxUsers))
-    kept-next h l = record {
+    pub kept-next : i < maxDepth → KeptFirst n before (i + 1) (set found i (2 ^ maxUsers))
+    kept-next h = record {
       long = simp length-set (left .long);
-      kept = λ j b. getD-set-other found i j (2 ^ maxUsers) 0 (λ e. omega arith) ∙ left .kept j b;
-      forgotten = λ j b c. by-cases (eqb j i)
-          (λ q. let is : j ≡ i = eqb-true j i q in rw is (getD-set-same found i (2 ^ maxUsers) 0 (omega (arith, left .long))))
-          (λ q. let d = eqb-false j i q in getD-set-other found i j (2 ^ maxUsers) 0 d ∙ left .forgotten j b (omega arith));
+      known = λ j small. by-cases (eqb j i)
+          (λ q. let is : j ≡ i = eqb-true j i q in absurd (omega (arith, rw is at small, getD-set-same found i (2 ^ maxUsers) 0 (omega (arith, left .long)))))
+          (λ q.
+          let d = eqb-false j i q in
+          let other = getD-set-other found i j (2 ^ maxUsers) 0 d in
+          let (same, first) = left .known j (rw other at small) in
+          (other ∙ same, λ l. first (omega arith)));
     }
 
     pub kept-end : maxDepth ≤ i → (us : List User) (p q : Keys) → n ≤ shared p q → Found us p before → Found us q found
     kept-end h us p q same was = record {
       long = left .long;
-      holders = λ j below small k. by-cases (ltb j n)
-          (λ l. let first = ltb-true j n l in
-          rw (left .kept j first, ← shared-key p q j (omega arith)) (was .holders j below (rw (left .kept j first) at small) k))
-          (λ l. absurd (omega (arith, left .forgotten j (ltb-false j n l) (omega arith))));
+      holders = λ j below small k.
+          let (is, first) = left .known j small in
+          rw (is, ← shared-key p q j (omega (arith, first (omega arith)))) (was .holders j below (rw is at small) k);
     }
 
 -- ── A mask that leaves out nobody for whom the steps match the path ──
-module _ (s : Bytes) (ts : Steps) (p : Keys) where
-  -- all users
-  pub covers-all : {m : ℕ} → m ≡ userCount s → (mask : ℕ) → ((k : ℕ) → bitAt mask k ≡ ltb k m) → Covers (usersIn s) ts p mask
-  unfolding usersIn
-  covers-all {m} counted mask e = record {
-    users = λ k b. omega (arith, ltb-true k m (sym (e k) ∙ b), length-table userIn userRow maxUsers s);
-    all = λ k u is b. let nobody = user-none s counted k (ltb-false k m (sym (e k) ∙ b)) in cc;
-  }
+-- all users
+pub covers-all : (s : Bytes) (ts : Steps) (p : Keys) {m : ℕ} → m ≡ userCount s → (mask : ℕ) → ((k : ℕ) → bitAt mask k ≡ ltb k m) → Covers (usersIn s) ts p mask
+unfolding usersIn
+covers-all s ts p {m} counted mask e = record {
+  users = λ k b. omega (arith, ltb-true k m (sym (e k) ∙ b), length-table userIn userRow maxUsers s);
+  all = λ k u is b. let nobody = user-none s counted k (ltb-false k m (sym (e k) ∙ b)) in cc;
+}
 
-  -- those of them who are in another mask, in which everybody is for whom the steps match
-  pub covers-both : (mask held new : ℕ) → Covers (usersIn s) ts p mask → ((k : ℕ) → bitAt new k ≡ (bitAt mask k && bitAt held k))
-      → ((k : ℕ) (u : User) → userAt (usersIn s) k ≡ some u → bitAt held k ≡ false → matches (u .environment) ts p ≡ false) → Covers (usersIn s) ts p new
-  covers-both mask held new c e out = record {
-    users = λ k b. c .users k (and-both (bitAt mask k) (bitAt held k) (sym (e k) ∙ b) .0);
-    all = λ k u is b. by-cases (bitAt mask k) (λ y. out k u is (sym (rw y at (e k)) ∙ b)) (λ n. c .all k u is n);
-  }
-
--- ── A policy path, the bytes q, and a field's path, the bytes f, that it may match ──
--- the step at i stands in a row
-pub step-row : (q : Bytes) (i : ℕ) → i < length (stepsIn q) → i < min (getD q 0 0) maxDepth
-unfolding stepsIn
-step-row q i h = rw length-counted at h
-
-pub step-inside : (q : Bytes) (i : ℕ) → i < min (getD q 0 0) maxDepth → i < length (stepsIn q)
-unfolding stepsIn
-step-inside q i h = rw length-counted h
-
-module _ (q f : Bytes) (may : mayMatch (stepsIn q) (pathIn f) ≡ true) (i : ℕ) (inside : i < length (stepsIn q)) where
-  -- and there is a key for it
-  pub key-beside : i < length (pathIn f)
-  unfolding mayMatch pathIn
-  key-beside = rw length-counted (omega (arith, step-row q i inside, paired-counts mayAdmit q f may))
+-- a policy path, the bytes q, and a field's path, the bytes f, that it may match
+module _ (q f : Bytes) (may : mayMatch (stepsIn q) (pathIn f) ≡ true) (i : ℕ) (inside : i < min (getD q 0 0) maxDepth) where
+  -- there is a key for the step at i
+  pub key-beside : i < min (getD f 0 0) maxDepth
+  unfolding mayMatch
+  key-beside = omega (arith, paired-counts mayAdmit q f may)
 
   -- it asks the lines: of those who were not left out, those who hold the key
   pub covers-held : (s : Bytes) {row : Bytes} → row ≡ take stepRow (drop (i * stepRow + 1) q) → asks (stepIn row) ≡ true
       → (mask held new : ℕ) → Covers (usersIn s) (stepsIn q) (pathIn f) mask → ((k : ℕ) → bitAt new k ≡ (bitAt mask k && bitAt held k))
       → ((k : ℕ) → bitAt held k ≡ holdsValue (getD (pathIn f) i []) (userAt (usersIn s) k)) → Covers (usersIn s) (stepsIn q) (pathIn f) new
-  unfolding holdsValue
+  unfolding holdsValue stepsIn
   covers-held s here ask mask held new c e holds =
-      covers-both s (stepsIn q) (pathIn f) mask held new c e
-      (λ k u is out. matches-unheld (u .environment) q f i (step-row q i inside) may here (sym (key-is f i key-beside refl)) ask (sym (rw is at (holds k)) ∙ out))
+      let step : asks (getD (stepsIn q) i wildcard) ≡ true = rw (counted-at stepIn stepRow maxDepth q i wildcard inside, ← here) ask in
+      record {
+        users = λ k b. c .users k (and-both (bitAt mask k) (bitAt held k) (sym (e k) ∙ b) .0);
+        all = λ k u is b. by-cases (bitAt mask k)
+            (λ y. let out = sym (rw is at (holds k)) ∙ sym (rw y at (e k)) ∙ b in matches-unheld (u .environment) (stepsIn q) (pathIn f) i wildcard (rw length-counted inside) step out)
+            (λ n. c .all k u is n);
+      }

@@ -17,7 +17,7 @@ use steps::policy::STEP;
 ghost use mathlib.Core.Path.{_≡_};
 ghost use mathlib.Core.Bool.{true};
 ghost use mathlib.Core.List.{List, []};
-ghost use Prim.Native.Nat.{ℕ, _≤_, _<_};
+ghost use Prim.Native.Nat.{ℕ, _≤_, _<_, min};
 ghost use lib.ListN.{length, getD};
 ghost use Rattle.model.specs.Limits.{maxDepth};
 ghost use Rattle.model.specs.Fields.{Keys};
@@ -69,7 +69,7 @@ fn holders_at(
     path: &[u8],
     i: usize,
 ) -> u32
-    requires { ⌜ (pathSlot ≤ length (now path)) × (i < length (pathIn (now path))) × (n ≡ userCount (now tables)) ⌝ }
+    requires { ⌜ (pathSlot ≤ length (now path)) × (i < min (getD (now path) 0 0) maxDepth) × (n ≡ userCount (now tables)) ⌝ }
     requires { ⌜ Found (usersIn (now tables)) (pathIn (now path)) (now found) ⌝ }
     ensures { λ r. ⌜ ((k : ℕ) → bitAt r k ≡ holdsValue (getD (pathIn (now (path .entry))) i []) (userAt (usersIn (now (tables .entry))) k)) ⌝ }
     ensures { λ _. ⌜ Found (usersIn (now (tables .entry))) (pathIn (now (path .entry))) (now (found .exit)) ⌝ }
@@ -94,7 +94,7 @@ fn admitted(
     i: usize,
 ) -> u32
     requires { ⌜ (stepsSlot ≤ length (now steps)) × (pathSlot ≤ length (now path)) × (n ≡ userCount (now tables)) ⌝ }
-    requires { ⌜ (mayMatch (stepsIn (now steps)) (pathIn (now path)) ≡ true) × (i < length (stepsIn (now steps))) ⌝ }
+    requires { ⌜ (mayMatch (stepsIn (now steps)) (pathIn (now path)) ≡ true) × (i < min (getD (now steps) 0 0) maxDepth) ⌝ }
     requires { ⌜ Found (usersIn (now tables)) (pathIn (now path)) (now found) ⌝ }
     requires { ⌜ Covers (usersIn (now tables)) (stepsIn (now steps)) (pathIn (now path)) mask ⌝ }
     ensures { λ r. ⌜ Covers (usersIn (now (tables .entry))) (stepsIn (now (steps .entry))) (pathIn (now (path .entry))) r ⌝ }

@@ -1,16 +1,13 @@
 -- A step that asks no line leaves out nobody; of one that does, nobody is met who has no line with the key.
-use mathlib.Core.Path.{_≡_, sym, _∙_}
-use native.Mathlib.Omega.{arith}
+use mathlib.Core.Path.{sym, _∙_}
 use borrow.Author.Tests.{not-false}
 use borrow.Author.Needs.{needs}
-use Rattle.tables.proofs.Held.{step-row, key-beside, covers-held}
+use Rattle.tables.proofs.Held.{key-beside, covers-held}
 use Rattle.tables.proofs.candidates.admitted.Statement.{statement}
 use Rattle.tables.proofs.candidates.admitted.Tie as tie
 
 row-at-requires : tie.Need-row-at-requires
-row-at-requires c κs =
-    let start = c .before .before in
-    omega (arith, start .pre .0 .0, step-row _ _ (start .pre .1 .0 .1))
+row-at-requires c κs = search needs
 
 asks-requires : tie.Need-asks-requires
 asks-requires c κs = c .row-at .ensures .1

@@ -1,6 +1,5 @@
 -- At first all users are there; each turn leaves out those whom one step more does not admit.
 use Prim.Native.Nat.{_-_, _≤_}
-use native.Mathlib.Omega.{arith}
 use borrow.Author.Needs.{needs}
 use Rattle.model.specs.Limits.{maxUsers}
 use Rattle.layout.proofs.Used.{counted-fit}
@@ -8,7 +7,7 @@ use Rattle.paths.specs.Layout.{pathIn}
 use Rattle.steps.specs.Steps.{stepsIn}
 use Rattle.tables.specs.Memory.{userRow, usersIn}
 use Rattle.tables.specs.Grants.{Found, Covers}
-use Rattle.tables.proofs.Held.{covers-all, step-inside}
+use Rattle.tables.proofs.Held.{covers-all}
 use Rattle.tables.proofs.candidates.candidates.Statement.{statement}
 use Rattle.tables.proofs.candidates.candidates.Tie as tie
 
@@ -37,7 +36,7 @@ admitted-requires c κs =
     let l = c .before .before .loop in
     let k = c .before .before .before .before in
     let start = k .before .before .before in
-    (start .pre .0, ((start .pre .1 .0, step-inside _ _ (omega (arith, k .count .ensures, c .before .loop-test .taken))), (l .inv .1, l .inv .2)))
+    (start .pre .0, ((start .pre .1 .0, search needs), (l .inv .1, l .inv .2)))
 
 add-i : tie.Need-add-i Inv-loop μ-loop
 add-i c = search needs
