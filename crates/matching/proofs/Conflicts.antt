@@ -5,16 +5,13 @@ use mathlib.Core.Bool.{Bool, true, false, _&&_, and-false, or-false}
 use mathlib.Core.List.{List, [], _∷_}
 use mathlib.Core.Logic.{inl, inr}
 use native.Mathlib.Omega.{arith}
-use lib.Dec.{ltb}
 use lib.ListN.{length, getD, take, drop}
 use types.Run.{OneOf}
 use denote.Enum.Declared.{tagOf}
-use borrow.Author.Tests.{ltb-true, ltb-false}
 use Rattle.model.specs.Limits.{maxDepth}
 use Rattle.model.specs.Base.{Bytes, any, among}
 use Rattle.model.specs.Paths.{Step, Steps, names, wildcard, environment}
 use Rattle.model.specs.Rights.{overlap, isAbove, conflict}
-use Rattle.model.proofs.Lists.{by-cases}
 use Rattle.steps.specs.Steps.{stepRow, namesIn, byKind, kindOf, stepIn, stepsIn}
 use Rattle.steps.specs.declared.step.Kind.{Kind}
 use Rattle.steps.specs.declared.step.Kind.the-variants.{Names, Wildcard, Environment}
@@ -61,10 +58,6 @@ module _ (x y : Bytes) where
 
 -- ── Whether a path is above another, from the step i on ──
 module _ (a b : Bytes) (i : ℕ) where
-  pub above-longer : i < min (getD a 0 0) maxDepth → min (getD b 0 0) maxDepth ≤ i → isAbove (drop i (stepsIn a)) (drop i (stepsIn b)) ≡ false
-  unfolding stepsIn isAbove
-  above-longer p q = rw (counted-step stepIn stepRow maxDepth a i p, counted-over stepIn stepRow maxDepth b i q)
-
   -- the steps in the rows x and y at i overlap, or not
   pub above-step : {x y : Bytes} {r : Bool} → i < min (getD a 0 0) maxDepth → i < min (getD b 0 0) maxDepth
       → x ≡ take stepRow (drop (i * stepRow + 1) a) → y ≡ take stepRow (drop (i * stepRow + 1) b) → r ≡ overlap (stepIn x) (stepIn y)
@@ -72,12 +65,10 @@ module _ (a b : Bytes) (i : ℕ) where
   unfolding stepsIn isAbove
   above-step p q e f t = rw (counted-step stepIn stepRow maxDepth a i p, counted-step stepIn stepRow maxDepth b i q, t, e, f)
 
-  -- where the first ends, the second must go on
-  pub above-end : i ≡ min (getD a 0 0) maxDepth → isAbove (drop i (stepsIn a)) (drop i (stepsIn b)) ≡ ltb (min (getD a 0 0) maxDepth) (min (getD b 0 0) maxDepth)
+  -- the first ends, and the second goes on
+  pub above-end : min (getD a 0 0) maxDepth ≤ i → i < min (getD b 0 0) maxDepth → isAbove (drop i (stepsIn a)) (drop i (stepsIn b)) ≡ true
   unfolding stepsIn isAbove
-  above-end p = by-cases (ltb (min (getD a 0 0) maxDepth) (min (getD b 0 0) maxDepth))
-      (λ e. rw (counted-over stepIn stepRow maxDepth a i (omega arith), counted-step stepIn stepRow maxDepth b i (omega (arith, ltb-true)), e))
-      (λ e. rw (counted-over stepIn stepRow maxDepth a i (omega arith), counted-over stepIn stepRow maxDepth b i (omega (arith, ltb-false)), e))
+  above-end p q = rw (counted-over stepIn stepRow maxDepth a i p, counted-step stepIn stepRow maxDepth b i q)
 
 -- ── Only a shorter path is above another ──
 not-above : (p q : Steps) → length q ≤ length p → isAbove p q ≡ false

@@ -13,9 +13,10 @@ use steps::step::Kind;
 use steps::step::Step;
 use steps::step::one_name;
 ghost use mathlib.Core.Path.{_≡_};
-ghost use Prim.Native.Nat.{_≤_};
-ghost use lib.ListN.{length};
+ghost use Prim.Native.Nat.{_≤_, _<_, min};
+ghost use lib.ListN.{length, getD};
 ghost use Rattle.model.specs.Base.{any, among};
+ghost use Rattle.model.specs.Limits.{maxDepth};
 ghost use Rattle.model.specs.Paths.{asSteps};
 ghost use Rattle.model.specs.Rights.{overlap, isAbove, conflict};
 ghost use Rattle.paths.specs.Layout.{pathSlot, pathIn};
@@ -51,25 +52,20 @@ fn overlap(a: &[u8], b: &[u8]) -> bool
     share(&a[1..], &b[1..])
 }
 
-// Whether the first path is shorter and its steps overlap the second's.
-fn is_above(a: &[u8], b: &[u8]) -> bool
+// Whether the steps of a path, m of them, overlap those of a longer one.
+fn is_above(a: &[u8], m: usize, b: &[u8]) -> bool
     requires { ⌜ (stepsSlot ≤ length (now a)) × (stepsSlot ≤ length (now b)) ⌝ }
+    requires { ⌜ (m ≡ min (getD (now a) 0 0) maxDepth) × (m < min (getD (now b) 0 0) maxDepth) ⌝ }
     ensures { λ r. ⌜ r ≡ isAbove (stepsIn (now (a .entry))) (stepsIn (now (b .entry))) ⌝ }
 {
-    let m = count(a, MAX_DEPTH);
-    let n = count(b, MAX_DEPTH);
     let mut i = 0;
     while i < m {
-        if n <= i {
+        if !overlap(row_at(a, STEP, i), row_at(b, STEP, i)) {
             return false;
         }
-        if overlap(row_at(a, STEP, i), row_at(b, STEP, i)) {
-            i += 1;
-        } else {
-            return false;
-        }
+        i += 1;
     }
-    m < n
+    true
 }
 
 // Whether the paths are in conflict. Only the shorter can be above the other: paths of equal length never conflict, so most lines need no look at their steps.
@@ -80,10 +76,10 @@ pub fn conflict(a: &[u8], b: &[u8]) -> bool
     let m = count(a, MAX_DEPTH);
     let n = count(b, MAX_DEPTH);
     if m < n {
-        return is_above(a, b);
+        return is_above(a, m, b);
     }
     if n < m {
-        return is_above(b, a);
+        return is_above(b, n, a);
     }
     false
 }
