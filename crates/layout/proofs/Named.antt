@@ -1,17 +1,14 @@
--- A name in a row of w bytes and one that says how many: how it is written, how it is read back, and what it leaves as it was.
+-- A name in a row of w bytes and one that says how many: how it is written, and how it is read back.
 use Prim.Native.Nat.{ℕ, _+_, _-_, _≤_, _<_, min}
-use mathlib.Core.Path.{_≡_, ap, _∙_}
-use mathlib.Core.Bool.{false}
+use mathlib.Core.Path.{_≡_, _∙_}
 use mathlib.Core.List.{List, [], _∷_, _++_}
 use native.Mathlib.Omega.{arith}
-use borrow.Author.Tests.{ne-eqb}
-use lib.ListN.{length, getD, take, drop, length-take, length-drop, length-append}
-use lib.Seq.{take-all, take-at, drop-drop, getD-take}
-use Rattle.rows.specs.Rows.{replaced, written}
-use Rattle.rows.proofs.Parts.{length-part, part-replaced, after-replaced, length-replaced}
+use lib.ListN.{length, getD, take, length-take, length-drop, length-append}
+use lib.Seq.{take-all, take-at}
+use Rattle.rows.specs.Rows.{written}
 use Rattle.rows.proofs.Writing.{written-clipped, length-written}
 use Rattle.model.specs.Base.{Bytes}
-use Rattle.layout.specs.Layout.{isEmpty, nameIn}
+use Rattle.layout.specs.Layout.{nameIn}
 
 -- a name has at most as many bytes as its row has room for
 pub name-length : (w : ℕ) {name : Bytes} (row : Bytes) → name ≡ nameIn row → length row ≤ 1 + w → length name ≤ w
@@ -41,31 +38,3 @@ named w name old l e =
       is = rw (written-clipped, all) (take-at (take w name) _ n (simp length-take (omega arith)));
       first = rw (written-clipped, all);
     })
-
--- the same of a row that was lent as a part, from a on
-pub named-part : (w a : ℕ) (name xs : Bytes) {row : Bytes} → a + (1 + w) ≤ length xs
-    → let old = take (1 + w) (drop a xs) in row ≡ written 0 (min (length name) (length old - 1) ∷ take (length old - 1) name) old → Named w name row
-named-part w a name xs inside e = named w name (take (1 + w) (drop a xs)) (length-part a (1 + w) xs inside) e
-
--- it came back in its place, from a on: the name is there, and what is behind it stays
-module _ (w a : ℕ) (xs : Bytes) {name row : Bytes} (n : Named w name row) (inside : a + (1 + w) ≤ length xs) where
-  pub length-named : length (replaced a (1 + w) row xs) ≡ length xs
-  length-named = length-replaced a (1 + w) xs inside row (n .long)
-
-  pub name-there : nameIn (take (1 + w) (drop a (replaced a (1 + w) row xs))) ≡ take w name
-  name-there = rw (part-replaced a (1 + w) xs inside row (n .long)) (n .is)
-
-  pub behind-name : (i : ℕ) → a + (1 + w) ≤ i → drop i (replaced a (1 + w) row xs) ≡ drop i xs
-  behind-name i h =
-      let e : a + (1 + w) + (i - (a + (1 + w))) ≡ i = omega arith in
-      let after = after-replaced a (1 + w) xs inside row (n .long) in
-      rw (← e, ← drop-drop (i - (a + (1 + w))) (a + (1 + w)) (replaced a (1 + w) row xs), after, drop-drop)
-
--- a row that begins with a name of a byte at least is not empty
-pub begins-full : (w : ℕ) (xs : Bytes) {name row : Bytes} → Named w name row → 1 + w ≤ length xs → 0 < w → 0 < length name
-    → isEmpty (replaced 0 (1 + w) row xs) ≡ false
-unfolding isEmpty
-begins-full w xs {name} {row} n h room some =
-    let all = replaced 0 (1 + w) row xs in
-    let e = ap (λ (l : Bytes). getD l 0 0) (part-replaced 0 (1 + w) xs (omega arith) row (n .long)) in
-    ne-eqb (getD all 0 0) 0 (λ z. omega (arith, getD-take (1 + w) all 0 0 (omega arith), e, n .first))

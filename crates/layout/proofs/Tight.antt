@@ -194,9 +194,6 @@ module _ (k n : ℕ) where
           let c : moved ≤ n = omega arith in
           (omega (arith, next-row i k, mul-le-mul-right k a), mul-le-mul-right k b, mul-le-mul-right k c)
 
-      before-long : length before ≡ i * k + k
-      before-long = simp (length-append, length-take) (omega (arith, row-inside k n s fits i below))
-
       inserted-long : length (insertedRow k n i row s) ≡ n * k
       inserted-long = ap length bytes ∙ simp (length-append, length-take, length-drop) (omega (arith, inside, tight-long))
 

@@ -7,7 +7,7 @@ use mathlib.Core.List.{[], _∷_, _++_, append-assoc, append-nil}
 use native.Mathlib.Nat.{add-sub-cancel-left, zero-add}
 use native.Mathlib.Omega.{arith}
 use lib.ListN.{length, getD, take, drop, set, replicate, length-take, length-append, length-replicate}
-use lib.Seq.{take-take, take-at, take-all, take-append-le, take-append-seam, drop-at, drop-drop, set-at, getD-at, getD-take}
+use lib.Seq.{take-at, take-all, take-append-le, take-append-seam, drop-at, drop-drop, set-at, getD-at, getD-take}
 use Rattle.rows.specs.Rows.{replaced, Wrote}
 use Rattle.layout.proofs.Counts.{counted-part}
 use Rattle.layout.proofs.Used.{table-at}
@@ -69,13 +69,6 @@ module _ (s p : Bytes) (same : take pathSlot s ≡ take pathSlot p) where
   pub empty-same : isEmpty s ≡ isEmpty p
   unfolding isEmpty
   empty-same = rw (← getD-take pathSlot s 0 0 (omega arith), same, getD-take pathSlot p 0 0 (omega arith))
-
-pub path-part : (s : Bytes) → pathIn (take pathSlot s) ≡ pathIn s
-path-part s = path-same (take pathSlot s) s (take-take pathSlot pathSlot s (omega arith))
-
--- the path's bytes of the slot at i
-pub path-bytes : (s slot : Bytes) (i : ℕ) → slot ≡ take slotBytes (drop (i * slotBytes) s) → take pathSlot slot ≡ take pathSlot (drop (i * slotBytes) s)
-path-bytes s slot i here = rw here (take-take pathSlot slotBytes (drop (i * slotBytes) s) (omega arith))
 
 -- the slot of a field in use means that field
 pub field-slot : (s slot : Bytes) (i : ℕ) → slot ≡ take slotBytes (drop (i * slotBytes) s) → i < length (fieldsIn s) → fieldIn slot ≡ fieldAt i (fieldsIn s)

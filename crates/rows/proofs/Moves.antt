@@ -7,7 +7,7 @@ use native.Mathlib.Numerals.{add-one}
 use native.Mathlib.Omega.{arith}
 use lib.ListN.{length, getD, take, drop, set, length-take, length-drop, length-append}
 use lib.ListN.{List·getD-append, drop-of-length-le}
-use lib.Seq.{take-suc, take-all, take-length, take-at, length-take-le, drop-cons, drop-at}
+use lib.Seq.{take-suc, take-all, take-length, length-take-le, drop-cons, drop-at}
 use lib.Seq.{append-snoc, set-at, getD-take, getD-drop, getD-append-add}
 use Rattle.rows.specs.Moves.{spliced, movedLater, movedEarlier}
 
@@ -82,9 +82,3 @@ module _ {ℓ} {A : Type ℓ} where
   later-end k i d p q l =
       let e : i ≡ k = omega arith in
       rw (e, drop-at (take k d) (take (length d - k) d) k (length-take-le k d l))
-
-  pub earlier-end : (k i : ℕ) (d : List A) → length d ≤ i + k → i + k ≤ length d
-      → spliced i (movedEarlier k d) d ≡ movedEarlier k d
-  earlier-end k i d p q =
-      let e : i ≡ length d - k = omega arith in
-      rw (e, take-at (drop k d) (drop (length d - k) d) (length d - k) (length-drop k d))

@@ -4,7 +4,7 @@ use mathlib.Core.Path.{_≡_, sym, _∙_}
 use mathlib.Core.List.{List, _++_, append-nil}
 use native.Mathlib.Omega.{arith}
 use lib.ListN.{length, getD, take, drop, length-take, length-drop, length-append, drop-of-length-le}
-use lib.Seq.{take-all, take-at, take-take, length-take-le, drop-at, drop-drop, getD-take, getD-drop}
+use lib.Seq.{take-all, take-take, length-take-le, drop-at, drop-drop, getD-take, getD-drop}
 use Rattle.rows.specs.Rows.{replaced}
 use Rattle.rows.proofs.Rows.{drop-take}
 
@@ -31,17 +31,12 @@ module _ {ℓ} {A : Type ℓ} (a k : ℕ) (xs : List A) where
     pub length-part : length (take k (drop a xs)) ≡ k
     length-part = length-take-le k (drop a xs) (rw length-drop (omega arith))
 
-    -- the whole, where ys came back: the part, what stands before it, and what stands after it
+    -- the whole, where ys came back: as long as it was, and with what stood behind the part
     module _ (ys : List A) (long : length ys ≡ k) where
       pub length-replaced : length (replaced a k ys xs) ≡ length xs
       length-replaced = simp (length-append, length-take, length-drop) (omega arith)
 
-      from-part : drop a (replaced a k ys xs) ≡ ys ++ drop k (drop a xs)
-      from-part = drop-at (take a xs) (ys ++ drop k (drop a xs)) a (length-take-le a xs (omega arith))
-
-      pub part-replaced : take k (drop a (replaced a k ys xs)) ≡ ys
-      part-replaced = rw from-part (take-at ys (drop k (drop a xs)) k long)
-
       pub after-replaced : drop (a + k) (replaced a k ys xs) ≡ drop (a + k) xs
       after-replaced =
-          sym (drop-drop k a (replaced a k ys xs)) ∙ rw (from-part, drop-at ys (drop k (drop a xs)) k long, drop-drop)
+          let from = drop-at (take a xs) (ys ++ drop k (drop a xs)) a (length-take-le a xs (omega arith)) in
+          sym (drop-drop k a (replaced a k ys xs)) ∙ rw (from, drop-at ys (drop k (drop a xs)) k long, drop-drop)

@@ -3,7 +3,7 @@ use Prim.Native.Nat.{ℕ, _+_, _-_, _≤_, _<_}
 use mathlib.Core.Path.{_≡_, refl, ap, ap₂, _∙_}
 use mathlib.Core.Bool.{Bool, true, false, not}
 use mathlib.Core.Option.{Option, none, some}
-use mathlib.Core.List.{List, [], _∷_, _++_}
+use mathlib.Core.List.{List, [], _∷_}
 use native.Mathlib.Numerals.{add-one}
 use native.Mathlib.Omega.{arith}
 use lib.ListN.{length, getD, take, drop, length-drop, drop-of-length-le}
@@ -23,10 +23,6 @@ module _ {ℓ} {A : Type ℓ} where
   -- the rest at a later position, and what stands between
   pub rest-from : (s : List A) (at e : ℕ) → at ≤ e → drop (e - at) (drop at s) ≡ drop e s
   rest-from s at e h = let q : at + (e - at) ≡ e = omega arith in rw (drop-drop, q)
-
-  -- the rest determines the position
-  pub same-position : (s : List A) (a b : ℕ) → a ≤ length s → b ≤ length s → drop a s ≡ drop b s → a ≡ b
-  same-position s a b p q e = omega (arith, ap length e, length-drop a s, length-drop b s)
 
 module _ {E : Type 0} (ok : E → Bool) (s : List E) where
   -- a loop that goes on while elements pass: an element that does, one that does not, and the end of the text
@@ -59,12 +55,6 @@ module _ {E : Type 0} (ok : E → Bool) (s : List E) where
     run-rest =
         let n : length (run ok (drop at s)) ≡ e - at = omega arith in
         rw n (rest-from s at e (omega arith))
-
--- a reader f that goes on as g from a later position: what it reads, and where it ends
-pub reads-as : {E A B : Type 0} {f : Reader E A} {g : Reader E B} {s : List E} {at m : ℕ} {a : A} {b : B} {e : ℕ}
-    → at ≤ m → ((r : List E) → g (drop m s) ≡ some (b, r) → f (drop at s) ≡ some (a, r))
-    → Reads g s m b e → Reads f s at a e
-reads-as {s = s} {e = e} later on d = record { from = omega (arith, d .from); to = d .to; is = on (drop e s) (d .is) }
 
 -- ── Readers by positions ──
 position : {A : Type 0} (a b : A) (m n : ℕ) → _≡_ {A = Option (A × ℕ)} (some (a, m)) (some (b, n)) → (a ≡ b) × (m ≡ n)

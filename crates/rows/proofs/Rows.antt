@@ -2,7 +2,7 @@
 use Prim.Native.Nat.{ℕ, zero, suc, _+_, _*_, _-_, _≤_, _<_}
 use mathlib.Core.Path.{_≡_, refl, sym, ap, _∙_}
 use mathlib.Core.Bool.{Bool, true, false, cond}
-use mathlib.Core.List.{List, [], _∷_, _++_, map, append-assoc}
+use mathlib.Core.List.{List, [], _∷_, _++_, map}
 use native.Mathlib.Nat.{zero-mul, suc-mul, add-mul, sub-zero, zero-sub, suc-sub-suc, zero-add, suc-add, add-comm}
 use native.Mathlib.Nat.{le-refl, le-of-suc-le-suc}
 use native.Mathlib.Numerals.{add-one}
@@ -10,7 +10,7 @@ use native.Mathlib.Omega.{arith}
 use lib.ListN.{length, getD, take, drop, set, length-take, length-drop, take-append-drop}
 use lib.Seq.{take-nil, take-all, take-take, take-at, take-append-le, take-append-add, length-take-le}
 use lib.Seq.{drop-at, drop-drop, drop-append-le, set-split}
-use Rattle.rows.specs.Rows.{rows, upTo, insertAt, removeAt, replaced}
+use Rattle.rows.specs.Rows.{rows, upTo, insertAt, replaced}
 
 -- ---- parts of a list
 
@@ -129,10 +129,6 @@ module _ {ℓ} {A : Type ℓ} (k : ℕ) where
       ∙ rows-append i (n - i) (take (i * k) xs) ys (length-take-le (i * k) xs l)
       ∙ rw (rows-take i (i * k) xs (le-refl _), take-rows i n xs h)
 
-  rows-one : (row : List A) → length row ≡ k → rows k 1 row ≡ row ∷ []
-  unfolding rows
-  rows-one row h = rw (take-all k row (omega arith))
-
   rows-later : (i n : ℕ) (xs : List A) → rows k (n - suc i) (drop k (drop (i * k) xs)) ≡ drop (suc i) (rows k n xs)
   rows-later i n xs = rw (drop-drop k (i * k) xs, ← suc-mul i k) (sym (drop-rows (suc i) n xs))
 
@@ -160,17 +156,6 @@ module _ {ℓ} {A : Type ℓ} (k : ℕ) where
     rows-set h =
         rows-put (drop k (drop (i * k) xs)) h
         ∙ rw rows-later (sym (set-split (rows k n xs) i row (rw length-rows below)))
-
-    -- the row at i taken out: the later rows move one place, and `row` stands in the last place
-    pub rows-remove : n * k ≡ length xs
-        → rows k n (take (i * k) xs ++ (drop k (drop (i * k) xs) ++ row)) ≡ removeAt i (rows k n xs) ++ row ∷ []
-    rows-remove room =
-        let p = rows-size k i n below in
-        let e : n - i ≡ n - suc i + 1 = omega arith in
-        let d = drop k (drop (i * k) xs) in
-        let l : length d ≡ (n - suc i) * k = simp length-drop (omega arith) in
-        rows-keep i n xs (d ++ row) (omega arith) (omega arith)
-        ∙ rw (e, rows-append (n - suc i) 1 d row l, rows-one row long, rows-later, append-assoc)
 
 -- ---- elements before a stop
 
@@ -226,27 +211,14 @@ module _ {ℓ} {A : Type ℓ} (stop : A → Bool) where
   upTo-stop [] x ys e = rw e
   upTo-stop (y ∷ xs) x ys e = rw (upTo-stop xs x ys e)
 
-  -- an element that is no stop put in, written over another, or written after the last
+  -- an element that is no stop put in, or written over another
   module _ (i : ℕ) (a : A) (xs : List A) (kept : stop a ≡ false) where
     pub upTo-insert : i ≤ length (upTo stop xs) → upTo stop (insertAt i a xs) ≡ insertAt i a (upTo stop xs)
     unfolding upTo
     upTo-insert h = upTo-keep i xs (a ∷ drop i xs) h ∙ rw (kept, upTo-drop i xs h)
 
-    upTo-put : i ≤ length (upTo stop xs) → i < length xs
-        → upTo stop (set xs i a) ≡ take i (upTo stop xs) ++ a ∷ upTo stop (drop (suc i) xs)
-    unfolding upTo
-    upTo-put h l = rw (set-split xs i a l) (upTo-keep i xs (a ∷ drop (suc i) xs) h ∙ rw kept)
-
     pub upTo-set : i < length (upTo stop xs) → upTo stop (set xs i a) ≡ set (upTo stop xs) i a
+    unfolding upTo
     upTo-set h =
-        upTo-put (omega arith) (omega (arith, length-upTo xs))
-        ∙ rw (upTo-drop (suc i) xs h) (sym (set-split (upTo stop xs) i a h))
-
-    pub upTo-push : i ≡ length (upTo stop xs) → i < length xs → upTo stop (drop (suc i) xs) ≡ []
-        → upTo stop (set xs i a) ≡ upTo stop xs ++ a ∷ []
-    upTo-push h l e = upTo-put (omega arith) l ∙ rw (e, take-all i (upTo stop xs) (omega arith))
-
-  -- an element taken out
-  pub upTo-remove : (i : ℕ) (xs : List A) → i < length (upTo stop xs)
-      → upTo stop (removeAt i xs) ≡ removeAt i (upTo stop xs)
-  upTo-remove i xs h = upTo-keep i xs (drop (suc i) xs) (omega arith) ∙ rw (upTo-drop (suc i) xs h)
+        rw (set-split xs i a (omega (arith, length-upTo xs)), set-split (upTo stop xs) i a h)
+        (upTo-keep i xs (a ∷ drop (suc i) xs) (omega arith) ∙ rw (kept, upTo-drop (suc i) xs h))

@@ -6,8 +6,8 @@ use native.Mathlib.Nat.{add-zero, add-suc, suc-add, zero-add, zero-sub, sub-zero
 use native.Mathlib.Numerals.{add-one}
 use native.Mathlib.Omega.{arith}
 use lib.ListN.{length, take, drop, set, length-take, length-drop, drop-of-length-le}
-use lib.Seq.{sets, length-sets, take-set-le, drop-set-lt, take-nil, drop-nil}
-use lib.Seq.{take-all, take-append-seam, length-take-le, drop-at, drop-drop}
+use lib.Seq.{sets, length-sets, take-set-le, take-nil, drop-nil}
+use lib.Seq.{take-all, drop-drop}
 use Rattle.rows.specs.Rows.{replaced, written}
 use Rattle.rows.proofs.Parts.{tail-part, tail-replaced}
 

@@ -1,4 +1,4 @@
--- Rows of a fixed size in a flat list; elements put in, taken out and written over.
+-- Rows of a fixed size in a flat list; elements put in and written over.
 use Prim.Native.Nat.{ℕ, zero, suc, _+_}
 use mathlib.Core.Path.{_≡_}
 use mathlib.Core.Bool.{Bool, cond}
@@ -20,10 +20,6 @@ module _ {ℓ} {A : Type ℓ} where
   -- a at the place i, and what stood from there on after it
   abbrev pub insertAt : ℕ → A → List A → List A
   insertAt i a xs = take i xs ++ a ∷ drop i xs
-
-  -- the list without its element at i
-  abbrev pub removeAt : ℕ → List A → List A
-  removeAt i xs = take i xs ++ drop (suc i) xs
 
   -- ys in the place of the k elements from a on: what a list is after a part of it was lent and came back as ys
   abbrev pub replaced : ℕ → ℕ → List A → List A → List A

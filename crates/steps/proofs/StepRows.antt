@@ -1,6 +1,6 @@
 -- A step in its row, the byte of its kind and the names: how it is written, and how it is read back.
-use Prim.Native.Nat.{ℕ, _+_, _*_, _-_, _≤_}
-use mathlib.Core.Path.{_≡_, refl, ap, _∙_}
+use Prim.Native.Nat.{_+_, _-_}
+use mathlib.Core.Path.{_≡_, refl}
 use mathlib.Core.List.{_∷_, append-nil}
 use native.Mathlib.Omega.{arith}
 use lib.ListN.{length, getD, take, drop}
@@ -8,17 +8,13 @@ use lib.Seq.{take-all}
 use Rattle.rows.specs.Rows.{written}
 use Rattle.rows.proofs.Writing.{written-clipped}
 use Rattle.rows.proofs.Positions.{over}
-use Rattle.rows.proofs.Parts.{tail-part, length-part}
+use Rattle.rows.proofs.Parts.{tail-part}
 use Rattle.model.specs.Base.{Bytes}
 use Rattle.steps.specs.declared.step.Operator.the-variants.{Equals, In}
 use Rattle.steps.specs.declared.step.Kind.{Kind}
 use Rattle.steps.specs.declared.step.Kind.the-variants.{Names, Wildcard, Environment}
 use Rattle.steps.specs.declared.step.Step as code
-use Rattle.steps.specs.Steps.{stepRow, namesIn, byKind, byteOf, kindOf, stepIn, stepOf}
-
--- the i-th row of a slot
-pub row-length : (s : Bytes) (i : ℕ) {row : Bytes} → i * stepRow + 1 + stepRow ≤ length s → row ≡ take stepRow (drop (i * stepRow + 1) s) → length row ≡ stepRow
-row-length s i h e = ap length e ∙ length-part (i * stepRow + 1) stepRow s (omega arith)
+use Rattle.steps.specs.Steps.{namesIn, byKind, byteOf, kindOf, stepIn, stepOf}
 
 -- a row that is written whole
 pub row-filled : (xs row : Bytes) → length xs ≡ length row → written 0 xs row ≡ xs
