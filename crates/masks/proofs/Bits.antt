@@ -1,7 +1,7 @@
 -- Bits set, taken out and tested; the number with given bits; the lowest bit; a loop that sets bits by a test; and a number's bytes.
 use Prim.Native.Nat.{ℕ, zero, suc, _+_, _-_, _*_, _/_, _%_, _^_, _≤_, _<_, min, max}
 use mathlib.Core.Path.{_≡_, refl, sym, ap, ap₂, _∙_}
-use mathlib.Core.Bool.{Bool, true, false, not, _&&_, _||_, xor, and-true, and-false, or-false, or-comm, or-assoc}
+use mathlib.Core.Bool.{Bool, true, false, not, _&&_, _||_, xor, and-true, and-false, or-false, or-comm}
 use native.Mathlib.Nat.{div-eq-of-lt, div-one, one-mul, suc-mul, add-zero, pow-suc}
 use native.Mathlib.Numerals.{add-one, one-add}
 use native.Mathlib.Omega.{arith}
@@ -80,35 +80,29 @@ pow-bit i j = by-cases (eqb j i)
     (λ l. ne-eqb (2 ^ i / 2 ^ j % 2) 1 (λ z. omega (arith, div-eq-of-lt {n = 2 ^ i} {m = 2 ^ j} (pow-lt (omega (arith, ltb-false j i l, eqb-false j i e))))))))
 
 -- a number with its bit at n set where it had none from there on
-bit-more : (m n j : ℕ) → m < 2 ^ n → bitAt (m + 2 ^ n) j ≡ (bitAt m j || eqb j n)
+bit-more : (m n j : ℕ) → m < 2 ^ n → bitAt (m + 2 ^ n) j ≡ (eqb j n || bitAt m j)
 bit-more m n j h =
     let e : m + 2 ^ n ≡ bitOr m (2 ^ n) = omega (arith, rw one-mul at (or-shifted-r 1 n m h)) in
-    rw (e, or-bit m (2 ^ n) j, pow-bit n j)
+    rw (e, or-bit m (2 ^ n) j, pow-bit n j) (or-comm (bitAt m j) (eqb j n))
 
 pub bit-none : (j : ℕ) → bitAt 0 j ≡ false
 unfolding bitAt
 bit-none j = rw (div-eq-of-lt {n = 0} {m = 2 ^ j} (pow-pos j))
 
-below-more : (f : ℕ → Bool) (n j : ℕ) → f n ≡ true → ((ltb j n && f j) || eqb j n) ≡ (ltb j (suc n) && f j)
-below-more f n j e = by-cases (eqb j n)
-    (λ q. let s : j ≡ n = eqb-true j n q in rw (q, s, e, le-ltb n n (omega arith), lt-ltb n (suc n) (omega arith)))
+-- those below n + 1 who pass a test: those below n, and n where it does
+below-suc : (f : ℕ → Bool) (n j : ℕ) → (ltb j (suc n) && f j) ≡ ((eqb j n && f n) || (ltb j n && f j))
+below-suc f n j = by-cases (eqb j n)
+    (λ q. let s : j ≡ n = eqb-true j n q in rw (q, s, le-ltb n n (omega arith), lt-ltb n (suc n) (omega arith)) (sym (or-false (f n))))
     (λ q. let d = eqb-false j n q in by-cases (ltb j n)
-    (λ l. rw (q, l, lt-ltb j (suc n) (omega (arith, ltb-true j n l))) (or-false (f j)))
+    (λ l. rw (q, l, lt-ltb j (suc n) (omega (arith, ltb-true j n l))))
     (λ l. rw (q, l, le-ltb j (suc n) (omega (arith, ltb-false j n l)))))
-
-below-same : (f : ℕ → Bool) (n j : ℕ) → f n ≡ false → (ltb j n && f j) ≡ (ltb j (suc n) && f j)
-below-same f n j e = by-cases (eqb j n)
-    (λ q. let s : j ≡ n = eqb-true j n q in rw (s, e, le-ltb n n (omega arith), lt-ltb n (suc n) (omega arith)))
-    (λ q. let d = eqb-false j n q in by-cases (ltb j n)
-    (λ l. rw (l, lt-ltb j (suc n) (omega (arith, ltb-true j n l))))
-    (λ l. rw (l, le-ltb j (suc n) (omega (arith, ltb-false j n l)))))
 
 pub mask-bits : (f : ℕ → Bool) (n j : ℕ) → bitAt (maskOf f n) j ≡ (ltb j n && f j)
 unfolding maskOf
 mask-bits f zero j = bit-none j ∙ rw (le-ltb j 0 (omega arith))
-mask-bits f (suc n) j = by-cases (f n)
-    (λ e. rw (e, bit-more (maskOf f n) n j (mask-below f n), mask-bits f n j) (below-more f n j e))
-    (λ e. rw (e, add-zero, mask-bits f n j) (below-same f n j e))
+mask-bits f (suc n) j = rw (below-suc f n j) (by-cases (f n)
+    (λ e. rw (e, bit-more (maskOf f n) n j (mask-below f n), mask-bits f n j, and-true))
+    (λ e. rw (e, add-zero, mask-bits f n j, and-false)))
 
 pub mask-bit : (f : ℕ → Bool) (n j : ℕ) → j < n → bitAt (maskOf f n) j ≡ f j
 mask-bit f n j h = mask-bits f n j ∙ rw (lt-ltb j n h)
@@ -200,24 +194,23 @@ first-set (suc w) m h l = by-cases (eqb (m % 2) 1)
     rw even (omega (arith, rest .0), sym (bit-half m r) ∙ rest .1, lower-none m r even (rest .2)))
 
 -- ── A loop that sets the bits of those who pass a test g: the ones below j were asked ──
-unfoldable pub SetBelow : (ℕ → Bool) → ℕ → ℕ → ℕ → Type 0
-SetBelow g m₀ j m = (k : ℕ) → bitAt m k ≡ (bitAt m₀ k || (ltb k j && g k))
+unfoldable pub SetBelow : (ℕ → Bool) → ℕ → ℕ → Type 0
+SetBelow g j m = (k : ℕ) → bitAt m k ≡ (ltb k j && g k)
 
-pub below-start : (g : ℕ → Bool) (m : ℕ) → SetBelow g m 0 m
+pub below-start : (g : ℕ → Bool) → SetBelow g 0 0
 unfolding SetBelow
-below-start g m k = rw (le-ltb k 0 (omega arith)) (sym (or-false (bitAt m k)))
+below-start g k = bit-none k ∙ rw (le-ltb k 0 (omega arith))
 
-module _ (g : ℕ → Bool) (m₀ j m : ℕ) (h : SetBelow g m₀ j m) where
-  pub below-set : (n : ℕ) → g j ≡ true → ((k : ℕ) → bitAt n k ≡ (eqb k j || bitAt m k)) → SetBelow g m₀ (j + 1) n
+module _ (g : ℕ → Bool) (j m : ℕ) (h : SetBelow g j m) where
+  pub below-set : (n : ℕ) → g j ≡ true → ((k : ℕ) → bitAt n k ≡ (eqb k j || bitAt m k)) → SetBelow g (j + 1) n
   unfolding SetBelow
-  below-set n t e k =
-      rw (add-one j, e k, h k, ← below-more g j k t, or-comm (eqb k j)) (or-assoc (bitAt m₀ k) (ltb k j && g k) (eqb k j))
+  below-set n t e k = rw (add-one j, e k, h k, below-suc g j k, t, and-true)
 
-  pub below-skip : g j ≡ false → SetBelow g m₀ (j + 1) m
+  pub below-skip : g j ≡ false → SetBelow g (j + 1) m
   unfolding SetBelow
-  below-skip t k = rw (add-one j, h k, below-same g j k t)
+  below-skip t k = rw (add-one j, h k, below-suc g j k, t, and-false)
 
-  pub below-end : ((k : ℕ) → j ≤ k → g k ≡ false) → (k : ℕ) → bitAt m k ≡ (bitAt m₀ k || g k)
+  pub below-end : ((k : ℕ) → j ≤ k → g k ≡ false) → (k : ℕ) → bitAt m k ≡ g k
   unfolding SetBelow
   below-end none k = h k ∙ by-cases (ltb k j) (λ l. rw l) (λ l. rw (l, none k (ltb-false k j l)))
 

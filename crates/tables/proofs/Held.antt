@@ -15,7 +15,7 @@ use Rattle.model.specs.Paths.{Steps, wildcard}
 use Rattle.model.specs.Tables.{User, userAt}
 use Rattle.model.proofs.Lists.{by-cases, and-both, bytes-eq}
 use Rattle.masks.specs.Bits.{bitAt}
-use Rattle.masks.proofs.Bits.{bit-none, SetBelow, below-set, below-skip, below-end}
+use Rattle.masks.proofs.Bits.{SetBelow, below-set, below-skip, below-end}
 use Rattle.layout.specs.Layout.{keyRow, nameIn}
 use Rattle.layout.proofs.Counts.{length-counted, counted-at}
 use Rattle.layout.proofs.Used.{length-table}
@@ -30,7 +30,7 @@ use Rattle.tables.proofs.Users.{user-none, user-some}
 
 -- ── A loop over the users: who holds the value v; m rows were counted, and the users below j were asked ──
 abbrev pub HoldersBelow : Bytes → Bytes → ℕ → ℕ → Type 0
-HoldersBelow s v j mask = SetBelow (λ k. holdsValue v (userAt (usersIn s) k)) 0 j mask
+HoldersBelow s v j mask = SetBelow (λ k. holdsValue v (userAt (usersIn s) k)) j mask
 
 module _ (s v : Bytes) {m : ℕ} (counted : m ≡ userCount s) (j mask : ℕ) (left : HoldersBelow s v j mask) where
   -- the user in the row at j was asked, and r says whether the value is there
@@ -40,15 +40,14 @@ module _ (s v : Bytes) {m : ℕ} (counted : m ≡ userCount s) (j mask : ℕ) (l
     told = rw (user-some s counted j below here) (sym t)
 
     pub holder-set : r ≡ true → (new : ℕ) → ((k : ℕ) → bitAt new k ≡ (eqb k j || bitAt mask k)) → HoldersBelow s v (j + 1) new
-    holder-set y new e = below-set (λ k. holdsValue v (userAt (usersIn s) k)) 0 j mask left new (told ∙ y) e
+    holder-set y new e = below-set (λ k. holdsValue v (userAt (usersIn s) k)) j mask left new (told ∙ y) e
 
     pub holder-skip : r ≡ false → HoldersBelow s v (j + 1) mask
-    holder-skip n = below-skip (λ k. holdsValue v (userAt (usersIn s) k)) 0 j mask left (told ∙ n)
+    holder-skip n = below-skip (λ k. holdsValue v (userAt (usersIn s) k)) j mask left (told ∙ n)
 
   pub holders-end : m ≤ j → (k : ℕ) → bitAt mask k ≡ holdsValue v (userAt (usersIn s) k)
   unfolding holdsValue
-  holders-end h k =
-      below-end (λ k. holdsValue v (userAt (usersIn s) k)) 0 j mask left (λ k l. rw (user-none s counted k (omega arith))) k ∙ rw (bit-none k)
+  holders-end h k = below-end (λ k. holdsValue v (userAt (usersIn s) k)) j mask left (λ k l. rw (user-none s counted k (omega arith))) k
 
 -- ── Who holds the keys of a path ──
 -- the key in the row at i

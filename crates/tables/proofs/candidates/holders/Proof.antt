@@ -18,7 +18,7 @@ abbrev μ-loop : tie.MeasureT-loop
 μ-loop tables n key held₀ j₀ held j = n - j
 
 loop-holds : tie.Need-loop-holds Inv-loop μ-loop
-loop-holds c = (search needs, below-start _ _)
+loop-holds c = (search needs, below-start _)
 
 row-at-requires : tie.Need-row-at-requires Inv-loop μ-loop
 row-at-requires c κs = user-inside _ (c .before .before .before .before .pre) (c .before .before .loop .j) (c .before .loop-test .taken) (search needs)
