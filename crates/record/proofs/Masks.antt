@@ -1,11 +1,11 @@
 -- The masks beside the fields: in a slot, in a table, and once a slot is stored or its mask becomes another.
-use Prim.Native.Nat.{ℕ, _+_, _*_, _-_, _^_, _≤_, _<_, min}
+use Prim.Native.Nat.{ℕ, _+_, _*_, _-_, _^_, _≤_, _<_}
 use mathlib.Core.Path.{_≡_, sym, ap, ap₂, _∙_}
 use mathlib.Core.Bool.{false}
 use mathlib.Core.List.{[], _++_, append-assoc}
 use native.Mathlib.Omega.{arith}
 use lib.ListN.{length, getD, take, drop, set, length-take, length-drop, length-append}
-use lib.Seq.{take-at, take-all, drop-at, drop-drop, getD-drop, set-getD}
+use lib.Seq.{take-all, set-getD}
 use Rattle.rows.specs.Rows.{Wrote}
 use Rattle.rows.proofs.Rows.{insert-past}
 use Rattle.rows.proofs.Writing.{written-clipped}
@@ -19,12 +19,12 @@ use Rattle.model.specs.Base.{Bytes}
 use Rattle.model.specs.Limits.{maxFields, maxUsers}
 use Rattle.model.specs.Values.{valueText}
 use Rattle.masks.specs.Bits.{encodeMask}
-use Rattle.masks.proofs.Bits.{mask-long, mask-back}
+use Rattle.masks.proofs.Bits.{mask-long}
 use Rattle.paths.specs.Layout.{pathSlot, pathIn, encodePath}
 use Rattle.record.specs.declared.table.Place.the-variants.{Before}
 use Rattle.record.specs.Slots.{valueRoom, lengthAt, slotBytes, recordBytes, textIn, valueIn, fieldIn, maskIn, fieldsIn, masksIn, withMask, encodeField, CanonicalField, CanonicalFields}
 use Rattle.record.specs.Search.{storedMasks}
-use Rattle.record.proofs.Slots.{path-same, empty-same, value-long}
+use Rattle.record.proofs.Slots.{text-rest, path-same, empty-same, value-long, head-long, path-first, rest-last, mask-between}
 use Rattle.record.proofs.Search.{fields-used}
 
 -- ── In a table ──
@@ -45,11 +45,6 @@ module _ (s : Bytes) where
       sym (insert-past maxFields i m (masksIn s) (rw masks-count within) h (table-fit maskIn slotBytes maxFields s))
 
 -- ── A slot with another mask ──
--- the length and the text of a value stand behind the mask
-text-rest : (s : Bytes) → textIn s ≡ take (min (getD (drop lengthAt s) 0 0) valueRoom) (drop 1 (drop lengthAt s))
-unfolding textIn
-text-rest s = rw (getD-drop lengthAt s 0 0, drop-drop 1 lengthAt s)
-
 -- the bytes of the mask were written over those that stood there
 pub mask-written : (m e : ℕ) (slot out : Bytes) → length slot ≡ slotBytes → Wrote pathSlot (encodeMask m) slot e out → out ≡ withMask m slot
 unfolding withMask
@@ -58,32 +53,23 @@ mask-written m e slot out l put =
     put .1 ∙ rw (written-clipped pathSlot (encodeMask m) slot, all, mask-long m, append-assoc (take pathSlot slot))
 
 module _ (m : ℕ) (slot : Bytes) (l : length slot ≡ slotBytes) where
-  abbrev rest : Bytes
-  rest = drop lengthAt slot
-
   path-long : length (take pathSlot slot) ≡ pathSlot
   path-long = rw length-take (omega arith)
 
-  head-long : length (take pathSlot slot ++ encodeMask m) ≡ lengthAt
-  head-long = rw (length-append, path-long, mask-long) (omega arith)
-
   pub masked-long : length (withMask m slot) ≡ slotBytes
   unfolding withMask
-  masked-long = rw (length-append, head-long, length-drop) (omega arith)
+  masked-long = rw (length-append, head-long (take pathSlot slot) m path-long, length-drop) (omega arith)
 
   masked-path : take pathSlot (withMask m slot) ≡ take pathSlot slot
   unfolding withMask
-  masked-path = rw (append-assoc (take pathSlot slot)) (take-at (take pathSlot slot) _ pathSlot path-long)
-
-  masked-rest : drop lengthAt (withMask m slot) ≡ rest
-  unfolding withMask
-  masked-rest = drop-at (take pathSlot slot ++ encodeMask m) rest lengthAt head-long
+  masked-path = path-first (take pathSlot slot) m path-long _
 
   pub masked-empty : isEmpty (withMask m slot) ≡ isEmpty slot
   masked-empty = empty-same (withMask m slot) slot masked-path
 
   masked-text : textIn (withMask m slot) ≡ textIn slot
-  masked-text = text-rest (withMask m slot) ∙ ap (λ (r : Bytes). take (min (getD r 0 0) valueRoom) (drop 1 r)) masked-rest ∙ sym (text-rest slot)
+  unfolding withMask
+  masked-text = text-rest (withMask m slot) ∙ rw (rest-last (take pathSlot slot) m path-long) (sym (text-rest slot))
 
   pub masked-field : fieldIn (withMask m slot) ≡ fieldIn slot
   unfolding fieldIn valueIn
@@ -91,20 +77,18 @@ module _ (m : ℕ) (slot : Bytes) (l : length slot ≡ slotBytes) where
 
   module _ (fits : m < 2 ^ maxUsers) where
     pub masked-mask : maskIn (withMask m slot) ≡ m
-    unfolding withMask maskIn
-    masked-mask = rw (append-assoc (take pathSlot slot), drop-at (take pathSlot slot) _ pathSlot path-long) (mask-back m rest fits)
+    unfolding withMask
+    masked-mask = mask-between (take pathSlot slot) m path-long _ fits
 
     -- a slot that is written as its field is stays so
     pub masked-canonical : CanonicalField slot → CanonicalField (withMask m slot)
     unfolding encodeField fieldIn withMask
     masked-canonical is =
         let path = encodePath (pathIn slot) in
-        let mask = encodeMask (maskIn slot) in
         let value = encodeName (1 + valueRoom) (valueText (valueIn slot)) in
-        let long : length path ≡ pathSlot = omega (arith, ap length is, length-append (path ++ mask) value, length-append path mask, mask-long (maskIn slot), value-long slot) in
-        let both : length (path ++ mask) ≡ lengthAt = omega (arith, length-append path mask, mask-long (maskIn slot)) in
-        let first : take pathSlot slot ≡ path = ap (take pathSlot) is ∙ rw (append-assoc path) (take-at path _ pathSlot long) in
-        let last : drop lengthAt slot ≡ value = ap (drop lengthAt) is ∙ drop-at (path ++ mask) value lengthAt both in
+        let long : length path ≡ pathSlot = omega (arith, simp length-append at (ap length is), mask-long (maskIn slot), value-long slot) in
+        let first = ap (take pathSlot) is ∙ path-first path (maskIn slot) long value in
+        let last = ap (drop lengthAt) is ∙ rest-last path (maskIn slot) long value in
         ap₂ (λ (p v : Bytes). p ++ encodeMask m ++ v) first last ∙ sym (ap₂ encodeField masked-mask masked-field)
 
 -- ── A table, in which the mask of the i-th field becomes m ──
@@ -121,11 +105,8 @@ module _ (s : Bytes) (full : length s ≡ recordBytes) (i : ℕ) (h : i < length
   used : i < length (inUse slotBytes maxFields s)
   used = omega (arith, fields-used s)
 
-  below : i < maxFields
-  below = omega (arith, used, used-fit slotBytes maxFields s)
-
   long : length slot ≡ slotBytes
-  long = length-part (i * slotBytes) slotBytes s (row-inside slotBytes maxFields s holds i below)
+  long = length-part (i * slotBytes) slotBytes s (row-inside slotBytes maxFields s holds i (omega (arith, used, used-fit slotBytes maxFields s)))
 
   kept : isEmpty (withMask m slot) ≡ false
   kept = masked-empty m slot long ∙ used-full slotBytes maxFields s i used

@@ -6,8 +6,8 @@ use mathlib.Core.Option.{Option, none, some}
 use mathlib.Core.List.{[], _∷_, _++_, append-assoc, append-nil}
 use native.Mathlib.Nat.{add-sub-cancel-left, zero-add}
 use native.Mathlib.Omega.{arith}
-use lib.ListN.{length, getD, take, drop, set, replicate, length-take, length-append, length-replicate}
-use lib.Seq.{take-at, take-all, take-append-le, take-append-seam, drop-at, drop-drop, set-at, getD-at, getD-take}
+use lib.ListN.{length, getD, take, drop, set, length-take, length-append, length-replicate}
+use lib.Seq.{take-at, take-all, take-append-seam, drop-at, drop-drop, set-at, getD-take, getD-drop}
 use Rattle.rows.specs.Rows.{replaced, Wrote}
 use Rattle.layout.proofs.Counts.{counted-part}
 use Rattle.layout.proofs.Used.{table-at}
@@ -35,6 +35,11 @@ use Rattle.record.specs.Search.{storedIn, storedAt}
 pub text-part : (s : Bytes) (n : ℕ) → lengthAt < length s → n ≡ min (getD (take (length s - lengthAt) (drop lengthAt s)) 0 0) valueRoom → take ((1 + lengthAt) + n - (1 + lengthAt)) (drop (1 + lengthAt) s) ≡ textIn s
 unfolding textIn
 text-part s n h e = rw (add-sub-cancel-left, e, part-at lengthAt (length s - lengthAt) s 0 0 (omega arith))
+
+-- its length and the text stand behind the mask
+pub text-rest : (s : Bytes) → textIn s ≡ take (min (getD (drop lengthAt s) 0 0) valueRoom) (drop 1 (drop lengthAt s))
+unfolding textIn
+text-rest s = rw (getD-drop lengthAt s 0 0, drop-drop 1 lengthAt s)
 
 pub text-short : (s : Bytes) → length (textIn s) ≤ valueRoom
 unfolding textIn
@@ -82,26 +87,38 @@ held-valid v valid =
     let all = take-all valueRoom (valueText v) (spelling.value-length v valid) in
     rw all (rw (rw append-nil at (spelling.value-reads v [] valid tt)))
 
+-- ── The bytes p of a path, a mask m, and what is behind them: each is found again ──
+abbrev head : Bytes → ℕ → Bytes
+head p m = p ++ encodeMask m
+
+module _ (p : Bytes) (m : ℕ) (l : length p ≡ pathSlot) where
+  pub head-long : length (head p m) ≡ lengthAt
+  head-long = rw (length-append, mask-long) (omega arith)
+
+  module _ (rest : Bytes) where
+    pub path-first : take pathSlot (head p m ++ rest) ≡ p
+    path-first = rw (append-assoc p) (take-at p _ pathSlot l)
+
+    pub rest-last : drop lengthAt (head p m ++ rest) ≡ rest
+    rest-last = drop-at (head p m) rest lengthAt head-long
+
+    pub mask-between : m < 2 ^ maxUsers → maskIn (head p m ++ rest) ≡ m
+    unfolding maskIn
+    mask-between h = rw (append-assoc p (encodeMask m) rest, drop-at p _ pathSlot l) (mask-back m rest h)
+
 -- ── A slot made of the path p, the mask m and the value v ──
 held-short : (v : Value) → length (heldText v) ≤ valueRoom
 held-short v = rw length-take (omega arith)
 
 module _ (p : Bytes) (m : ℕ) (v : Value) where
-  -- what stands before the value
-  abbrev head : Bytes
-  head = p ++ encodeMask m
-
   module _ (l : length p ≡ pathSlot) where
-    head-long : length head ≡ lengthAt
-    head-long = rw (length-append, mask-long) (omega arith)
-
     pub slot-long : length (slotOf p m v) ≡ slotBytes
     unfolding slotOf encodeName
     slot-long = simp (length-append, length-replicate, mask-long) (omega (arith, held-short v))
 
     slot-path : take pathSlot (slotOf p m v) ≡ take pathSlot p
     unfolding slotOf
-    slot-path = take-append-le pathSlot head _ (omega (arith, head-long)) ∙ take-append-le pathSlot p _ (omega arith)
+    slot-path = path-first p m l _ ∙ sym (take-all pathSlot p (omega arith))
 
     -- the path's keys
     pub slot-keys : pathIn (slotOf p m v) ≡ pathIn p
@@ -111,13 +128,10 @@ module _ (p : Bytes) (m : ℕ) (v : Value) where
     slot-empty = empty-same (slotOf p m v) p slot-path
 
     slot-text : textIn (slotOf p m v) ≡ heldText v
-    unfolding slotOf textIn encodeName
+    unfolding slotOf encodeName
     slot-text =
-        let n = length (heldText v) in
-        let rest = heldText v ++ replicate (1 + valueRoom - length (n ∷ heldText v)) 0 in
-        let fits : min n valueRoom ≡ n = omega (arith, held-short v) in
-        rw (getD-at head n rest 0 lengthAt head-long, fits, ← drop-drop 1 lengthAt (head ++ n ∷ rest), drop-at head (n ∷ rest) lengthAt head-long)
-        (take-append-seam (heldText v) _)
+        let fits : min (length (heldText v)) valueRoom ≡ length (heldText v) = omega (arith, held-short v) in
+        text-rest (slotOf p m v) ∙ rw (rest-last p m l, fits) (take-append-seam (heldText v) _)
 
     -- the field of the keys, and of what is held of the value
     pub slot-field : fieldIn (slotOf p m v) ≡ fieldOf (pathIn p) (heldValue v)
@@ -126,8 +140,8 @@ module _ (p : Bytes) (m : ℕ) (v : Value) where
 
     -- the mask
     pub slot-mask : m < 2 ^ maxUsers → maskIn (slotOf p m v) ≡ m
-    unfolding slotOf maskIn
-    slot-mask h = rw (append-assoc p (encodeMask m) _, drop-at p _ pathSlot l) (mask-back m _ h)
+    unfolding slotOf
+    slot-mask h = mask-between p m l _ h
 
     -- to store the slot is to store the value at the path
     pub slot-stored : (fs : Fields) → storedIn (slotOf p m v) fs ≡ storedAt p v fs
@@ -159,22 +173,22 @@ module _
     (to e n : ℕ)
     (clean : s ≡ zeros slotBytes)
     (l : length p ≡ pathSlot)
-    (begun : Wrote 0 (head p m v) s to q)
+    (begun : Wrote 0 (head p m) s to q)
     (put : Wrote 0 (valueText v) (take (length q - (1 + lengthAt)) (drop (1 + lengthAt) q)) e ys)
     (byte : n ≡ min e valueRoom)
   where
     -- the path, the mask and the byte behind them
     abbrev start : Bytes
-    start = head p m v ++ 0 ∷ []
+    start = head p m ++ 0 ∷ []
 
     start-long : length start ≡ 1 + lengthAt
-    start-long = rw length-append (omega (arith, head-long p m v l))
+    start-long = rw length-append (omega (arith, head-long p m l))
 
     begun-is : q ≡ start ++ zeros valueRoom
     begun-is =
-        let h = head p m v in
-        let all : take (length s - 0) h ≡ h = take-all (length s - 0) h (omega (arith, head-long p m v l, ap length clean, length-replicate {A = ℕ} slotBytes 0)) in
-        begun .1 ∙ rw (written-clipped 0 h s, all, zero-add, clean, head-long p m v l, drop-zeros lengthAt slotBytes, append-assoc h)
+        let h = head p m in
+        let all : take (length s - 0) h ≡ h = take-all (length s - 0) h (omega (arith, head-long p m l, ap length clean, length-replicate {A = ℕ} slotBytes 0)) in
+        begun .1 ∙ rw (written-clipped 0 h s, all, zero-add, clean, head-long p m l, drop-zeros lengthAt slotBytes, append-assoc h)
 
     room-is : take (length q - (1 + lengthAt)) (drop (1 + lengthAt) q) ≡ zeros valueRoom
     room-is = tail-part (1 + lengthAt) q ∙ rw (begun-is, drop-at start (zeros valueRoom) (1 + lengthAt) start-long)
@@ -191,7 +205,7 @@ module _
         let says : n ≡ length (heldText v) = rw length-take (omega (arith, put .0)) in
         let rest : 1 + valueRoom - suc (length (heldText v)) ≡ valueRoom - length (valueText v) = rw length-take (omega arith) in
         rw (tail-replaced (1 + lengthAt) q ys, begun-is, take-at start (zeros valueRoom) (1 + lengthAt) start-long)
-        (rw (append-assoc (head p m v) (0 ∷ []) ys, set-at (head p m v) 0 ys n lengthAt (head-long p m v l), text-is, says, rest))
+        (rw (append-assoc (head p m) (0 ∷ []) ys, set-at (head p m) 0 ys n lengthAt (head-long p m l), text-is, says, rest))
 
     pub filled : Filled s p m v out
     filled = record { is = out-is; long = ap length out-is ∙ slot-long p m v l ∙ sym (ap length clean) }
