@@ -24,7 +24,8 @@ use Rattle.masks.specs.Bits.{noneFrom}
 use Rattle.masks.specs.Readers.{readersOf}
 use Rattle.masks.proofs.Bits.{none-set}
 use Rattle.masks.proofs.Readers.{reads-bit}
-use Rattle.deliveries.specs.Receivers.{receives, receiversOf}
+use Rattle.sessions.specs.Logins.{loginsIn}
+use Rattle.deliveries.specs.Receivers.{receives, receiversOf, Listed}
 
 -- ── The document's receivers are those whom the policy's mask marks ──
 -- two tests that agree on m places, and hold nowhere behind the first n, keep the same of the m as of the n
@@ -76,7 +77,10 @@ written-start : (xs l : List ℕ) → length xs ≤ length l → written 0 xs l 
 unfolding written over
 written-start xs l h = sets-eq xs l 0 (rw zero-add h) ∙ rw zero-add
 
-module _ (ls : List LoginState) (i m : ℕ) (l₀ : List ℕ) where
+module _ (logins : List ℕ) (i m : ℕ) (l₀ : List ℕ) where
+  abbrev ls : List LoginState
+  ls = loginsIn logins
+
   -- the numbers of the receivers from the place j on
   abbrev pub receiversFrom : ℕ → List ℕ
   receiversFrom j = map (λ k. sessionNumber k (getD ls k emptyLogin)) (keep (receives ls i m) (range j (maxUsers - j)))
@@ -107,20 +111,16 @@ module _ (ls : List LoginState) (i m : ℕ) (l₀ : List ℕ) where
       pub listed-same : b ≡ false → ListedFrom k (j + 1) l
       listed-same not-told = rw (places-left, keep-no (receives ls i m) j (range (j + 1) (maxUsers - (j + 1))) (sym test ∙ not-told)) at listed
 
-    -- behind the last place nothing remains
-    pub listed-all : maxUsers ≤ j → (l ≡ over (receiversOf ls i m) l₀) × (k ≡ length (receiversOf ls i m))
-    unfolding range keep
-    listed-all h =
-        let e : maxUsers - j ≡ 0 = omega arith in
-        let now = rw e at listed in
-        (sym (written-none k l) ∙ now .1, omega arith)
+    -- where nobody remains, all are listed
+    complete : ((x : ℕ) → j ≤ x → x < j + (maxUsers - j) → receives ls i m x ≡ false) → Listed logins i m l₀ k l
+    complete nobody =
+        let now = rw (keep-none _ _ (all-range (λ x. receives ls i m x ≡ false) j (maxUsers - j) nobody)) at listed in
+        record { listed = sym (written-none k l) ∙ now .1; counted = omega arith }
 
-    -- nor behind the last bit
-    pub listed-none : noneFrom m j ≡ true → (l ≡ over (receiversOf ls i m) l₀) × (k ≡ length (receiversOf ls i m))
+    -- nobody does behind the last place, nor behind the last bit
+    pub listed-all : maxUsers ≤ j → Listed logins i m l₀ k l
+    listed-all h = complete λ x from to. absurd (omega arith)
+
+    pub listed-none : noneFrom m j ≡ true → Listed logins i m l₀ k l
     unfolding receives noneFrom
-    listed-none shifted =
-        let empty = eqb-true (m / 2 ^ j) 0 shifted in
-        let nobody : keep (receives ls i m) (range j (maxUsers - j)) ≡ [] =
-        keep-none _ _ (all-range (λ x. receives ls i m x ≡ false) j (maxUsers - j) (λ x from to. rw (none-set m j x empty from, and-false))) in
-        let now = rw nobody at listed in
-        (sym (written-none k l) ∙ now .1, omega arith)
+    listed-none shifted = complete λ x from to. rw (none-set m j x (eqb-true (m / 2 ^ j) 0 shifted) from, and-false)

@@ -6,14 +6,13 @@ use native.Mathlib.Omega.{arith}
 use borrow.Author.Needs.{needs}
 use lib.ListN.{length, length-set}
 use Rattle.model.specs.Limits.{maxUsers}
-use Rattle.sessions.specs.Logins.{loginsIn}
 use Rattle.deliveries.proofs.Received.{ListedFrom, listed-start, listed-more, listed-same, listed-none, listed-all}
 use Rattle.deliveries.proofs.put_receivers.Statement.{statement}
 use Rattle.deliveries.proofs.put_receivers.Tie as tie
 
 abbrev Inv-loop : tie.InvT-loop
 Inv-loop list₀ logins i mask told₀ j₀ list told j =
-    (j ≤ maxUsers) × (told ≤ j) × (length list ≡ length list₀) × ListedFrom (loginsIn logins) i mask list₀ told j list
+    (j ≤ maxUsers) × (told ≤ j) × (length list ≡ length list₀) × ListedFrom logins i mask list₀ told j list
 
 abbrev μ-loop : tie.MeasureT-loop
 μ-loop list₀ logins i mask told₀ j₀ list told j = maxUsers - j
@@ -30,9 +29,7 @@ same-length c = search needs
 returns : tie.Need-returns Inv-loop μ-loop
 returns c =
     let l = c .before .before .before .loop in
-    let none = sym (c .before .none-from .ensures) ∙ c .if1 .taken in
-    let (listed, counted) = listed-none _ _ _ _ (l .told) (l .j) (l .list) (l .inv .3) none in
-    record { listed = listed; counted = counted }
+    listed-none _ _ _ _ (l .told) (l .j) (l .list) (l .inv .3) (sym (c .before .none-from .ensures) ∙ c .if1 .taken)
 
 receives-requires : tie.Need-receives-requires Inv-loop μ-loop
 receives-requires c κs = search needs
@@ -74,10 +71,7 @@ same-length-2 : tie.Need-same-length-2 Inv-loop μ-loop
 same-length-2 c = search needs
 
 returns-2 : tie.Need-returns-2 Inv-loop μ-loop
-returns-2 c =
-    let l = c .before .loop in
-    let (listed, counted) = listed-all _ _ _ _ (l .told) (l .j) (l .list) (l .inv .3) (search needs) in
-    record { listed = listed; counted = counted }
+returns-2 c = let l = c .before .loop in listed-all _ _ _ _ (l .told) (l .j) (l .list) (l .inv .3) (search needs)
 
 pub put-receivers-spec : {M : Type 1} → statement M
 put-receivers-spec =
