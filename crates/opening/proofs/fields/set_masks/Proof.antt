@@ -5,22 +5,18 @@ use native.Mathlib.Omega.{arith}
 use borrow.Author.Needs.{needs}
 use lib.ListN.{length}
 use Rattle.layout.specs.Layout.{Keeps}
-use Rattle.model.specs.Fields.{Field}
-use Rattle.masks.specs.Readers.{readersOf}
 use Rattle.tables.specs.Memory.{usersIn, tablesIn}
 use Rattle.tables.specs.Grants.{Found}
 use Rattle.tables.proofs.Held.{found-none}
-use Rattle.record.specs.Slots.{fieldIn, fieldsIn, masksIn, fieldAt, CanonicalFields}
-use Rattle.record.proofs.Slots.{field-slot}
-use Rattle.record.proofs.Stores.{fields-fit}
+use Rattle.record.specs.Slots.{fieldsIn, masksIn, fieldAt, CanonicalFields}
 use Rattle.record.proofs.Masks.{masks-count}
-use Rattle.opening.proofs.Masks.{MasksBelow, masks-start, masks-more, masks-all}
+use Rattle.opening.proofs.Masks.{masksBelow, masks-more, masks-all}
 use Rattle.opening.proofs.fields.set_masks.Statement.{statement}
 use Rattle.opening.proofs.fields.set_masks.Tie as tie
 
 abbrev Inv-loop : tie.InvT-loop
 Inv-loop tables table₀ n found₀ i₀ table found i =
-    (i ≤ n) × (fieldsIn table ≡ fieldsIn table₀) × MasksBelow (tablesIn tables) (fieldsIn table₀) i (masksIn table) × Keeps CanonicalFields table₀ table
+    (i ≤ n) × (fieldsIn table ≡ fieldsIn table₀) × (masksIn table ≡ masksBelow (tablesIn tables) (fieldsIn table₀) (masksIn table₀) i) × Keeps CanonicalFields table₀ table
     × Found (usersIn tables) (fieldAt (i - 1) (fieldsIn table₀) .path) found
 
 abbrev μ-loop : tie.MeasureT-loop
@@ -30,7 +26,7 @@ count-requires : tie.Need-count-requires Inv-loop μ-loop
 count-requires c κs = search needs
 
 loop-holds : tie.Need-loop-holds Inv-loop μ-loop
-loop-holds c = let s = c .before .before .args .table .now in (search needs, refl, masks-start _ _ (masksIn s) (masks-count s), (λ h. h), found-none _ _)
+loop-holds c = (search needs, refl, refl, (λ h. h), found-none _ _)
 
 mask-at-requires : tie.Need-mask-at-requires Inv-loop μ-loop
 mask-at-requires c κs =
@@ -62,7 +58,7 @@ loop-again c =
     let (same, rest) = c .set-mask .ensures in (
       search needs,
       same .0 ∙ l .inv .1,
-      rw (same .1) (masks-more _ _ (l .i) (masksIn (l .table)) (l .inv .2) below mask),
+      same .1 ∙ rw (l .inv .2) (masks-more _ _ (masksIn (a .table .now)) (masks-count (a .table .now)) (l .i) below mask),
       (λ h. rest .0 (l .inv .3 h)),
       (let back : l .i + 1 - 1 ≡ l .i = omega arith in rw back found),
     )
@@ -70,8 +66,8 @@ loop-again c =
 returns : tie.Need-returns Inv-loop μ-loop
 returns c =
     let l = c .before .loop in
-    let n = c .before .before in
-    (l .inv .1, (masks-all _ _ (l .i) (masksIn (l .table)) (l .inv .2) (omega (arith, c .loop-test .left, n .count .ensures)), l .inv .3))
+    let s = c .before .before .before .before .args .table .now in
+    (l .inv .1, (l .inv .2 ∙ masks-all _ (fieldsIn s) (masksIn s) (masks-count s) (l .i) (search needs) (search needs), l .inv .3))
 
 pub set-masks-spec : {M : Type 1} → statement M
 set-masks-spec =
