@@ -5,10 +5,10 @@ use mathlib.Core.Bool.{Bool, true, false}
 use mathlib.Core.List.{List, [], _++_, map, append-assoc, append-nil}
 use native.Mathlib.Omega.{arith}
 use lib.ListN.{length, take, drop}
-use lib.Seq.{take-take, drop-drop}
+use lib.Seq.{take-take}
 use Rattle.rows.proofs.Parts.{part-part}
 use Rattle.model.specs.Base.{Bytes, text, if_then_else_, keep, joined, between}
-use Rattle.model.specs.Limits.{maxKey, maxRules, maxBindings}
+use Rattle.model.specs.Limits.{maxRules, maxBindings}
 use Rattle.model.specs.Fields.{Fields}
 use Rattle.model.specs.SavedText.{saved}
 use Rattle.model.specs.Paths.{stepsText}
@@ -20,7 +20,7 @@ use Rattle.layout.specs.Layout.{inUse, nameRow, keyRow, nameIn}
 use Rattle.steps.specs.Environments.{bindingRow, bindingIn, bindingsIn}
 use Rattle.tables.specs.Memory.{ruleRow, ruleIn, policyIn}
 use Rattle.copies.specs.Heads.{headOf}
-use Rattle.layout.proofs.Used.{counted-fit, row-left, rows-over}
+use Rattle.layout.proofs.Used.{row-left, rows-over}
 use Rattle.tables.proofs.Policy.{rule-left, rules-over}
 
 -- ── A policy line ──
@@ -48,9 +48,6 @@ abbrev pub rulesFrom : User → Bytes → ℕ → Bytes
 rulesFrom u s i = joined (map (ruleLine u) (keep (isFor u) (drop i (policyIn s))))
 
 -- m rows were counted
-pub rules-fit : (s : Bytes) {m : ℕ} → m ≡ length (inUse ruleRow maxRules s) → m ≤ maxRules
-rules-fit s counted = counted-fit ruleRow maxRules s counted
-
 module _ (u : User) (s : Bytes) {m : ℕ} (counted : m ≡ length (inUse ruleRow maxRules s)) (i : ℕ) where
   -- the line in the row at i is the user's, or it is not
   module _ (below : i < m) {row : Bytes} (is : row ≡ take ruleRow (drop (i * ruleRow) s)) where
@@ -70,24 +67,20 @@ module _ (u : User) (s : Bytes) {m : ℕ} (counted : m ≡ length (inUse ruleRow
 abbrev pub bindingsFrom : Bytes → ℕ → Bytes
 bindingsFrom s i = joined (map bindingLine (drop i (bindingsIn s)))
 
-module _ (s : Bytes) {m : ℕ} (counted : m ≡ length (inUse bindingRow maxBindings s)) where
-  -- m rows were counted: at most 16
-  pub bindings-fit : m ≤ maxBindings
-  bindings-fit = counted-fit bindingRow maxBindings s counted
+-- m rows were counted
+module _ (s : Bytes) {m : ℕ} (counted : m ≡ length (inUse bindingRow maxBindings s)) (i : ℕ) where
+  -- a line more, with the name and the value in the row at i
+  pub bindings-next : {name value : Bytes} → i < m → name ≡ nameIn (take nameRow (drop (i * bindingRow) s)) → value ≡ nameIn (take keyRow (drop (i * bindingRow + nameRow) s))
+      → bindingsFrom s i ≡ name ++ (text ";" ++ (value ++ (text "\n" ++ bindingsFrom s (i + 1))))
+  unfolding joined bindingsIn bindingIn bindingLine tableLine between
+  bindings-next h n v =
+      rw (row-left bindingIn bindingRow maxBindings s counted i h refl, take-take nameRow bindingRow (drop (i * bindingRow) s) (omega arith), part-part (i * bindingRow) bindingRow s nameRow keyRow (omega arith), ← n, ← v)
+      (simp append-assoc)
 
-  module _ (i : ℕ) where
-    -- a line more, with the name and the value in the row at i
-    pub bindings-next : {name value : Bytes} → i < m → name ≡ nameIn (take nameRow (drop (i * bindingRow) s)) → value ≡ nameIn (take keyRow (drop (i * bindingRow + nameRow) s))
-        → bindingsFrom s i ≡ name ++ (text ";" ++ (value ++ (text "\n" ++ bindingsFrom s (i + 1))))
-    unfolding joined bindingsIn bindingIn bindingLine tableLine between
-    bindings-next h n v =
-        rw (row-left bindingIn bindingRow maxBindings s counted i h refl, take-take nameRow bindingRow (drop (i * bindingRow) s) (omega arith), part-part (i * bindingRow) bindingRow s nameRow keyRow (omega arith), ← n, ← v)
-        (simp append-assoc)
-
-    -- behind the last nothing is left
-    pub bindings-end : m ≤ i → bindingsFrom s i ≡ []
-    unfolding joined bindingsIn
-    bindings-end h = rw (rows-over bindingIn bindingRow maxBindings s counted i h)
+  -- behind the last nothing is left
+  pub bindings-end : m ≤ i → bindingsFrom s i ≡ []
+  unfolding joined bindingsIn
+  bindings-end h = rw (rows-over bindingIn bindingRow maxBindings s counted i h)
 
 -- ── The copy: its parts one behind the other ──
 module _ (rs : List Rule) (u : User) where

@@ -6,6 +6,7 @@ use native.Mathlib.Omega.{arith}
 use Rattle.model.specs.Base.{Bytes}
 use Rattle.model.specs.Refusals.{Result, refused, done}
 use Rattle.model.specs.Opening.{State, Fault}
+use Rattle.model.proofs.Lists.{refused-done}
 use Rattle.opening.specs.declared.answer.Opening.the-variants as opening
 use Rattle.opening.specs.Answers.{openingAnswer}
 use Rattle.model.specs.Serving.{Outcome}
@@ -39,8 +40,5 @@ refused-as (refused f) n t l e = (cc, cc, cc)
 refused-as (done s) n t l e = let z : _≡_ {A = ℕ} 0 1 = cc in absurd (omega arith)
 
 pub refused-nonzero : {C : Type 0} (o : Result Fault State) (n t l : ℕ) → opening.Refused n t l ≡ openingAnswer o → (s : State) → o ≡ done s → C
-refused-nonzero o n t l e s is = go o e is
-  where
-    go : {C : Type 0} (o : Result Fault State) → opening.Refused n t l ≡ openingAnswer o → o ≡ done s → C
-    go (refused f) e h = let z : _≡_ {A = ℕ} 0 1 = cc in absurd (omega arith)
-    go (done s) e h = let z : _≡_ {A = ℕ} 0 1 = cc in absurd (omega arith)
+refused-nonzero (refused f) n t l e s is = refused-done is
+refused-nonzero (done d) n t l e s is = let z : _≡_ {A = ℕ} 0 1 = cc in absurd (omega arith)

@@ -7,8 +7,9 @@ use borrow.Author.Needs.{needs}
 use Rattle.model.specs.Base.{text}
 use Rattle.buffers.proofs.Writers.{wrote-none}
 use Rattle.layout.proofs.Named.{name-length}
+use Rattle.layout.proofs.Used.{counted-fit}
 use Rattle.writer.proofs.Remains.{Remains, remains-step, remains-end}
-use Rattle.copies.proofs.Lines.{bindingsFrom, bindings-fit, bindings-next, bindings-end}
+use Rattle.copies.proofs.Lines.{bindingsFrom, bindings-next, bindings-end}
 use Rattle.copies.proofs.put_bindings.Statement.{statement}
 use Rattle.copies.proofs.put_bindings.Tie as tie
 use Rattle.model.specs.Limits.{maxName, maxBindings, maxKey}
@@ -25,7 +26,7 @@ row-count-requires : tie.Need-row-count-requires Inv-loop μ-loop
 row-count-requires c κs = search needs
 
 loop-holds : tie.Need-loop-holds Inv-loop μ-loop
-loop-holds c = (bindings-fit _ (c .row-count .ensures), search needs, search needs, refl, (refl, refl))
+loop-holds c = (counted-fit bindingRow maxBindings _ (c .row-count .ensures), search needs, search needs, refl, (refl, refl))
 
 mul-row : tie.Need-mul-row Inv-loop μ-loop
 mul-row c = search needs

@@ -7,10 +7,12 @@ use lib.ListN.{length}
 use Rattle.copies.specs.Heads.{ruleText}
 use borrow.Author.Needs.{needs}
 use Rattle.buffers.proofs.Writers.{wrote-none}
-use Rattle.tables.specs.Memory.{userIn}
+use Rattle.layout.proofs.Used.{counted-fit}
+use Rattle.model.specs.Limits.{maxRules}
+use Rattle.tables.specs.Memory.{userIn, ruleRow}
 use Rattle.tables.proofs.Policy.{rule-inside}
 use Rattle.writer.proofs.Remains.{Remains, remains-step, remains-end}
-use Rattle.copies.proofs.Lines.{rulesFrom, rules-fit, rules-yes, rules-no, rules-end}
+use Rattle.copies.proofs.Lines.{rulesFrom, rules-yes, rules-no, rules-end}
 use Rattle.copies.proofs.put_rules.Statement.{statement}
 use Rattle.copies.proofs.put_rules.Tie as tie
 
@@ -35,7 +37,7 @@ is-for-requires : tie.Need-is-for-requires Inv-loop μ-loop
 is-for-requires c κs = search needs
 
 put-rule-line-requires : tie.Need-put-rule-line-requires Inv-loop μ-loop
-put-rule-line-requires c κs = let f = rules-fit _ (c .before .before .before .before .before .before .row-count .ensures) in search needs
+put-rule-line-requires c κs = let f = counted-fit ruleRow maxRules _ (c .before .before .before .before .before .before .row-count .ensures) in search needs
 
 add-i : tie.Need-add-i Inv-loop μ-loop
 add-i c = search needs
@@ -63,7 +65,7 @@ returns : tie.Need-returns Inv-loop μ-loop
 returns c =
     let l = c .before .loop in
     let n = c .before .before .row-count .ensures in
-    let f = rules-fit _ n in
+    let f = counted-fit ruleRow maxRules _ n in
     (remains-end _ _ _ _ _ _ _ _ (rw (rules-end _ _ n (l .i) (search needs)) at (l .inv .3)) (wrote-none _ _), search needs)
 
 pub put-rules-spec : {M : Type 1} → statement M
