@@ -3,10 +3,9 @@ use Prim.Native.Nat.{ℕ, _+_, _*_, _≤_, _<_}
 use mathlib.Core.Path.{_≡_, _∙_}
 use mathlib.Core.Bool.{Bool, _||_}
 use mathlib.Core.List.{List, []}
-use native.Mathlib.Omega.{arith}
 use lib.ListN.{length, take, drop}
 use lib.Seq.{take-all}
-use Rattle.layout.proofs.Used.{table-fit, length-table, used-fit, row-left, rows-over}
+use Rattle.layout.proofs.Used.{table-fit, length-table, row-left, rows-over}
 use Rattle.model.specs.Base.{Bytes, any}
 use Rattle.model.specs.Limits.{maxFields, maxRules}
 use Rattle.model.specs.Fields.{Field}
@@ -14,7 +13,7 @@ use Rattle.model.specs.Paths.{Steps, asSteps}
 use Rattle.model.specs.Tables.{Rule}
 use Rattle.model.specs.Rights.{conflictsWith}
 use Rattle.paths.specs.Layout.{pathIn}
-use Rattle.record.specs.Slots.{slotBytes, recordBytes, fieldIn, fieldsIn}
+use Rattle.record.specs.Slots.{slotBytes, fieldIn, fieldsIn}
 use Rattle.layout.specs.Layout.{inUse}
 use Rattle.tables.specs.Memory.{ruleRow, ruleIn, policyIn}
 

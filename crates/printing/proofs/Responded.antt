@@ -28,7 +28,7 @@ use Rattle.requests.specs.Lines.{pushedText}
 use Rattle.deliveries.specs.Receivers.{deliveryOf}
 use Rattle.deliveries.proofs.Received.{receivers-few}
 use Rattle.deliveries.proofs.Delivered.{delivery-as}
-use Rattle.opening.specs.Memory.{Arrays, stateIn, stateOf, masksOf}
+use Rattle.opening.specs.Memory.{Arrays, stateOf, masksOf}
 use Rattle.server.specs.declared.answer.Reply.{Reply}
 use Rattle.server.specs.declared.answer.Reply.the-variants.{Refused, Session, Length, Accepted}
 use Rattle.server.proofs.answer.Reply.{the-type}

@@ -1,10 +1,9 @@
 -- Where the masks agree with the policy, serving by them is serving as documents 01 and 02 say, and they agree again.
-use Prim.Native.Nat.{ℕ, _≤_, _<_}
-use mathlib.Core.Path.{_≡_, refl, sym, ap, fun-ext, _∙_}
+use Prim.Native.Nat.{ℕ, _≤_}
+use mathlib.Core.Path.{_≡_, refl, ap, fun-ext, _∙_}
 use mathlib.Core.Option.{Option, none, some}
-use mathlib.Core.List.{List, [], _∷_, _++_, map, map-append}
-use native.Mathlib.Omega.{arith}
-use lib.ListN.{length, getD, take, drop, set, length-set}
+use mathlib.Core.List.{List, [], _∷_, map, map-append}
+use lib.ListN.{length, set, length-set}
 use lib.Seq.{take-all}
 use Rattle.rows.proofs.Rows.{map-take, map-drop, map-set, getD-map}
 use Rattle.model.specs.Base.{Bytes, keep}
@@ -17,7 +16,7 @@ use Rattle.model.specs.Tables.{User, Tables, userAt}
 use Rattle.model.specs.Rights.{mayRead}
 use Rattle.model.specs.Opening.{State}
 use Rattle.model.specs.Requests.{Request, login, inSession, get, push, logout, requestOf}
-use Rattle.model.specs.Serving.{indexIn, Change, setsLogin, shows, stores, readable, copyFor, copyOf, decideShow, decideGet, roomFor, decide, apply, readsBy, readsAt, notified, Act, line, save, bufferOf, listOf, decideLine, decision, Outcome, unchanged, conclude, outcome}
+use Rattle.model.specs.Serving.{indexIn, Change, setsLogin, shows, stores, readable, copyFor, decideGet, roomFor, decide, apply, readsBy, readsAt, notified, Act, line, save, bufferOf, listOf, decideLine, decision, Outcome, unchanged, conclude, outcome}
 use Rattle.model.proofs.Lists.{bind-agree}
 use Rattle.model.proofs.Decisions.{asking}
 use Rattle.masks.specs.Bits.{bitAt}
@@ -31,7 +30,6 @@ use Rattle.record.specs.Slots.{slotBytes, fieldIn, fieldsIn}
 use Rattle.layout.proofs.Used.{table-fit}
 use Rattle.tables.specs.Memory.{userRow, userIn, usersIn, tablesIn}
 use Rattle.opening.specs.Memory.{Arrays, stateIn, stateOf, masksOf, Agree}
-use Rattle.deliveries.specs.Receivers.{receiversOf}
 use Rattle.deliveries.proofs.Received.{receivers-of}
 use Rattle.server.specs.Masked.{shownTo, decideGetMasked, decideMasked, decideLineMasked, decisionMasked, maskAt, maskFor, notifiedMasked, concludeMasked, masksAfter, Effect, effectOf, effectByMasks, effectByPolicy}
 use Rattle.server.specs.declared.answer.Reply.{Reply}

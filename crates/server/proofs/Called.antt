@@ -1,14 +1,13 @@
 -- The claims of specs/Calls, in their order.
-use Prim.Native.Nat.{ℕ, _<_}
+use Prim.Native.Nat.{ℕ}
 use mathlib.Core.Path.{_≡_, refl, sym, ap, ap₂, _∙_}
 use mathlib.Core.Bool.{true, false}
 use mathlib.Core.List.{List, [], _∷_}
 use native.Mathlib.Omega.{arith}
-use lib.ListN.{length, getD}
 use lib.Seq.{set-getD}
 use Rattle.rows.proofs.Rows.{getD-map}
 use Rattle.model.specs.Values.{truth}
-use Rattle.model.specs.Fields.{Field, holds, fieldOf}
+use Rattle.model.specs.Fields.{Field, fieldOf}
 use Rattle.model.specs.Refusals.{Result, refused, done}
 use Rattle.model.specs.Opening.{State, Fault, opened, kept, afterOpening}
 use Rattle.model.specs.Serving.{Act, save, Outcome, outcome}
@@ -23,7 +22,7 @@ use Rattle.masks.specs.Readers.{readersOf}
 use Rattle.masks.proofs.Readers.{reads-bit}
 use Rattle.layout.proofs.Used.{table-fit}
 use Rattle.tables.specs.Memory.{userRow, userIn, usersIn, tablesIn}
-use Rattle.opening.specs.Memory.{Arrays, stateOf, Agree}
+use Rattle.opening.specs.Memory.{Arrays, stateOf}
 use Rattle.opening.specs.Answers.{openingAnswer}
 use Rattle.opening.specs.declared.answer.Opening.the-variants.{Done}
 use Rattle.opening.proofs.AllOpened.{opening-agrees}
@@ -31,7 +30,7 @@ use Rattle.opening.proofs.Zeros
 use Rattle.server.specs.Masked.{maskAt, maskFor, masksAfter, effectByPolicy}
 use Rattle.server.specs.Replies.{outcomeIn, act, eventOf}
 use Rattle.server.specs.Calls as claims
-use Rattle.server.specs.Calls.{Calls, AsRun, actsOf, none, requested, saved}
+use Rattle.server.specs.Calls.{AsRun, actsOf, none, requested, saved}
 use Rattle.server.proofs.Agree.{memory-agrees, masked-said}
 
 pub set-exactly : claims.SetExactly

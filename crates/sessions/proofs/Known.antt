@@ -1,7 +1,7 @@
 -- What a session's number says: no open session has it, or that of the user at an index; and what a request that carries it decides first.
 use Prim.Native.Nat.{ℕ, _+_, _*_, _≤_, _<_}
 use mathlib.Core.Path.{_≡_, refl, sym, _∙_}
-use mathlib.Core.Bool.{Bool, true, false, not}
+use mathlib.Core.Bool.{Bool, true, false}
 use mathlib.Core.Option.{Option, none, some}
 use mathlib.Core.List.{List}
 use native.Mathlib.Omega.{arith}
@@ -11,7 +11,7 @@ use Rattle.model.specs.Limits.{maxUsers}
 use Rattle.model.specs.Refusals.{refused, done, _>>=_, _>>_, refuse_if_, _or_}
 use Rattle.model.specs.Tables.{User, userAt}
 use Rattle.model.specs.Opening.{LoginState, State, emptyLogin}
-use Rattle.model.specs.Serving.{indexIn, isSession, loginAt, asker}
+use Rattle.model.specs.Serving.{indexIn, loginAt, asker}
 use Rattle.model.proofs.Lists.{never, elem-below}
 use Rattle.layout.specs.Layout.{inUse}
 use Rattle.tables.specs.Memory.{userRow, usersBytes, userIn, usersIn}

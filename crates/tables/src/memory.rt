@@ -8,7 +8,7 @@ use steps::policy::STEPS;
 use steps::step::ENVIRONMENT;
 ghost use mathlib.Core.Path.{_≡_};
 ghost use Prim.Native.Nat.{_+_, _*_, _≤_, _<_};
-ghost use lib.ListN.{length, take, drop};
+ghost use lib.ListN.{length, drop};
 ghost use Rattle.model.specs.Rights.{isWrite, isFor};
 ghost use Rattle.model.specs.Tables.{userNamed};
 ghost use Rattle.steps.specs.Environments.{bindingsBytes, bindingsIn};

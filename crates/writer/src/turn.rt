@@ -5,7 +5,6 @@ use layout::counted::count;
 use lexical::limits::MAX_DEPTH;
 use paths::field::shared_keys;
 use paths::key::key_at;
-ghost use mathlib.Core.Path.{_≡_};
 ghost use Prim.Native.Nat.{_+_, _≤_, _<_, _^_};
 ghost use lib.ListN.{length, drop, replicate};
 ghost use Rattle.rows.specs.Rows.{Wrote};

@@ -1,11 +1,7 @@
 -- What is kept was found out of the keys that the two paths share.
-use mathlib.Core.Path.{_≡_, sym, ap, _∙_}
 use native.Mathlib.Nat.{le-of-eq}
 use native.Mathlib.Omega.{arith}
 use borrow.Author.Needs.{needs}
-use Rattle.model.specs.Fields.{Keys}
-use Rattle.masks.specs.Readers.{readersOf}
-use Rattle.tables.specs.Memory.{tablesIn}
 use Rattle.record.proofs.Stores.{fields-fit}
 use Rattle.opening.proofs.Masks.{slot-path}
 use Rattle.opening.proofs.fields.mask_at.Statement.{statement}

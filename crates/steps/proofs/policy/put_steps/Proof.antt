@@ -6,7 +6,6 @@ use borrow.Author.Needs.{needs}
 use lib.ListN.{length}
 use Rattle.model.specs.Limits.{maxDepth}
 use Rattle.rows.specs.Rows.{Wrote}
-use Rattle.rows.proofs.Parts.{length-part}
 use Rattle.model.specs.Base.{text, joined}
 use Rattle.model.specs.Paths.{stepText, stepsText}
 use Rattle.buffers.proofs.Writers.{wrote-none, wrote-both}

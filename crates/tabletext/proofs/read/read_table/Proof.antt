@@ -1,6 +1,6 @@
 -- At each turn the line n stands at the position `at`: the lines before it made the tables what they are, and the rest is left to read; what is written as its meaning is stays so.
 use Prim.Native.Nat.{_+_, _-_, _≤_}
-use mathlib.Core.Path.{_≡_, sym, _∙_}
+use mathlib.Core.Path.{sym, _∙_}
 use native.Mathlib.Omega.{arith}
 use lib.ListN.{length, length-take, length-drop}
 use borrow.Author.Needs.{needs}
