@@ -32,11 +32,13 @@ fn word(a: &[u8]) -> u64
     (p + q) + (r + s)
 }
 
-// Slices of one length, byte by byte: names often begin alike, so the last bytes are compared first.
-fn same_bytes(a: &[u8], b: &[u8]) -> bool
-    requires { ⌜ length (now a) ≡ length (now b) ⌝ }
+// Byte by byte, short enough to stand in a loop. Names often begin alike, so the last bytes are compared first.
+pub fn same_bytes(a: &[u8], b: &[u8]) -> bool
     ensures { λ r. ⌜ r ≡ (now (a .entry) == now (b .entry)) ⌝ }
 {
+    if a.len() != b.len() {
+        return false;
+    }
     let mut i = a.len();
     while 0 < i {
         i -= 1;

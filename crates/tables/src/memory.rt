@@ -4,6 +4,7 @@ use layout::name::name_from;
 use lexical::limits::MAX_RULES;
 use lexical::limits::MAX_USERS;
 use lexical::slice::same;
+use lexical::slice::same_bytes;
 use steps::policy::STEPS;
 use steps::step::ENVIRONMENT;
 ghost use mathlib.Core.Path.{_≡_};
@@ -86,7 +87,7 @@ pub fn find_user(users: &[u8], name: &[u8]) -> UserAt
         if users[at] == 0 {
             return UserAt::Unknown;
         }
-        if same(name_from(users, at, NAME_ROW), name) {
+        if same_bytes(name_from(users, at, NAME_ROW), name) {
             return UserAt::At(i);
         }
         i += 1;

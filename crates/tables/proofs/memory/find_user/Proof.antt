@@ -37,14 +37,14 @@ returns c =
 name-from-requires : tie.Need-name-from-requires Inv-loop μ-loop
 name-from-requires c κs = search needs
 
-same-requires : tie.Need-same-requires Inv-loop μ-loop
-same-requires c κs = search needs
+same-bytes-requires : tie.Need-same-bytes-requires Inv-loop μ-loop
+same-bytes-requires c κs = search needs
 
 returns-2 : tie.Need-returns-2 Inv-loop μ-loop
 returns-2 c =
     let k = c .before .before in
     let l = k .before .before .before .before .loop in
-    let turn = named-next _ _ (l .i) (k .before .before .before .loop-test .taken) (l .inv .0) (k .before .if1 .left) (k .name-from .ensures) (c .before .same .ensures) in
+    let turn = named-next _ _ (l .i) (k .before .before .before .loop-test .taken) (l .inv .0) (k .before .if1 .left) (k .name-from .ensures) (c .before .same-bytes .ensures) in
     rw (l .inv .1, turn, c .if2 .taken)
 
 add-i : tie.Need-add-i Inv-loop μ-loop
@@ -57,7 +57,7 @@ loop-again : tie.Need-loop-again Inv-loop μ-loop
 loop-again c =
     let k = c .before .before in
     let l = k .before .before .before .before .loop in
-    let turn = named-next _ _ (l .i) (k .before .before .before .loop-test .taken) (l .inv .0) (k .before .if1 .left) (k .name-from .ensures) (c .before .same .ensures) in
+    let turn = named-next _ _ (l .i) (k .before .before .before .loop-test .taken) (l .inv .0) (k .before .if1 .left) (k .name-from .ensures) (c .before .same-bytes .ensures) in
     let more = named-more (c .before .before .before .before .before .before .before .before .before .args .name .now) _ (l .i) (k .before .before .before .loop-test .taken) (l .inv .0) (k .before .if1 .left) in
     (omega arith, l .inv .1 ∙ turn ∙ rw (c .if2 .left))
 
@@ -78,7 +78,7 @@ find-user-spec =
     shared-slice-read-if1
     returns
     name-from-requires
-    same-requires
+    same-bytes-requires
     returns-2
     add-i
     loop-less
