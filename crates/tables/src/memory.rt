@@ -3,7 +3,6 @@ use layout::name::NAME_ROW;
 use layout::name::name_from;
 use lexical::limits::MAX_RULES;
 use lexical::limits::MAX_USERS;
-use lexical::slice::same;
 use lexical::slice::same_bytes;
 use steps::policy::STEPS;
 use steps::step::ENVIRONMENT;
@@ -109,8 +108,8 @@ pub fn is_for(rule: &[u8], user: &[u8]) -> bool
     ensures { λ r. ⌜ r ≡ isFor (userIn (now (user .entry))) (ruleIn (now (rule .entry))) ⌝ }
 {
     let role = name_from(rule, 0, NAME_ROW);
-    if same(role, name_from(user, ROLE, NAME_ROW)) {
+    if same_bytes(role, name_from(user, ROLE, NAME_ROW)) {
         return true;
     }
-    same(role, b"*")
+    same_bytes(role, b"*")
 }

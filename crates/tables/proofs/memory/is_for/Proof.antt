@@ -13,27 +13,27 @@ name-from-requires c κs = search needs
 name-from-requires-2 : tie.Need-name-from-requires-2
 name-from-requires-2 c κs = search needs
 
-same-requires : tie.Need-same-requires
-same-requires c κs = search needs
+same-bytes-requires : tie.Need-same-bytes-requires
+same-bytes-requires c κs = search needs
 
 returns : tie.Need-returns
 unfolding isFor userIn ruleIn
 returns c =
     let k = c .before .before in
-    rw (← k .before .name-from .ensures, ← k .name-from2 .ensures, ← c .before .same .ensures, c .if1 .taken)
+    rw (← k .before .name-from .ensures, ← k .name-from2 .ensures, ← c .before .same-bytes .ensures, c .if1 .taken)
 
-slice-aggregate-same : tie.Need-slice-aggregate-same
-slice-aggregate-same c = search needs
+slice-aggregate-same-bytes : tie.Need-slice-aggregate-same-bytes
+slice-aggregate-same-bytes c = search needs
 
-same-requires-2 : tie.Need-same-requires-2
-same-requires-2 c κs = search needs
+same-bytes-requires-2 : tie.Need-same-bytes-requires-2
+same-bytes-requires-2 c κs = search needs
 
 returns-2 : tie.Need-returns-2
 unfolding isFor userIn ruleIn everyRole text
 returns-2 c =
     let k = c .before .before in
     let j = k .before .before in
-    rw (← j .before .name-from .ensures, ← j .name-from2 .ensures, ← k .before .same .ensures, k .if1 .left) (c .same2 .ensures)
+    rw (← j .before .name-from .ensures, ← j .name-from2 .ensures, ← k .before .same-bytes .ensures, k .if1 .left) (c .same-bytes2 .ensures)
 
 pub is-for-spec : {M : Type 1} → statement M
 is-for-spec =
@@ -41,8 +41,8 @@ is-for-spec =
     (tie.spec
     name-from-requires
     name-from-requires-2
-    same-requires
+    same-bytes-requires
     returns
-    slice-aggregate-same
-    same-requires-2
+    slice-aggregate-same-bytes
+    same-bytes-requires-2
     returns-2)
