@@ -4,7 +4,7 @@ use layout::name::name_from;
 use layout::table::row_count;
 use lexical::limits::MAX_LOGINS;
 use lexical::limits::PER_USER;
-use lexical::slice::same;
+use lexical::slice::same_bytes;
 use tables::memory::KEY;
 use tables::memory::TABLES;
 use tables::memory::USER;
@@ -120,7 +120,7 @@ pub fn login(
     let UserAt::At(i) = find_user(tables, name) else {
         return LoginReply::Refused(12);
     };
-    if !same(name_from(tables, i * USER + KEY, NAME_ROW), key) {
+    if !same_bytes(name_from(tables, i * USER + KEY, NAME_ROW), key) {
         return LoginReply::Refused(12); // as for an unknown user
     }
     let state = state_at(logins, i);

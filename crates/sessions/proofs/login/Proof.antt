@@ -35,8 +35,8 @@ add-name-from c = omega (arith, found-below _ _ (c .before .before .i .given .1)
 name-from-requires : tie.Need-name-from-requires
 name-from-requires c κs = omega (arith, found-below _ _ (c .before .before .i .given .1) (c .before .before .before .before .find-user .ensures))
 
-same-requires : tie.Need-same-requires
-same-requires c κs = search needs
+same-bytes-requires : tie.Need-same-bytes-requires
+same-bytes-requires c κs = search needs
 
 returns-2 : tie.Need-returns-2
 returns-2 c =
@@ -44,7 +44,7 @@ returns-2 c =
     let k = j .before .before in
     let ls = loginsIn (k .before .before .before .before .args .logins .now) in
     let name = c .before .before .name-from .ensures in
-    let decided = wrong-key _ _ (j .i .given .1) (k .find-user .ensures) ls _ name (c .before .same .ensures) (not-true _ (c .if1 .taken)) in
+    let decided = wrong-key _ _ (j .i .given .1) (k .find-user .ensures) ls _ name (c .before .same-bytes .ensures) (not-true _ (c .if1 .taken)) in
     record { answers = rw decided; leaves = rw decided; numbers = rw decided }
 
 state-at-requires : tie.Need-state-at-requires
@@ -62,7 +62,7 @@ returns-3 c =
     let ls = loginsIn (k .before .before .before .before .args .logins .now) in
     let name = i .before .before .name-from .ensures in
     let right = not-false _ (i .if1 .left) in
-    let decided = has-session _ _ (j .i .given .1) (k .find-user .ensures) ls _ name (i .before .same .ensures) right (c .before .state-at .ensures) is-open in
+    let decided = has-session _ _ (j .i .given .1) (k .find-user .ensures) ls _ name (i .before .same-bytes .ensures) right (c .before .state-at .ensures) is-open in
     record { answers = rw decided; leaves = rw decided; numbers = rw decided }
 
 returns-4 : tie.Need-returns-4
@@ -76,7 +76,7 @@ returns-4 c =
     let name = i .before .before .name-from .ensures in
     let right = not-false _ (i .if1 .left) in
     let state = h .before .state-at .ensures in
-    let decided = logins-ended _ _ (j .i .given .1) (k .find-user .ensures) ls _ name (i .before .same .ensures) right state (h .if2 .left) (c .if3 .taken) in
+    let decided = logins-ended _ _ (j .i .given .1) (k .find-user .ensures) ls _ name (i .before .same-bytes .ensures) right state (h .if2 .left) (c .if3 .taken) in
     record { answers = rw decided; leaves = rw decided; numbers = rw decided }
 
 entered-requires : tie.Need-entered-requires
@@ -105,7 +105,7 @@ returns-5 c =
     let right = not-false _ (i .if1 .left) in
     let state = h .before .state-at .ensures in
     let enters = c .before .before .before .entered .ensures in
-    let decided = login-enters _ _ (j .i .given .1) (k .find-user .ensures) ls _ name (i .before .same .ensures) right state (h .if2 .left) (e .if3 .left) enters in
+    let decided = login-enters _ _ (j .i .given .1) (k .find-user .ensures) ls _ name (i .before .same-bytes .ensures) right state (h .if2 .left) (e .if3 .left) enters in
     let stored = c .before .put-state .ensures in
     record { answers = rw decided (ap Session (c .number .ensures)); leaves = rw decided (stored .states); numbers = rw decided (stored .numbers) }
 
@@ -120,7 +120,7 @@ login-spec =
     mul-name-from
     add-name-from
     name-from-requires
-    same-requires
+    same-bytes-requires
     returns-2
     state-at-requires
     returns-3
