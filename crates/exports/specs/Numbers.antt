@@ -8,9 +8,8 @@ use Rattle.model.specs.Opening.{State, Texts, Fault, opened, afterOpening}
 use Rattle.model.specs.Serving.{Answer, refusal, session, length-is, accepted, Act, save, Outcome, outcome}
 use Rattle.opening.specs.Memory.{Arrays, stateIn, stateOf, masksOf, Agree}
 use Rattle.opening.specs.Answers.{arraysAfter}
-use Rattle.sessions.specs.Logins.{numbersAfter}
 use Rattle.server.specs.Masked.{Effect, effectByMasks, effectByPolicy}
-use Rattle.server.specs.Replies.{fieldsAfter}
+use Rattle.server.specs.Replies.{InMemory}
 
 -- an opening's refusal: its number, its text and its line; 0 where it is accepted
 unfoldable pub faultNumber : Result Fault State → ℕ
@@ -61,9 +60,7 @@ pub record Tells (o : Outcome) (kind r : ℕ) (after : State) (buffer : Bytes) (
 -- an act has its effect: the kind and the number of its outcome, and what the arrays, the buffer and the list are afterwards
 pub record ServesAs (w : Effect) (before : Arrays) (kind r : ℕ) (after : Arrays) (buffer : Bytes) (list : List ℕ) : Type 0 where
   pub tells : Tells (w .outcome) kind r (stateOf after) buffer list
-  pub logins : after .logins ≡ numbersAfter (w .decided) (before .logins)
-  pub fields : after .fields ≡ fieldsAfter (w .mask) (w .decided) (before .fields)
-  pub masks : masksOf after ≡ w .masks
+  pub memory : InMemory w before after
 
 -- by the masks, whatever the arrays hold
 abbrev pub ServesByMasks : Arrays → Act → ℕ → ℕ → Arrays → Bytes → List ℕ → Type 0

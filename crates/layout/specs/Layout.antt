@@ -42,9 +42,13 @@ insertedRow k n i row s =
     replaced (i * k) m (row ++ take (m - k) (drop (i * k) s)) s
 
 -- ── Rows behind a byte that says how many they are ──
--- at most n rows of k bytes
+-- how many they are, at most n
+abbrev pub slotCount : ℕ → Bytes → ℕ
+slotCount n s = min (getD s 0 0) n
+
+-- of k bytes
 abbrev pub countedRows : ℕ → ℕ → Bytes → List Bytes
-countedRows k n s = take (min (getD s 0 0) n) (rows k n (drop 1 s))
+countedRows k n s = take (slotCount n s) (rows k n (drop 1 s))
 
 -- what they mean
 unfoldable pub counted : {A : Type 0} → (Bytes → A) → ℕ → ℕ → Bytes → List A

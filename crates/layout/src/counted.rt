@@ -3,14 +3,14 @@ use buffers::copy;
 use lexical::bounds::least;
 ghost use mathlib.Core.Path.{_≡_};
 ghost use mathlib.Core.List.{[], _∷_, _++_};
-ghost use Prim.Native.Nat.{_+_, _*_, _≤_, _<_, min};
-ghost use lib.ListN.{length, getD, take, drop};
-ghost use Rattle.layout.specs.Layout.{countedRows, TightCounted, Keeps};
+ghost use Prim.Native.Nat.{_+_, _*_, _≤_, _<_};
+ghost use lib.ListN.{length, take, drop};
+ghost use Rattle.layout.specs.Layout.{slotCount, countedRows, TightCounted, Keeps};
 
 // How many rows a slot says it has, at most `most`.
 pub fn count(slot: &[u8], most: usize) -> usize
     requires { ⌜ 0 < length (now slot) ⌝ }
-    ensures { λ r. ⌜ r ≡ min (getD (now (slot .entry)) 0 0) most ⌝ }
+    ensures { λ r. ⌜ r ≡ slotCount most (now (slot .entry)) ⌝ }
 {
     least(slot[0] as usize, most)
 }

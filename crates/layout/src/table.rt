@@ -77,7 +77,7 @@ pub fn replace_row(t: &mut [u8], size: usize, most: usize, i: usize, row: &[u8])
     copy(&mut t[start..], row);
 }
 
-// Where what a new row moves ends: the rows in use, of which the first `from` are, one more for it, and the empty one behind them; at most all rows.
+// Where what a new row moves ends: behind the rows in use, of which the first `from` are known to be, one more for it, and the empty one; at most behind all rows.
 pub fn moved_end(t: &[u8], size: usize, most: usize, from: usize) -> usize
     requires { ⌜ Holds size most (now t) × (from ≤ length (inUse size most (now t))) ⌝ }
     ensures { λ r. ⌜ r ≡ movedEnd size most (now (t .entry)) ⌝ }

@@ -16,7 +16,7 @@ use Rattle.model.specs.Fields.{andThen, lex, byOrder}
 use Rattle.model.proofs.Lists.{by-cases, never, bytes-eq, bytes-refl}
 use Rattle.model.proofs.Order.{by-three}
 use Rattle.model.proofs.Reading.{after-some}
-use Rattle.lexical.specs.Orders.{orderOf}
+use Rattle.lexical.specs.Orders.{orderOf, isGreater}
 use Rattle.lexical.specs.declared.slice.Order.{Order}
 use Rattle.lexical.specs.declared.slice.Order.the-variants.{Less, Equal, Greater}
 
@@ -112,16 +112,16 @@ tellsBehind Less = false
 tellsBehind Equal = false
 tellsBehind Greater = true
 
-pub behind-told : (o : Ordering) {r v : Order} → r ≡ orderOf o → r ≡ v → tellsBehind v ≡ byOrder o false false true
+pub behind-told : (o : Ordering) {r v : Order} → r ≡ orderOf o → r ≡ v → tellsBehind v ≡ isGreater o
 unfolding byOrder
 behind-told o {r} {v} h e = rw (order-told o h e) (told v)
   where
-    told : (v : Order) → tellsBehind v ≡ byOrder (orderIn v) false false true
+    told : (v : Order) → tellsBehind v ≡ isGreater (orderIn v)
     told Less = refl
     told Equal = refl
     told Greater = refl
 
-pub behind-order : (o : Ordering) → byOrder o false false true ≡ true → o ≡ Ordering·gt
+pub behind-order : (o : Ordering) → isGreater o ≡ true → o ≡ Ordering·gt
 unfolding byOrder
 behind-order Ordering·lt h = never (sym h)
 behind-order Ordering·eq h = never (sym h)

@@ -13,7 +13,7 @@ use Rattle.model.specs.Base.{Bytes, _==_}
 use Rattle.model.specs.Fields.{andThen, lex, orderKey, byOrder}
 use Rattle.model.proofs.Lists.{by-cases, and-both, bytes-refl}
 use Rattle.model.proofs.Order.{key-orders}
-use Rattle.lexical.specs.Orders.{wordBytes, bigEndian, AreBytes, firstWord, beginsBefore}
+use Rattle.lexical.specs.Orders.{isGreater, wordBytes, bigEndian, AreBytes, firstWord, beginsBefore}
 use Rattle.lexical.proofs.Slices.{same-not, lex-end, compare-less, compare-same, compare-more}
 
 -- what holds in each of the three orders of two numbers
@@ -85,7 +85,7 @@ module _ (n : ℕ) (s t : Bytes) (p : n ≤ length s) (q : n ≤ length t) (b : 
   order-within at h e = order-words at s t (omega arith) (omega arith) b c ∙ rw (compare-same (bigEndian at s) (bigEndian at t) (front-same at n s t h b c e))
 
   -- where they differ, they decide
-  pub word-behind : (bigEndian n s ≡ bigEndian n t → ⊥) → ltb (bigEndian n t) (bigEndian n s) ≡ byOrder (lex compare s t) false false true
+  pub word-behind : (bigEndian n s ≡ bigEndian n t → ⊥) → ltb (bigEndian n t) (bigEndian n s) ≡ isGreater (lex compare s t)
   unfolding andThen byOrder
   word-behind d = rw (order-words n s t p q b c) (by-order (bigEndian n s) (bigEndian n t)
       (λ l. rw (compare-less (bigEndian n s) (bigEndian n t) l, le-ltb (bigEndian n t) (bigEndian n s) (omega arith)))
@@ -96,7 +96,7 @@ module _ (n : ℕ) (s t : Bytes) (p : n ≤ length s) (q : n ≤ length t) (b : 
   -- where they are equal, the words from `at` within them on decide
   module _ (at : ℕ) (h : at ≤ n) (e : bigEndian n s ≡ bigEndian n t) (p2 : at + n ≤ length s) (q2 : at + n ≤ length t) where
     pub second-behind : (bigEndian n (drop at s) ≡ bigEndian n (drop at t) → ⊥)
-        → ltb (bigEndian n (drop at t)) (bigEndian n (drop at s)) ≡ byOrder (lex compare s t) false false true
+        → ltb (bigEndian n (drop at t)) (bigEndian n (drop at s)) ≡ isGreater (lex compare s t)
     second-behind d = rw (order-within n s t p q b c at h e) (word-behind n (drop at s) (drop at t) (rw length-drop (omega arith)) (rw length-drop (omega arith)) (later-bytes at s b) (later-bytes at t c) d)
 
     pub second-same : bigEndian n (drop at s) ≡ bigEndian n (drop at t) → lex compare s t ≡ lex compare (drop (at + n) s) (drop (at + n) t)
@@ -114,7 +114,7 @@ module _ (n : ℕ) (s t : Bytes) (p : n ≤ length s) (q : n ≤ length t) (b : 
       (λ e. rw (e, same-not s t (bigEndian n) (eqb-false (bigEndian n s) (bigEndian n t) e)))
 
 -- what begins with a lesser word than the first of s stands before s
-pub begins-behind : (s t : Bytes) → AreBytes s → AreBytes t → beginsBefore t (firstWord s) ≡ true → byOrder (orderKey s t) false false true ≡ true
+pub begins-behind : (s t : Bytes) → AreBytes s → AreBytes t → beginsBefore t (firstWord s) ≡ true → isGreater (orderKey s t) ≡ true
 unfolding orderKey beginsBefore firstWord
 begins-behind s t b c h = by-cases (leb wordBytes (length s))
     (λ e.

@@ -1,9 +1,10 @@
 -- The order of slices as the code answers it, and first bytes as one number.
 use Prim.Native.Nat.{ℕ, zero, suc, _+_, _*_, _^_, _<_, Ordering, Ordering·lt, Ordering·eq, Ordering·gt}
-use mathlib.Core.Bool.{Bool, _&&_}
+use mathlib.Core.Bool.{Bool, true, false, _&&_}
 use lib.Dec.{ltb, leb}
 use lib.ListN.{length, getD, drop}
 use Rattle.model.specs.Base.{Bytes, if_then_else_}
+use Rattle.model.specs.Fields.{byOrder}
 use Rattle.lexical.specs.declared.slice.Order.{Order}
 use Rattle.lexical.specs.declared.slice.Order.the-variants.{Less, Equal, Greater}
 
@@ -11,6 +12,10 @@ abbrev pub orderOf : Ordering → Order
 orderOf Ordering·lt = Less
 orderOf Ordering·eq = Equal
 orderOf Ordering·gt = Greater
+
+-- whether it is the third
+abbrev pub isGreater : Ordering → Bool
+isGreater o = byOrder o false false true
 
 -- bytes that are compared at once
 abbrev pub wordBytes : ℕ

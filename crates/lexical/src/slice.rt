@@ -7,9 +7,9 @@ ghost use Prim.Native.Nat.{_+_, _≤_, compare};
 ghost use lib.ListN.{length, drop};
 ghost use Rattle.rows.specs.Positions.{runEnd};
 ghost use Rattle.model.specs.Base.{Bytes, _==_, after, isSome};
-ghost use Rattle.model.specs.Fields.{lex, orderKey, byOrder};
+ghost use Rattle.model.specs.Fields.{lex, orderKey};
 ghost use Rattle.lexical.specs.Classes.{isNot};
-ghost use Rattle.lexical.specs.Orders.{orderOf, wordBytes, bigEndian, AreBytes, firstWord, beginsBefore};
+ghost use Rattle.lexical.specs.Orders.{orderOf, isGreater, wordBytes, bigEndian, AreBytes, firstWord, beginsBefore};
 
 // Bytes that are compared at once, as one number.
 const WORD: usize = 8;
@@ -32,7 +32,7 @@ fn word(a: &[u8]) -> u64
     (p + q) + (r + s)
 }
 
-// Byte by byte, short enough to stand in a loop. Names often begin alike, so the last bytes are compared first.
+// Whether two slices are the same, byte by byte: short enough to stand in a loop. Names often begin alike, so the last bytes are compared first.
 pub fn same_bytes(a: &[u8], b: &[u8]) -> bool
     ensures { λ r. ⌜ r ≡ (now (a .entry) == now (b .entry)) ⌝ }
 {
@@ -49,7 +49,7 @@ pub fn same_bytes(a: &[u8], b: &[u8]) -> bool
     true
 }
 
-// Slices of one length, of a word to two: the last words, and the first, which reach as far.
+// Whether two slices of one length, of a word to two, are the same: their last words and their first cover them.
 fn same_words(a: &[u8], b: &[u8]) -> bool
     requires { ⌜ (length (now a) ≡ length (now b)) × (wordBytes ≤ length (now a)) × (length (now a) ≤ wordBytes + wordBytes) ⌝ }
     ensures { λ r. ⌜ r ≡ (now (a .entry) == now (b .entry)) ⌝ }
@@ -126,7 +126,7 @@ pub fn compare(a: &[u8], b: &[u8]) -> Order
 // Whether what stands from a position on puts a behind b.
 fn is_behind_from(a: &[u8], b: &[u8], from: usize) -> bool
     requires { ⌜ (from ≤ length (now a)) × (from ≤ length (now b)) ⌝ }
-    ensures { λ r. ⌜ r ≡ byOrder (lex compare (drop from (now (a .entry))) (drop from (now (b .entry)))) false false true ⌝ }
+    ensures { λ r. ⌜ r ≡ isGreater (lex compare (drop from (now (a .entry))) (drop from (now (b .entry)))) ⌝ }
 {
     match compare_from(a, b, from) {
         Order::Less => false,
@@ -135,10 +135,10 @@ fn is_behind_from(a: &[u8], b: &[u8], from: usize) -> bool
     }
 }
 
-// Whether a stands behind b in this order: `compare` for a search, short enough to stand in its loop. Names that begin alike differ in their second words:
-// these begin behind the first ones, or earlier, so that they end with the shorter slice.
+// Whether a stands behind b in this order: `compare` for a search, short enough to stand in its loop.
+// The second words end with the shorter slice, so that names of up to two words take two comparisons.
 pub fn is_behind(a: &[u8], b: &[u8]) -> bool
-    ensures { λ r. ⌜ r ≡ byOrder (orderKey (now (a .entry)) (now (b .entry))) false false true ⌝ }
+    ensures { λ r. ⌜ r ≡ isGreater (orderKey (now (a .entry)) (now (b .entry))) ⌝ }
 {
     let n = least(a.len(), b.len());
     if n < WORD {
@@ -158,7 +158,7 @@ pub fn is_behind(a: &[u8], b: &[u8]) -> bool
     is_behind_from(a, b, second + WORD)
 }
 
-// The first word of a slice, for a search that compares many with it; 0 where it is shorter.
+// The first word of a slice, for a search that compares many with it; 0 where it is shorter. That these are bytes is promised too: `begins_before` rests on it.
 pub fn first_word(a: &[u8]) -> u64
     ensures { λ r. ⌜ (r ≡ firstWord (now (a .entry))) × AreBytes (now (a .entry)) ⌝ }
 {
@@ -171,7 +171,7 @@ pub fn first_word(a: &[u8]) -> u64
 // Whether b begins with a word that is less than x: then every slice with the first word x stands behind it.
 pub fn begins_before(b: &[u8], x: u64) -> bool
     ensures { λ r. ⌜ r ≡ beginsBefore (now (b .entry)) x ⌝ }
-    ensures { λ r. ⌜ ((a : Bytes) → AreBytes a → x ≡ firstWord a → r ≡ true → byOrder (orderKey a (now (b .entry))) false false true ≡ true) ⌝ }
+    ensures { λ r. ⌜ ((a : Bytes) → AreBytes a → x ≡ firstWord a → r ≡ true → isGreater (orderKey a (now (b .entry))) ≡ true) ⌝ }
 {
     if b.len() < WORD {
         return false;

@@ -12,6 +12,10 @@ use Rattle.masks.specs.Bits.{maskOf}
 unfoldable pub readersOf : Tables → Keys → ℕ
 readersOf t p = maskOf (λ j. readsAt t j p) maxUsers
 
--- "they agree with the policy": the masks beside the fields are those that the policy gives
+-- the masks that the policy gives some fields
+abbrev pub policyMasks : Tables → Fields → List ℕ
+policyMasks t fs = map (λ f. readersOf t (f .path)) fs
+
+-- "they agree with the policy": the masks beside the fields are those
 abbrev pub Agreed : Tables → Fields → List ℕ → Type 0
-Agreed t fs ms = ms ≡ map (λ f. readersOf t (f .path)) fs
+Agreed t fs ms = ms ≡ policyMasks t fs

@@ -9,12 +9,12 @@ ghost use Rattle.model.specs.Limits.{maxUsers};
 ghost use Rattle.masks.specs.Bits.{bitAt, noneFrom, byteBits, maskBytes, decodeMask, encodeMask};
 
 // How many bits a byte has, and the number that has them all set.
-const BYTE: u32 = 8;
+const BYTE_BITS: u32 = 8;
 
-const FULL: u32 = (1 << BYTE) - 1;
+const FULL: u32 = (1 << BYTE_BITS) - 1;
 
 // How many bytes a mask has.
-pub const MASK: usize = MAX_USERS / BYTE as usize;
+pub const MASK: usize = MAX_USERS / BYTE_BITS as usize;
 
 // A mask with the bit of the place j set.
 pub fn with_bit(mask: u32, j: usize) -> u32
@@ -56,7 +56,7 @@ pub fn without_bit(mask: u32, j: usize) -> u32
     mask ^ (1 << j)
 }
 
-// The mask of the first n places.
+// The mask of the first n places, formed in 64 bits, as n may be all of them.
 pub fn first_places(n: usize) -> u32
     requires { ⌜ n ≤ maxUsers ⌝ }
     ensures { λ r. ⌜ ((k : ℕ) → bitAt r k ≡ ltb k n) ⌝ }
@@ -77,7 +77,7 @@ fn with_byte(high: u32, low: u8) -> u32
     requires { ⌜ high < 2 ^ (maxUsers - byteBits) ⌝ }
     ensures { λ r. ⌜ (r ≡ low + 2 ^ byteBits * high) × (r < 2 ^ byteBits * (high + 1)) ⌝ }
 {
-    (high << BYTE) | (low as u32)
+    (high << BYTE_BITS) | (low as u32)
 }
 
 // The mask in the first four bytes.
@@ -99,9 +99,9 @@ fn low_byte(mask: u32) -> u8
 pub fn encode_mask(mask: u32) -> [u8; MASK]
     ensures { λ r. ⌜ r ≡ encodeMask mask ⌝ }
 {
-    let second = mask >> BYTE;
-    let third = second >> BYTE;
-    let fourth = third >> BYTE;
+    let second = mask >> BYTE_BITS;
+    let third = second >> BYTE_BITS;
+    let fourth = third >> BYTE_BITS;
     [
         low_byte(mask),
         low_byte(second),

@@ -13,12 +13,13 @@ use steps::step::Kind;
 use steps::step::Step;
 use steps::step::one_name;
 ghost use mathlib.Core.Path.{_≡_};
-ghost use Prim.Native.Nat.{_≤_, _<_, min};
-ghost use lib.ListN.{length, getD};
+ghost use Prim.Native.Nat.{_≤_, _<_};
+ghost use lib.ListN.{length};
 ghost use Rattle.model.specs.Base.{any, among};
 ghost use Rattle.model.specs.Limits.{maxDepth};
 ghost use Rattle.model.specs.Paths.{asSteps};
 ghost use Rattle.model.specs.Rights.{overlap, isAbove, conflict};
+ghost use Rattle.layout.specs.Layout.{slotCount};
 ghost use Rattle.paths.specs.Layout.{pathSlot, pathIn};
 ghost use Rattle.steps.specs.Steps.{namesSlot, stepRow, stepsSlot, namesIn, stepIn, stepsIn};
 
@@ -55,7 +56,7 @@ fn overlap(a: &[u8], b: &[u8]) -> bool
 // Whether the steps of a path, m of them, overlap those of a longer one.
 fn is_above(a: &[u8], m: usize, b: &[u8]) -> bool
     requires { ⌜ (stepsSlot ≤ length (now a)) × (stepsSlot ≤ length (now b)) ⌝ }
-    requires { ⌜ (m ≡ min (getD (now a) 0 0) maxDepth) × (m < min (getD (now b) 0 0) maxDepth) ⌝ }
+    requires { ⌜ (m ≡ slotCount maxDepth (now a)) × (m < slotCount maxDepth (now b)) ⌝ }
     ensures { λ r. ⌜ r ≡ isAbove (stepsIn (now (a .entry))) (stepsIn (now (b .entry))) ⌝ }
 {
     let mut i = 0;

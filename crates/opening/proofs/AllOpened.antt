@@ -84,7 +84,7 @@ module _ (u e p r : Bytes) where
 pub refusal : (texts : Texts) (a : Arrays) {answer : Opening} {k t l : ℕ} → answer ≡ Refused k t l → opened texts ≡ refused (fault k t l)
     → Opens a texts answer a
 unfolding afterOpening kept fault
-refusal texts a i h = record { answered = rw (i, h); state = rw h; bytes = rw h; agrees = rw i tt }
+refusal texts a i h = record { answered = rw (i, h); state = rw h; bytes = rw h; agrees = λ d. let z : _≡_ {A = ℕ} 0 1 = cc in absurd (omega arith) }
 
 -- what an accepted opening answers and leaves
 pub acceptance : (texts : Texts) (before : Arrays) (tables fields : Bytes) → opened texts ≡ done (fresh (tablesIn tables) (fieldsIn fields))
@@ -93,7 +93,7 @@ unfolding afterOpening kept stateIn encodeOpened
 acceptance texts before tables fields h t f a =
     let written = tables-encoded tables t in
     let stored = fields-encoded fields (readersOf (tablesIn tables)) f a in
-    record { answered = rw h; state = rw (h, no-logins); bytes = rw h (ap₂ (λ (x y : Bytes). arrays x (zeros loginNumbers) y) written stored); agrees = a }
+    record { answered = rw h; state = rw (h, no-logins); bytes = rw h (ap₂ (λ (x y : Bytes). arrays x (zeros loginNumbers) y) written stored); agrees = λ _. a }
 
 -- so the same texts leave the same bytes, whatever the arrays held
 pub same-bytes : (texts : Texts) (a b x y : Arrays) → Opens a texts Done x → Opens b texts Done y → x ≡ y
@@ -105,7 +105,7 @@ same-bytes texts a b x y one two = one .bytes ∙ go (opened texts) (one .answer
 
 -- an opening, accepted or refused, leaves masks that agree with the policy where they did
 pub opening-agrees : (texts : Texts) (before after : Arrays) (answer : Opening) → Opens before texts answer after → Agree before → Agree after
-opening-agrees texts before after Done o a = o .agrees
+opening-agrees texts before after Done o a = o .agrees refl
 opening-agrees texts before after (Refused n t l) o a = rw (o .bytes) (go (opened texts) (o .answered))
   where
     go : (d : Result Fault State) → Refused n t l ≡ openingAnswer d → Agree (arraysAfter before d)

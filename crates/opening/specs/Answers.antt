@@ -31,19 +31,14 @@ abbrev pub openingAnswer : {A : Type 0} → Result Fault A → Opening
 openingAnswer (refused f) = Refused (f .number) (f .inText) (f .line)
 openingAnswer (done a) = Done
 
--- what holds once it is done
-abbrev pub WhenDone : Opening → Type 0 → Type 0
-WhenDone Done P = P
-WhenDone (Refused n t l) P = Unit {0}
-
 -- the arrays after an opening: kept by a refusal, else those of the new state
 abbrev pub arraysAfter : Arrays → Result Fault State → Arrays
 arraysAfter before (refused f) = before
 arraysAfter before (done s) = encodeOpened s
 
--- four texts opened: what is answered, what the arrays mean afterwards, every byte of them, and that the masks agree with the policy
+-- four texts opened: what is answered, what the arrays mean afterwards, every byte of them, and where it is done that the masks agree with the policy
 pub record Opens (before : Arrays) (texts : Texts) (answer : Opening) (after : Arrays) : Type 0 where
   pub answered : answer ≡ openingAnswer (opened texts)
   pub state : stateOf after ≡ afterOpening (stateOf before) texts
   pub bytes : after ≡ arraysAfter before (opened texts)
-  pub agrees : WhenDone answer (Agree after)
+  pub agrees : answer ≡ Done → Agree after

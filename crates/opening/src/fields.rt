@@ -1,4 +1,4 @@
-// The record's text opened against the tables.
+// The record's text opened against the tables, and the masks of its fields.
 use crate::answer::Opening;
 use layout::table::row_at;
 use layout::table::row_count;
@@ -12,7 +12,7 @@ use record::table::RECORD;
 use record::table::SLOTS;
 use record::table::count;
 use record::table::slot_at;
-use tables::candidates::NOT_FOUND;
+use tables::candidates::NOT_ASKED;
 use tables::candidates::keep_first;
 use tables::conflicts::has_conflict;
 use tables::memory::RULES;
@@ -127,7 +127,7 @@ pub fn set_masks(tables: &[u8; TABLES], table: &mut [u8; RECORD])
     ensures { λ _. ⌜ Keeps CanonicalFields (now (table .entry)) (now (table .exit)) ⌝ }
 {
     let n = count(table);
-    let mut found = [NOT_FOUND; MAX_DEPTH];
+    let mut found = [NOT_ASKED; MAX_DEPTH];
     let mut i: usize = 0;
     while i < n {
         let mask = mask_at(&mut found, tables, table, i);

@@ -8,8 +8,8 @@ use borrow.Author.Tests.{eqb-false}
 use lib.ListN.{getD, take, drop}
 use Rattle.model.specs.Limits.{maxDepth}
 use Rattle.model.specs.Base.{Bytes}
-use Rattle.model.specs.Fields.{andThen, lex, orderKey, orderPath, byOrder}
-use Rattle.lexical.specs.Orders.{orderOf}
+use Rattle.model.specs.Fields.{andThen, lex, orderKey, orderPath}
+use Rattle.lexical.specs.Orders.{orderOf, isGreater}
 use Rattle.lexical.specs.declared.slice.Order.{Order}
 use Rattle.lexical.specs.declared.slice.Order.the-variants.{Greater}
 use Rattle.lexical.proofs.Slices.{lex-shorter, lex-longer, lex-end, orderIn, order-told, behind-order}
@@ -41,7 +41,7 @@ module _ (a b : Bytes) (i : ℕ) where
 -- x and y are the first keys, and x is behind y
 pub paths-behind : (a b : Bytes) {x y : Bytes} → isEmpty a ≡ false → isEmpty b ≡ false
     → x ≡ nameIn (take keyRow (drop (0 * keyRow + 1) a)) → y ≡ nameIn (take keyRow (drop (0 * keyRow + 1) b))
-    → byOrder (orderKey x y) false false true ≡ true → orderPath (pathIn a) (pathIn b) ≡ Ordering·gt
+    → isGreater (orderKey x y) ≡ true → orderPath (pathIn a) (pathIn b) ≡ Ordering·gt
 unfolding orderPath andThen isEmpty
 paths-behind a b {x} {y} p q e f h =
     paths-step a b 0 {v = Greater} (omega (arith, eqb-false (getD a 0 0) 0 p)) (omega (arith, eqb-false (getD b 0 0) 0 q)) e f

@@ -223,6 +223,6 @@ said before t given after left from n out same masked = (
   masked,
   λ a. (
     rw (memory-agrees before (act t given) a) at masked,
-    agrees-after before after (act t given) same a (ap (λ (s : State). s .fields) (masked .leaves .0)) (masked .masks),
+    agrees-after before after (act t given) same a (ap (λ (s : State). s .fields) (masked .leaves .0)) (masked .memory .masks),
   ),
 )

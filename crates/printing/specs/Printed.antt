@@ -8,7 +8,6 @@ use Rattle.model.specs.Opening.{State, fault}
 use Rattle.model.specs.Serving.{Outcome}
 use Rattle.model.specs.Program.{printFault, printed}
 use Rattle.rows.specs.Rows.{Wrote}
-use Rattle.sessions.specs.Logins.{numbersAfter}
 use Rattle.deliveries.specs.Receivers.{deliveriesText}
 use Rattle.opening.specs.Memory.{Arrays, stateOf, masksOf, Agree}
 use Rattle.opening.specs.declared.answer.Opening.{Opening}
@@ -16,7 +15,7 @@ use Rattle.opening.specs.declared.answer.Opening.the-variants as opening
 use Rattle.server.specs.declared.answer.Reply.{Reply}
 use Rattle.server.specs.declared.answer.Reply.the-variants as reply
 use Rattle.server.specs.Masked.{Effect, effectByMasks, effectByPolicy}
-use Rattle.server.specs.Replies.{Outputs, fieldsAfter, act, eventOf}
+use Rattle.server.specs.Replies.{Outputs, InMemory, act, eventOf}
 
 -- ── Lengths, in bytes ──
 -- `OK;` and `NO;`
@@ -63,9 +62,7 @@ Left o s left = (s ≡ o .state) × (left .buffer ≡ o .buffer) × (left .list 
 -- a line has its effect: what it leaves, in meaning and in memory, and what is printed for it, n bytes, written over the start of `over` as far as there is room
 pub record Responds (w : Effect) (text : Bytes) (before : Arrays) (given : Outputs) (after : Arrays) (left : Outputs) (over : Bytes) (n : ℕ) (out : Bytes) : Type 0 where
   pub leaves : Left (w .outcome) (stateOf after) left
-  pub logins : after .logins ≡ numbersAfter (w .decided) (before .logins)
-  pub fields : after .fields ≡ fieldsAfter (w .mask) (w .decided) (before .fields)
-  pub masks : masksOf after ≡ w .masks
+  pub memory : InMemory w before after
   pub wrote : Wrote 0 (printed (eventOf (stateOf before) (act text given) (w .outcome))) over n out
   pub short : n ≤ mostPrinted
 

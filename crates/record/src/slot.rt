@@ -52,7 +52,7 @@ fn put_mask(slot: &mut [u8], mask: u32)
     put(slot, PATH, &bytes);
 }
 
-// The mask of the i-th slot becomes another, in a table of slots.
+// The same for the i-th slot of a table, lent as a slice, of which a part can be lent.
 fn put_mask_at(slots: &mut [u8], i: usize, mask: u32)
     requires { ⌜ (length (now slots) ≡ recordBytes) × (i < length (fieldsIn (now slots))) ⌝ }
     ensures { λ _. ⌜ now (slots .exit) ≡ overRow slotBytes i (withMask mask (take slotBytes (drop (i * slotBytes) (now (slots .entry))))) (now (slots .entry)) ⌝ }

@@ -78,7 +78,7 @@ fn passed_by_words(table: &[u8; RECORD], path: &[u8]) -> usize
     i
 }
 
-// How far it comes by first keys alone: it passes the slots whose first key is before the path's, which are most.
+// How far the search for a path comes by first keys alone: most slots that it passes have a first key before the path's.
 fn passed(table: &[u8; RECORD], path: &[u8]) -> usize
     requires { ⌜ pathSlot ≤ length (now path) ⌝ }
     ensures { λ r. ⌜ SearchedTo r (pathIn (now (path .entry))) (fieldsIn (now (table .entry))) ⌝ }

@@ -153,7 +153,7 @@ pub masked-said : (before after : Arrays) (text : Bytes) (given left : Outputs) 
 unfolding outcomeIn
 masked-said before after text given left r same masked a = (
   rw (memory-agrees before (act text given) a) at masked,
-  agrees-after before after (act text given) same a (ap (λ (o : Outcome). o .state .fields) (masked .is)) (masked .masks),
+  agrees-after before after (act text given) same a (ap (λ (o : Outcome). o .state .fields) (masked .is)) (masked .memory .masks),
 )
 
 -- where something was decided for a line, it is served by the masks, and as the documents say

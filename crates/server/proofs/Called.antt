@@ -4,7 +4,9 @@ use mathlib.Core.Path.{_≡_, refl, sym, ap, ap₂, _∙_}
 use mathlib.Core.Bool.{true, false}
 use mathlib.Core.List.{List, [], _∷_}
 use native.Mathlib.Omega.{arith}
+use lib.ListN.{take}
 use lib.Seq.{set-getD}
+use Rattle.rows.specs.Rows.{insertAt}
 use Rattle.rows.proofs.Rows.{getD-map}
 use Rattle.model.specs.Values.{truth}
 use Rattle.model.specs.Fields.{Field, fieldOf}
@@ -16,8 +18,8 @@ use Rattle.record.specs.declared.table.Place.{Place}
 use Rattle.record.specs.declared.table.Place.the-variants.{At, Before}
 use Rattle.record.specs.Search.{placeIn, storedMasks}
 use Rattle.record.specs.Slots.{fieldsIn, fieldAt}
-use Rattle.record.proofs.Places.{before-holds}
-use Rattle.model.specs.Limits.{maxUsers}
+use Rattle.record.proofs.Places.{at-holds, before-holds}
+use Rattle.model.specs.Limits.{maxUsers, maxFields}
 use Rattle.masks.specs.Readers.{readersOf}
 use Rattle.masks.proofs.Readers.{reads-bit}
 use Rattle.layout.proofs.Used.{table-fit}
@@ -41,7 +43,7 @@ set-exactly a agree k j h =
     (reads-bit (tablesIn (a .tables)) few _ j)
 
 pub made-at-opening : claims.MadeAtOpening
-made-at-opening before after texts o = o .agrees
+made-at-opening before after texts o = o .agrees refl
 
 pub zeros-agree : claims.ZerosAgree
 zeros-agree = Zeros.zeros-agree
@@ -51,7 +53,15 @@ openings-agree before after texts answer o a = opening-agrees texts before after
 
 pub made-when-added : claims.MadeWhenAdded
 unfolding masksAfter maskFor maskAt storedMasks
-made-when-added s ms i l f k e = rw e
+made-when-added s ms i l f new = go (placeIn 0 (f .path) (s .fields)) refl
+  where
+    go : (p : Place) → placeIn 0 (f .path) (s .fields) ≡ p
+        → (k : ℕ) × (p ≡ Before k) × (storedMasks p (maskAt p (readersOf (s .tables) (f .path)) ms) ms ≡ take maxFields (insertAt k (readersOf (s .tables) (f .path)) ms))
+    go (At k) e =
+        let z : false ≡ true = sym new ∙ at-holds (f .path) (s .fields) k e in
+        let w : _≡_ {A = ℕ} 0 1 = cc in
+        absurd (omega arith)
+    go (Before k) e = (k, refl, refl)
 
 pub held-makes-none : claims.HeldMakesNone
 unfolding masksAfter maskFor maskAt storedMasks
@@ -97,8 +107,9 @@ calls-run a b es agree (saved x z before after r rest is calls) =
 pub calls-reach : claims.CallsReach
 unfolding afterOpening kept
 calls-reach before a b texts es o calls =
-    let run = calls-run a b es (o .agrees) calls in
-    record { start = stateOf a; acts = actsOf es; isOpened = opening-done (opened texts) (o .answered) (o .state); isEnd = run .ends }
+    let starts = opening-done (opened texts) (o .answered) (o .state) in
+    let run = calls-run a b es (o .agrees refl) calls in
+    record { starts = starts; run = run; reached = record { start = stateOf a; acts = actsOf es; isOpened = starts; isEnd = run .ends } }
   where
     opening-done : (d : Result Fault State) → Done ≡ openingAnswer d → stateOf a ≡ kept (stateOf before) d → d ≡ done (stateOf a)
     opening-done (refused f) e k = let z : _≡_ {A = ℕ} 0 1 = cc in absurd (omega arith)

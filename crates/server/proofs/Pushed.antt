@@ -134,8 +134,10 @@ module _ (tables : Bytes) (logins : List ℕ) (fields : Bytes) (n : ℕ) (path :
       unfolding outcomeIn stateIn effectOf concludeMasked masksAfter maskFor answerOf apply shown notifiedMasked over storedAt storedField
       push-done b l h logins₁ fields₁ mask reached state v stored masks bytes keyed proper text from stands = rw (push-ruled is (length l) h v) (record {
         is = rw (reached .listed, reached .counted, state .states, stored, keyed, held-valid v (proper .1), mask, push-place);
-        logins = state .numbers;
-        fields = bytes ∙ rw (mask, push-place, slot-encoded path _ v proper);
-        masks = masks ∙ rw (mask, push-place);
+        memory = record {
+          logins = state .numbers;
+          fields = bytes ∙ rw (mask, push-place, slot-encoded path _ v proper);
+          masks = masks ∙ rw (mask, push-place);
+        };
         position = stands;
       })

@@ -44,7 +44,7 @@ use Rattle.server.specs.Masked.{shownTo, decideGetMasked, decideMasked, 
 pub left-refused : {d : Result ℕ Change} {e : ℕ} → d ≡ refused e → (text : Bytes) (a : Arrays) (b : Bytes) (l : List ℕ) {p : Bytes} → p ≡ b
     → LeavesDecided d text a (outputs b l) (Refused e) a (outputs p l)
 unfolding outcomeIn effectOf concludeMasked masksAfter unchanged
-left-refused h text a b l kept = record { is = rw (h, kept); logins = rw h; fields = rw h; masks = rw h; position = tt }
+left-refused h text a b l kept = record { is = rw (h, kept); memory = record { logins = rw h; fields = rw h; masks = rw h }; position = tt }
 
 -- ── LOGIN ──
 -- the reply says what the login states answered
@@ -73,9 +73,7 @@ module _ (tables : Bytes) (logins : List ℕ) (n k : Bytes) where
   unfolding effectOf outcomeIn stateIn concludeMasked masksAfter unchanged answerOf apply shown notifiedMasked over
   login-left after {answer} r logged is fs b l text = rw (login-decides fs (roomFor (login n k) b l)) (record {
     is = went entering refl .0;
-    logins = logged .numbers;
-    fields = went entering refl .1 .0;
-    masks = went entering refl .1 .1;
+    memory = record { logins = logged .numbers; fields = went entering refl .1 .0; masks = went entering refl .1 .1 };
     position = no-position r entering text;
   })
     where
@@ -109,7 +107,11 @@ module _ {d : Result ℕ Change} (c b : Bytes) (decides : d ≡ decideShow c (le
   shown-done (is, stands) h =
       let fits : length c ≤ length b = omega arith in
       let shows-it : d ≡ done (shows c) = decides ∙ rw (le-ltb (length b) (length c) fits) in
-      record { is = rw (shows-it, stands, kept, is, zero-add, written-over c b fits); logins = rw shows-it; fields = rw shows-it; masks = rw shows-it; position = tt }
+      record {
+        is = rw (shows-it, stands, kept, is, zero-add, written-over c b fits);
+        memory = record { logins = rw shows-it; fields = rw shows-it; masks = rw shows-it };
+        position = tt;
+      }
 
 -- ── GET: the copy is shown; LOGOUT: the session is closed ──
 -- the fields of the slots whose mask has the bit of a place
@@ -154,9 +156,7 @@ module _ (tables : Bytes) (logins : List ℕ) (fields : Bytes) (n : ℕ) {o : Se
     unfolding outcomeIn stateIn effectOf concludeMasked masksAfter answerOf apply shown notifiedMasked over closed
     logout-left stored text b l = rw (logout-decides (roomFor (inSession n logout) b l)) (record {
       is = rw (stored .states, shut);
-      logins = stored .numbers;
-      fields = refl;
-      masks = refl;
+      memory = record { logins = stored .numbers; fields = refl; masks = refl };
       position = refl;
     })
 

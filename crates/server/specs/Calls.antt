@@ -1,7 +1,7 @@
 -- Lists of calls on memory, each of which does what its contract says, and the claims about the masks (document 02, request 2).
 use Prim.Native.Nat.{ℕ, _<_}
 use mathlib.Core.Path.{_≡_}
-use mathlib.Core.Bool.{true}
+use mathlib.Core.Bool.{true, false}
 use mathlib.Core.List.{List, [], _∷_, map}
 use lib.ListN.{length, getD, take, replicate}
 use Rattle.rows.specs.Rows.{insertAt}
@@ -9,7 +9,7 @@ use Rattle.model.specs.Base.{Bytes}
 use Rattle.model.specs.Limits.{maxFields}
 use Rattle.model.specs.Fields.{Field, holds}
 use Rattle.model.specs.Refusals.{done}
-use Rattle.model.specs.Opening.{LoginState, State, Texts}
+use Rattle.model.specs.Opening.{LoginState, State, Texts, opened}
 use Rattle.model.specs.Serving.{stores, readsAt, Act, save}
 use Rattle.model.specs.Runs.{Event, events, end}
 use Rattle.model.specs.Claims.{Reached}
@@ -57,14 +57,14 @@ MadeAtOpening = (before after : Arrays) (texts : Texts) → Opens before texts D
 abbrev pub ZerosAgree : Type 0
 ZerosAgree = Agree (arrays (replicate tablesBytes 0) (replicate loginNumbers 0) (replicate recordBytes 0))
 
--- a refused opening keeps them
+-- so after any opening, refused or not, they agree where they did before
 abbrev pub OpeningAgrees : Type 0
 OpeningAgrees = (before after : Arrays) (texts : Texts) (answer : Opening) → Opens before texts answer after → Agree before → Agree after
 
 -- "and when a push adds a field": the new field's mask is the one that the policy gives, and the others move along
 abbrev pub MadeWhenAdded : Type 0
-MadeWhenAdded = (s : State) (ms : List ℕ) (i : ℕ) (l : LoginState) (f : Field) (k : ℕ) → placeIn 0 (f .path) (s .fields) ≡ Before k
-    → masksAfter s ms (done (stores i l f)) ≡ take maxFields (insertAt k (readersOf (s .tables) (f .path)) ms)
+MadeWhenAdded = (s : State) (ms : List ℕ) (i : ℕ) (l : LoginState) (f : Field) → holds (f .path) (s .fields) ≡ false
+    → (k : ℕ) × (placeIn 0 (f .path) (s .fields) ≡ Before k) × (masksAfter s ms (done (stores i l f)) ≡ take maxFields (insertAt k (readersOf (s .tables) (f .path)) ms))
 
 -- a push to a held field makes none
 abbrev pub HeldMakesNone : Type 0
@@ -83,6 +83,11 @@ pub record AsRun (a : Arrays) (es : List Event) (b : Arrays) : Type 0 where
 abbrev pub CallsRun : Type 0
 CallsRun = (a b : Arrays) (es : List Event) → Agree a → Calls a es b → AsRun a es b
 
--- so memory that calls reach after an accepted opening means a state that a run reaches: what is claimed of those holds of it
+-- an accepted opening, then any requests and saves: they are a run of its texts, so that what is claimed of runs, by events or by states, holds of them
+pub record RunOf (texts : Texts) (a : Arrays) (es : List Event) (b : Arrays) : Type 0 where
+  pub starts : opened texts ≡ done (stateOf a)
+  pub run : AsRun a es b
+  pub reached : Reached texts (stateOf b)
+
 abbrev pub CallsReach : Type 0
-CallsReach = (before a b : Arrays) (texts : Texts) (es : List Event) → Opens before texts Done a → Calls a es b → Reached texts (stateOf b)
+CallsReach = (before a b : Arrays) (texts : Texts) (es : List Event) → Opens before texts Done a → Calls a es b → RunOf texts a es b

@@ -1,7 +1,7 @@
 -- Serving by what is remembered: the masks beside the fields, whatever they hold (document 02, request 2). Nothing but who may read is taken from them.
 use Prim.Native.Nat.{ℕ}
 use mathlib.Core.Option.{Option, none, some}
-use mathlib.Core.List.{List, [], _∷_, map}
+use mathlib.Core.List.{List, [], _∷_}
 use lib.ListN.{length, getD}
 use Rattle.model.specs.Base.{Bytes, if_then_else_}
 use Rattle.model.specs.Fields.{Keys, Fields}
@@ -11,7 +11,7 @@ use Rattle.model.specs.Requests.{Request, login, inSession, get, push, logout, 
 use Rattle.model.specs.Serving.{Change, setsLogin, shows, stores, copyOf, asker, decideShow, roomFor, decide, decideSave, apply, shown, answerOf}
 use Rattle.model.specs.Serving.{Act, line, save, bufferOf, listOf, decision, Outcome, over, unchanged, outcome}
 use Rattle.masks.specs.Bits.{bitAt}
-use Rattle.masks.specs.Readers.{readersOf}
+use Rattle.masks.specs.Readers.{readersOf, policyMasks}
 use Rattle.record.specs.declared.table.Place.{Place}
 use Rattle.record.specs.declared.table.Place.the-variants.{At, Before}
 use Rattle.record.specs.Search.{placeIn, storedMasks}
@@ -37,10 +37,12 @@ decideMasked s ms (inSession n get) room = decideGetMasked s ms n room
 decideMasked s ms (inSession n (push p v)) room = decide s (inSession n (push p v)) room
 decideMasked s ms (inSession n logout) room = decide s (inSession n logout) room
 
+-- "A line is first taken apart; one that cannot be is refused 11"
 unfoldable pub decideLineMasked : State → List ℕ → Bytes → List ℕ → Option Request → Result ℕ Change
 decideLineMasked s ms b l none = refused 11
 decideLineMasked s ms b l (some q) = decideMasked s ms q (roomFor q b l)
 
+-- what an act is decided to be: a save looks at no mask
 unfoldable pub decisionMasked : State → List ℕ → Act → Result ℕ Change
 decisionMasked s ms (line t b l) = decideLineMasked s ms b l (requestOf t)
 decisionMasked s ms (save b) = decideSave s (length b)
@@ -55,12 +57,14 @@ maskAt (Before i) new ms = new
 unfoldable pub maskFor : State → List ℕ → Keys → ℕ
 maskFor s ms p = maskAt (placeIn 0 p (s .fields)) (readersOf (s .tables) p) ms
 
+-- the numbers that the list receives
 unfoldable pub notifiedMasked : State → List ℕ → Change → List ℕ
 notifiedMasked s ms (setsLogin i a) = []
 notifiedMasked s ms (shows c) = []
 notifiedMasked s ms (stores i a f) = receiversOf (s .loginStates) i (maskFor s ms (f .path))
 
 -- ── What is left ──
+-- as without masks (`conclude`), but for whom the list names
 unfoldable pub concludeMasked : State → List ℕ → Bytes → List ℕ → Result ℕ Change → Outcome
 concludeMasked s ms b l (refused e) = unchanged s b l e
 concludeMasked s ms b l (done c) = record {
@@ -89,6 +93,7 @@ pub record Effect : Type 0 where
 unfoldable pub effectOf : State → List ℕ → Bytes → List ℕ → Result ℕ Change → Effect
 effectOf s ms b l d = record { decided = d; outcome = concludeMasked s ms b l d; mask = maskFor s ms; masks = masksAfter s ms d }
 
+-- and of an act
 unfoldable pub effectByMasks : State → List ℕ → Act → Effect
 effectByMasks s ms a = effectOf s ms (bufferOf a) (listOf a) (decisionMasked s ms a)
 
@@ -98,5 +103,5 @@ effectByPolicy s a = record {
   decided = decision s a;
   outcome = outcome s a;
   mask = readersOf (s .tables);
-  masks = map (λ f. readersOf (s .tables) (f .path)) (outcome s a .state .fields);
+  masks = policyMasks (s .tables) (outcome s a .state .fields);
 }

@@ -13,7 +13,7 @@ use Rattle.model.specs.Runs.{end}
 use Rattle.model.specs.Runs
 use Rattle.model.specs.Cases.{rows, clubTexts, asked, clubState}
 use Rattle.masks.specs.Bits.{bitAt, maskOf}
-use Rattle.masks.specs.Readers.{readersOf}
+use Rattle.masks.specs.Readers.{readersOf, policyMasks}
 use Rattle.record.specs.Search.{placeIn, storedMasks}
 use Rattle.deliveries.specs.Receivers.{receives, receiversOf}
 use Rattle.server.specs.Masked.{shownTo, decideGetMasked, decideMasked, decideLineMasked, decisionMasked, maskAt, maskFor, notifiedMasked, concludeMasked, masksAfter, effectOf, effectByMasks}
@@ -27,7 +27,7 @@ Opened = tt
 given : List ℕ
 given = 3 ∷ 3 ∷ 7 ∷ 4 ∷ 3 ∷ 7 ∷ []
 
-policyGives : map (λ f. readersOf (clubState .tables) (f .path)) (clubState .fields) ≡ given
+policyGives : policyMasks (clubState .tables) (clubState .fields) ≡ given
 unfolding Opened given
 policyGives = refl
 
@@ -64,6 +64,8 @@ unfolding given masks allIn bobOut
 cases =
     -- a new field gets the mask that the policy gives, at its place, and the others move along
     pushes allIn given "PUSH;1;$['e9']['cv']['3'];10" [] (3 ∷ 3 ∷ 7 ∷ 4 ∷ 3 ∷ 1 ∷ 7 ∷ []) ∷
+    -- and whom it reaches says that mask
+    pushes allIn (masks 0 0) "PUSH;1;$['e9']['cv']['29'];5" (65537 ∷ []) (0 ∷ 0 ∷ 0 ∷ 0 ∷ 0 ∷ 3 ∷ 0 ∷ []) ∷
     -- a push to a held field reaches those in its mask but the sender, and changes no mask
     pushes allIn given "PUSH;1;$['e7']['cv']['29'];38" (65537 ∷ []) given ∷
     pushes allIn (masks 7 0) "PUSH;1;$['e7']['cv']['29'];38" (65537 ∷ 131073 ∷ []) (masks 7 0) ∷

@@ -76,12 +76,16 @@ Position (Session n) d text = Unit {0}
 Position (Length n) d text = Unit {0}
 Position (Accepted k at) d text = StandsAt d text at
 
--- a line has its effect: the reply with all that it left, in meaning; the login states, the fields and the masks in memory; the reply's position
-pub record Leaves (w : Effect) (text : Bytes) (before : Arrays) (r : Reply) (after : Arrays) (left : Outputs) : Type 0 where
-  pub is : outcomeIn r (stateOf after) (left .buffer) (left .list) ≡ w .outcome
+-- what an effect leaves in memory: the login states, the fields, and the masks beside them
+pub record InMemory (w : Effect) (before after : Arrays) : Type 0 where
   pub logins : after .logins ≡ numbersAfter (w .decided) (before .logins)
   pub fields : after .fields ≡ fieldsAfter (w .mask) (w .decided) (before .fields)
   pub masks : masksOf after ≡ w .masks
+
+-- a line has its effect: the reply with all that it left, in meaning and in memory, and the reply's position
+pub record Leaves (w : Effect) (text : Bytes) (before : Arrays) (r : Reply) (after : Arrays) (left : Outputs) : Type 0 where
+  pub is : outcomeIn r (stateOf after) (left .buffer) (left .list) ≡ w .outcome
+  pub memory : InMemory w before after
   pub position : Position r (w .decided) text
 
 -- a line with what is lent to it
@@ -100,7 +104,7 @@ ServedByMasks before text given r after left = Leaves (effectByMasks (stateOf be
 abbrev pub ServedByPolicy : Arrays → Bytes → Outputs → Reply → Arrays → Outputs → Type 0
 ServedByPolicy before text given r after left = Agree before → Leaves (effectByPolicy (stateOf before) (act text given)) text before r after left × Agree after
 
--- d was decided for a line
+-- a line is served by the masks as d was decided for it
 abbrev pub LeavesDecided : Result ℕ Change → Bytes → Arrays → Outputs → Reply → Arrays → Outputs → Type 0
 LeavesDecided d text before given r after left = Leaves (effectOf (stateOf before) (masksOf before) (given .buffer) (given .list) d) text before r after left
 

@@ -17,12 +17,13 @@ use steps::policy::STEP;
 ghost use mathlib.Core.Path.{_≡_};
 ghost use mathlib.Core.Bool.{true};
 ghost use mathlib.Core.List.{List, []};
-ghost use Prim.Native.Nat.{ℕ, _≤_, _<_, min};
+ghost use Prim.Native.Nat.{ℕ, _≤_, _<_};
 ghost use lib.ListN.{length, getD};
 ghost use Rattle.model.specs.Limits.{maxDepth};
 ghost use Rattle.model.specs.Fields.{Keys};
 ghost use Rattle.model.specs.Tables.{User, userAt};
 ghost use Rattle.masks.specs.Bits.{bitAt};
+ghost use Rattle.layout.specs.Layout.{slotCount};
 ghost use Rattle.paths.specs.Layout.{pathSlot, pathIn};
 ghost use Rattle.paths.specs.Fields.{shared};
 ghost use Rattle.steps.specs.Steps.{stepsSlot, stepsIn};
@@ -30,8 +31,8 @@ ghost use Rattle.matching.specs.Parts.{mayMatch};
 ghost use Rattle.tables.specs.Memory.{usersIn, userCount};
 ghost use Rattle.tables.specs.Grants.{holdsValue, Found, Covers};
 
-// What is no mask: who holds a key was not asked yet.
-pub const NOT_FOUND: u64 = 1 << MAX_USERS;
+// No mask: who holds a key was not asked yet.
+pub const NOT_ASKED: u64 = 1 << MAX_USERS;
 
 // What was found out of a path's keys, kept for a path that shares the first n of them: of the others it is forgotten.
 pub fn keep_first(found: &mut [u64; MAX_DEPTH], n: usize)
@@ -40,7 +41,7 @@ pub fn keep_first(found: &mut [u64; MAX_DEPTH], n: usize)
 {
     let mut i = n;
     while i < MAX_DEPTH {
-        found[i] = NOT_FOUND;
+        found[i] = NOT_ASKED;
         i += 1;
     }
 }
@@ -69,13 +70,13 @@ fn holders_at(
     path: &[u8],
     i: usize,
 ) -> u32
-    requires { ⌜ (pathSlot ≤ length (now path)) × (i < min (getD (now path) 0 0) maxDepth) × (n ≡ userCount (now tables)) ⌝ }
+    requires { ⌜ (pathSlot ≤ length (now path)) × (i < slotCount maxDepth (now path)) × (n ≡ userCount (now tables)) ⌝ }
     requires { ⌜ Found (usersIn (now tables)) (pathIn (now path)) (now found) ⌝ }
     ensures { λ r. ⌜ ((k : ℕ) → bitAt r k ≡ holdsValue (getD (pathIn (now (path .entry))) i []) (userAt (usersIn (now (tables .entry))) k)) ⌝ }
     ensures { λ _. ⌜ Found (usersIn (now (tables .entry))) (pathIn (now (path .entry))) (now (found .exit)) ⌝ }
 {
     let held = found[i];
-    if held < NOT_FOUND {
+    if held < NOT_ASKED {
         return held as u32;
     }
     let mask = holders(tables, n, key_at(path, i));
@@ -94,7 +95,7 @@ fn admitted(
     i: usize,
 ) -> u32
     requires { ⌜ (stepsSlot ≤ length (now steps)) × (pathSlot ≤ length (now path)) × (n ≡ userCount (now tables)) ⌝ }
-    requires { ⌜ (mayMatch (stepsIn (now steps)) (pathIn (now path)) ≡ true) × (i < min (getD (now steps) 0 0) maxDepth) ⌝ }
+    requires { ⌜ (mayMatch (stepsIn (now steps)) (pathIn (now path)) ≡ true) × (i < slotCount maxDepth (now steps)) ⌝ }
     requires { ⌜ Found (usersIn (now tables)) (pathIn (now path)) (now found) ⌝ }
     requires { ⌜ Covers (usersIn (now tables)) (stepsIn (now steps)) (pathIn (now path)) mask ⌝ }
     ensures { λ r. ⌜ Covers (usersIn (now (tables .entry))) (stepsIn (now (steps .entry))) (pathIn (now (path .entry))) r ⌝ }
@@ -106,7 +107,7 @@ fn admitted(
     both(mask, holders_at(found, tables, n, path, i))
 }
 
-// Those of the n users whom each step of a policy path that may match may admit.
+// Those of the n users whom a policy path that may match can admit: nobody is left out for whom it matches.
 pub fn candidates(
     found: &mut [u64; MAX_DEPTH],
     tables: &[u8; TABLES],

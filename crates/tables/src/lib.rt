@@ -1,4 +1,4 @@
-// The tables in memory: users with their environment lines, policy lines, who may read and write, and which paths conflict.
+// The tables in memory: users with their environment lines, policy lines, who may read and write, whom a line may admit, and which paths conflict.
 pub mod candidates;
 pub mod conflicts;
 pub mod memory;

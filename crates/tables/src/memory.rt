@@ -7,7 +7,7 @@ use lexical::slice::same_bytes;
 use steps::policy::STEPS;
 use steps::step::ENVIRONMENT;
 ghost use mathlib.Core.Path.{_≡_};
-ghost use Prim.Native.Nat.{_+_, _*_, _≤_, _<_};
+ghost use Prim.Native.Nat.{_≤_};
 ghost use lib.ListN.{length, drop};
 ghost use Rattle.model.specs.Rights.{isWrite, isFor};
 ghost use Rattle.model.specs.Tables.{userNamed};

@@ -1,5 +1,5 @@
 // Who may read and who may write a path.
-use crate::candidates::NOT_FOUND;
+use crate::candidates::NOT_ASKED;
 use crate::candidates::candidates;
 use crate::memory::RULE;
 use crate::memory::RULES;
@@ -104,7 +104,8 @@ fn with_reader(mask: u32, j: usize, rule: &[u8], user: &[u8], path: &[u8]) -> u3
     with_bit(mask, j)
 }
 
-// A mask with the bits set of those to whom a line that may match the path gives the right to read it. Only the users of the mask `able` are asked, which leaves out nobody for whom it matches.
+// A mask with the bits set of those to whom a line that may match the path gives the right to read it.
+// Only the users of `able` are asked: it leaves out nobody for whom the line matches.
 fn with_readers(mask: u32, able: u32, tables: &[u8; TABLES], rule: &[u8], path: &[u8]) -> u32
     requires { ⌜ (length (now rule) ≡ ruleRow) × (pathSlot ≤ length (now path)) ⌝ }
     requires { ⌜ mayMatch (ruleIn (now rule) .path) (pathIn (now path)) ≡ true ⌝ }
@@ -139,7 +140,8 @@ fn next_line(policy: &[u8], n: usize, from: usize, path: &[u8]) -> usize
     i
 }
 
-// Who may read a path: a mask, whose bit at a user's place is set where that user may. Lines that match for nobody are passed over once, not for each user; who holds a key of the path is found out once, not for each line, and what is found out is kept.
+// The mask of those who may read a path. A line that matches for nobody is passed over once, not for each user;
+// who holds a key of the path is found out once, not for each line, and kept in `found`.
 pub fn readers_by(found: &mut [u64; MAX_DEPTH], tables: &[u8; TABLES], path: &[u8]) -> u32
     requires { ⌜ pathSlot ≤ length (now path) ⌝ }
     requires { ⌜ Found (usersIn (now tables)) (pathIn (now path)) (now found) ⌝ }
@@ -165,6 +167,6 @@ pub fn readers(tables: &[u8; TABLES], path: &[u8]) -> u32
     requires { ⌜ pathSlot ≤ length (now path) ⌝ }
     ensures { λ r. ⌜ r ≡ readersOf (tablesIn (now (tables .entry))) (pathIn (now (path .entry))) ⌝ }
 {
-    let mut found = [NOT_FOUND; MAX_DEPTH];
+    let mut found = [NOT_ASKED; MAX_DEPTH];
     readers_by(&mut found, tables, path)
 }

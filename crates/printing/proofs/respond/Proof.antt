@@ -41,9 +41,7 @@ returns c =
     let served = put .before .before .before .before .request .ensures .0 in
     said _ _ _ _ _ _ _ _ refl record {
       leaves = reply-left _ _ _ _ _ _ served;
-      logins = served .logins;
-      fields = served .fields;
-      masks = served .masks;
+      memory = served .memory;
       wrote = rw (printed-other _ _ _ _ _ _ served (c .match .keys2)) (put .put-answer .ensures .0);
       short = omega arith;
     }
@@ -78,9 +76,7 @@ returns-2 c =
     let sent = rw tail-part at (c .before .before .put-deliveries .ensures .0) in
     said _ _ _ _ _ _ _ _ refl record {
       leaves = reply-left _ _ _ _ _ _ served;
-      logins = served .logins;
-      fields = served .fields;
-      masks = served .masks;
+      memory = served .memory;
       wrote = rw (printed-accepted _ _ _ _ _ _ served is) (wrote-both _ _ _ _ _ _ _ _ (put .put-answer .ensures .0) sent);
       short = omega (arith, put .put-answer .ensures .1);
     }
