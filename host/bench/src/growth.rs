@@ -1,18 +1,19 @@
 //! How the cost of a GET and of a PUSH grows.
 
-use crate::halls::Hall;
+use crate::halls::{Hall, FIELDS, POLICY_LINES};
 use crate::tasks;
 use crate::timing::measure;
 
-const FIELDS: [usize; 5] = [16, 32, 64, 128, 256];
-const POLICY_LINES: [usize; 5] = [4, 8, 16, 32, 64];
+/// The sizes that are measured, the last that of a full hall.
+const FIELD_SIZES: [usize; 5] = [16, 32, 64, 128, FIELDS];
+const POLICY_SIZES: [usize; 5] = [4, 8, 16, 32, POLICY_LINES];
 
 /// What grows, and what it costs.
 pub struct Growth {
     /// What the sizes count.
     pub size: &'static str,
     /// What stays as it is.
-    pub at: &'static str,
+    pub at: String,
     pub costs: Vec<Cost>,
 }
 
@@ -26,32 +27,24 @@ pub struct Cost {
 }
 
 pub fn by_fields() -> Growth {
-    let halls = FIELDS.map(|fields| Hall::sized(64, fields, 0));
-    Growth { size: "fields", at: "at 64 policy lines", costs: costs(FIELDS, halls) }
+    let halls = FIELD_SIZES.map(|fields| Hall::sized(POLICY_LINES, fields, 0));
+    let at = format!("at {POLICY_LINES} policy lines");
+    Growth { size: "fields", at, costs: costs(FIELD_SIZES, halls) }
 }
 
 pub fn by_policy() -> Growth {
-    let halls = POLICY_LINES.map(|lines| Hall::sized(lines, 256, 0));
-    Growth { size: "policy lines", at: "at 256 fields", costs: costs(POLICY_LINES, halls) }
+    let halls = POLICY_SIZES.map(|lines| Hall::sized(lines, FIELDS, 0));
+    let at = format!("at {FIELDS} fields");
+    Growth { size: "policy lines", at, costs: costs(POLICY_SIZES, halls) }
 }
 
-/// With more policy lines a copy has more lines and fields; here it has not, as
-/// all lines but four are for a role of others.
-///
-/// This shows what lines cost that give nothing to those who ask. No field of a
-/// copy and no receiver of a push makes the proved server ask them; it still
-/// looks at the role of each for the head of a copy, and at each that stands
-/// before the one that lets the sender write. The second one has put them aside
-/// by their role: it asks none for a copy, but at a push all of them for each
-/// keeper.
-///
-/// What lines of the asking role cost is not shown: a copy lists them, so that
-/// copies would not be equal.
+/// What lines cost that give nothing to those who ask: all but four are for a role
+/// of others, so that copies stay equal. `docs/PERFORMANCE.md` explains the cost.
 pub fn by_others_policy() -> Growth {
-    let halls = POLICY_LINES.map(Hall::with_keepers);
+    let halls = POLICY_SIZES.map(Hall::with_keepers);
     check_equal(&halls);
-    let costs = costs(POLICY_LINES, halls);
-    Growth { size: "policy lines", at: "at 256 fields and equal copies", costs }
+    let at = format!("at {FIELDS} fields and equal copies");
+    Growth { size: "policy lines", at, costs: costs(POLICY_SIZES, halls) }
 }
 
 /// In all halls the copies are the same, byte for byte, and the pushes reach the

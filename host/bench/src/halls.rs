@@ -7,7 +7,11 @@ pub type Texts = [Vec<u8>; 4];
 
 pub type Line = Vec<u8>;
 
-const USERS: usize = 32;
+/// What a full hall has.
+pub const USERS: usize = 32;
+pub const POLICY_LINES: usize = 64;
+pub const FIELDS: usize = 256;
+
 const KEEPER: &str = "keeper";
 const ROLES: [&str; 4] = ["driver", "repairer", "owner", KEEPER];
 
@@ -95,12 +99,12 @@ impl Hall {
 
     /// 32 users, 64 policy lines and 256 fields.
     pub fn full() -> Hall {
-        Hall::sized(64, 256, 0)
+        Hall::sized(POLICY_LINES, FIELDS, 0)
     }
 
     /// The same with 192 fields and room for two new ones of each user.
     pub fn with_room() -> Hall {
-        Hall::sized(64, 192, 2)
+        Hall::sized(POLICY_LINES, FIELDS - 2 * USERS, 2)
     }
 
     /// A hall of 32 users with so many policy lines and fields.
@@ -112,15 +116,15 @@ impl Hall {
     /// each role its own settings; all lines before them are for the keepers, who
     /// are logged in and ask nothing. So however many lines there are, those who
     /// ask get the same copies, and their pushes reach the same users, of whom no
-    /// keeper is one. The keepers' lines stand in front, so that nobody who looks
-    /// for a right from there is spared them.
+    /// keeper is one. The keepers' lines stand in front, so that a search for a
+    /// right passes them.
     pub fn with_keepers(policy_lines: usize) -> Hall {
         let keepers = (ROLES.len()..policy_lines).map(keepers_line);
         let asking = || (0..USERS).filter(|user| role(*user) != KEEPER);
         Hall {
             gets: asking().map(get).collect(),
             held_pushes: asking().flat_map(|user| held_pushes(user, ENGINES)).collect(),
-            ..Hall::ruled(keepers.chain((0..ROLES.len()).map(policy_line)), 256, 0)
+            ..Hall::ruled(keepers.chain((0..ROLES.len()).map(policy_line)), FIELDS, 0)
         }
     }
 
@@ -136,7 +140,7 @@ impl Hall {
                 format!("{{{record}}}").into(),
             ],
             logins: (0..USERS).map(|user| format!("LOGIN;user{user};key{user}").into()).collect(),
-            logouts: (0..USERS).map(|user| format!("LOGOUT;{}", session(user)).into()).collect(),
+            logouts: (0..USERS).map(logout).collect(),
             gets: (0..USERS).map(get).collect(),
             held_pushes: (0..USERS).flat_map(|user| held_pushes(user, engines)).collect(),
             new_pushes: (0..USERS).flat_map(new_pushes).collect(),
@@ -318,7 +322,11 @@ fn keepers_line(place: usize) -> String {
     format!("{KEEPER};{right}")
 }
 
-fn get(user: usize) -> Line {
+pub fn logout(user: usize) -> Line {
+    format!("LOGOUT;{}", session(user)).into()
+}
+
+pub fn get(user: usize) -> Line {
     format!("GET;{}", session(user)).into()
 }
 

@@ -9,11 +9,9 @@
 
 use std::ops::Range;
 
-use crate::halls::{joined, session, table, Hall, Line, Mix};
+use crate::halls::{get, joined, logout, session, table, Hall, Line, Mix, POLICY_LINES, USERS};
 
-const USERS: usize = 32;
 const ROLES: usize = 4;
-const POLICY_LINES: usize = 64;
 const ENGINES: usize = 32;
 
 /// Settings of an engine: how many are held at first, and in the end.
@@ -30,8 +28,9 @@ const READ: &str = "own-names-no-02";
 const BLOCKS: &str = "own-names-no-03";
 const BANKS: &str = "own-names-no-04";
 
-/// Engines in either list of them.
+/// Engines in either list of them, and how far apart they are.
 const LISTED: usize = 5;
+const APART: usize = 5;
 
 const DAY: Mix = Mix {
     lines: 200_000,
@@ -56,8 +55,8 @@ impl Hall {
                 format!("{{{record}}}").into(),
             ],
             logins: (0..USERS).map(login).collect(),
-            logouts: (0..USERS).map(|user| format!("LOGOUT;{}", session(user)).into()).collect(),
-            gets: (0..USERS).map(|user| format!("GET;{}", session(user)).into()).collect(),
+            logouts: (0..USERS).map(logout).collect(),
+            gets: (0..USERS).map(get).collect(),
             held_pushes: (0..USERS).flat_map(held_pushes).collect(),
             new_pushes: (0..USERS).flat_map(new_pushes).collect(),
             forbidden: (0..USERS).flat_map(forbidden).collect(),
@@ -111,12 +110,16 @@ fn login(user: usize) -> Line {
 
 /// The engines that a user may write to; the first is nobody else's first.
 fn written_engines(user: usize) -> impl Iterator<Item = usize> {
-    (0..LISTED).map(move |place| (user + 5 * place) % ENGINES)
+    engines_from(user)
 }
 
 /// Others, which the user may read of.
 fn read_engines(user: usize) -> impl Iterator<Item = usize> {
-    (0..LISTED).map(move |place| (user + 5 * place + 2) % ENGINES)
+    engines_from(user + 2)
+}
+
+fn engines_from(first: usize) -> impl Iterator<Item = usize> {
+    (0..LISTED).map(move |place| (first + APART * place) % ENGINES)
 }
 
 /// 16 lines. No engine has the second of the blocks, the second of the banks or

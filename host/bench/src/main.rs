@@ -18,7 +18,7 @@ use halls::Hall;
 use program::Programs;
 use timing::{measure, measure_long, Contest, Rates};
 
-const USAGE: &str = "usage: bench [--svg FILE] [--serve FILE] [--long-day] [--growth]";
+const USAGE: &str = "usage: bench [--serve FILE] [--long-day | [--growth] [--svg FILE]]";
 
 #[derive(Default)]
 struct Options {
@@ -44,7 +44,12 @@ impl Options {
                 _ => return None,
             }
         }
-        Some(options)
+        Some(options).filter(Options::consistent)
+    }
+
+    /// The long day alone has no growths, and a plot shows nothing else.
+    fn consistent(&self) -> bool {
+        !(self.only_long_day && (self.only_growths || self.svg.is_some()))
     }
 }
 
@@ -135,12 +140,9 @@ fn print_row(name: &str, rates: &Rates) {
 }
 
 /// Measures and prints one growth after the other.
-fn print_growths() -> [Growth; 3] {
-    [growth::by_fields, growth::by_policy, growth::by_others_policy].map(|measured| {
-        let growth = measured();
-        print_growth(&growth);
-        growth
-    })
+fn print_growths() -> Vec<Growth> {
+    let growths = [growth::by_fields, growth::by_policy, growth::by_others_policy];
+    growths.into_iter().map(|measured| measured()).inspect(print_growth).collect()
 }
 
 fn print_growth(Growth { size, at, costs }: &Growth) {

@@ -7,8 +7,6 @@ use crate::growth::{Cost, Growth};
 
 const WIDTH: f64 = 900.0;
 const ROW: f64 = 370.0;
-const ROWS: usize = 3;
-const HEIGHT: f64 = 70.0 + ROWS as f64 * ROW;
 const COLOURS: [&str; 2] = ["#1f5fa8", "#c4501b"];
 const NAMES: [&str; 2] = ["proved", "second"];
 
@@ -87,17 +85,18 @@ impl<'a> Panel<'a> {
 }
 
 /// The plot of how costs grow, a row for each growth.
-pub fn plot(growths: &[Growth; ROWS]) -> String {
+pub fn plot(growths: &[Growth]) -> String {
+    let height = 70.0 + ROW * growths.len() as f64;
     let mut out = format!(
-        "<svg xmlns=\"http://www.w3.org/2000/svg\" viewBox=\"0 0 {WIDTH} {HEIGHT}\" \
+        "<svg xmlns=\"http://www.w3.org/2000/svg\" viewBox=\"0 0 {WIDTH} {height}\" \
          font-family=\"sans-serif\" font-size=\"13\">\n\
-         <rect width=\"{WIDTH}\" height=\"{HEIGHT}\" fill=\"white\"/>\n"
+         <rect width=\"{WIDTH}\" height=\"{height}\" fill=\"white\"/>\n"
     );
     out += &text(WIDTH / 2.0, 26.0, "middle", "Microseconds a request: 32 users logged in");
     for (place, growth) in growths.iter().enumerate() {
         out += &row(80.0 + ROW * place as f64, growth);
     }
-    out += &legend();
+    out += &legend(height - 18.0);
     out + "</svg>\n"
 }
 
@@ -109,12 +108,12 @@ fn row(top: f64, Growth { size, at, costs }: &Growth) -> String {
         + &push.draw("PUSH to a held field", costs, |cost| cost.push)
 }
 
-fn legend() -> String {
+fn legend(y: f64) -> String {
     let mut out = String::new();
     for (place, (name, colour)) in NAMES.into_iter().zip(COLOURS).enumerate() {
         let x = WIDTH / 2.0 - 110.0 + 130.0 * place as f64;
-        out += &line(&[(x, HEIGHT - 18.0), (x + 30.0, HEIGHT - 18.0)], colour);
-        out += &text(x + 38.0, HEIGHT - 14.0, "start", name);
+        out += &line(&[(x, y), (x + 30.0, y)], colour);
+        out += &text(x + 38.0, y + 4.0, "start", name);
     }
     out
 }

@@ -2,8 +2,10 @@
 
 use jesovanga::Memory;
 
+use crate::lines::RANGE;
 use crate::masks;
 use crate::rng::Rng;
+use crate::watched::LOGIN;
 
 /// Makes garbage of some or all of the arrays.
 pub fn spoil(rng: &mut Rng, memory: &mut Memory) {
@@ -27,9 +29,9 @@ pub fn spoil(rng: &mut Rng, memory: &mut Memory) {
 fn flip(rng: &mut Rng, memory: &mut Memory) {
     for _ in 0..rng.between(1, 200) {
         match rng.below(8) {
-            0 => *pick_mut(rng, &mut memory.logins) ^= 1 << rng.below(16),
-            1..=4 => *pick_mut(rng, &mut memory.tables) ^= 1 << rng.below(8),
-            _ => *pick_mut(rng, &mut memory.fields) ^= 1 << rng.below(8),
+            0 => *pick_mut(rng, &mut memory.logins) ^= 1 << rng.below(u16::BITS as usize),
+            1..=4 => *pick_mut(rng, &mut memory.tables) ^= 1 << rng.below(u8::BITS as usize),
+            _ => *pick_mut(rng, &mut memory.fields) ^= 1 << rng.below(u8::BITS as usize),
         }
     }
 }
@@ -40,7 +42,7 @@ pub fn spoil_masks(rng: &mut Rng, memory: &mut Memory) {
     let mut masks = masks::read(&memory.fields);
     for mask in &mut masks {
         *mask = match rng.below(4) {
-            0 => *mask ^ 1 << rng.below(32),
+            0 => *mask ^ 1 << rng.below(u32::BITS as usize),
             1 => 0,
             2 => u32::MAX,
             _ => rng.number() as u32,
@@ -64,6 +66,6 @@ fn pick_mut<'a, T>(rng: &mut Rng, items: &'a mut [T]) -> &'a mut T {
 
 /// The session numbers that the arrays hold.
 pub fn sessions(memory: &Memory) -> Vec<usize> {
-    let states = memory.logins.chunks(3).enumerate();
-    states.map(|(place, state)| place * 65_536 + usize::from(state[0])).collect()
+    let states = memory.logins.chunks(LOGIN).enumerate();
+    states.map(|(place, state)| place * RANGE + usize::from(state[0])).collect()
 }

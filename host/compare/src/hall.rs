@@ -10,8 +10,8 @@ pub type Path = Vec<Name>;
 pub const DEPTH: usize = 6;
 const LISTED: usize = 4;
 
-/// Fields and allowances together.
-const FIELDS: usize = 256;
+/// The most fields and allowances together.
+pub const FIELDS: usize = 256;
 
 /// The longest standard spelling of a policy path.
 const SPELLING: usize = 121;

@@ -5,19 +5,21 @@ use std::ops::Range;
 
 use jesovanga::{Memory, RECORD};
 
+use crate::hall::{DEPTH, FIELDS};
 use crate::lines::{session_of, RANGE};
 use crate::watched::LOGIN;
+use crate::words::{NAME, STRING};
 
-/// A slot's bytes: a path, which is how many keys it has and a row for each of
-/// six, a length and 16 bytes; the mask, its lowest byte first; a value's text,
-/// which is a length and 34 bytes.
-const KEY: usize = 1 + 16;
-const PATH: usize = 1 + 6 * KEY;
-const MASK: usize = 4;
-const VALUE: usize = 1 + 34;
+/// A slot's bytes: a path, which is how many keys it has and a row for each, a
+/// length and room for a name; the mask, its lowest byte first; a value's text,
+/// which is a length and room for the longest string in quotes.
+const KEY: usize = 1 + NAME;
+const PATH: usize = 1 + DEPTH * KEY;
+const MASK: usize = size_of::<u32>();
+const VALUE: usize = 1 + STRING + 2;
 const SLOT: usize = PATH + MASK + VALUE;
 
-const _: () = assert!(RECORD == 256 * SLOT);
+const _: () = assert!(RECORD == FIELDS * SLOT);
 
 /// The slots that hold a field: those before the first that has no keys.
 fn slots(fields: &[u8]) -> impl Iterator<Item = &[u8]> {

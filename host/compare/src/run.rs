@@ -3,6 +3,8 @@
 
 use std::time::{Duration, Instant};
 
+use jesovanga::LIST;
+
 use crate::answer::Answer;
 use crate::damage::damage_texts;
 use crate::garbage;
@@ -254,7 +256,7 @@ impl Run {
             self.list_turn = (self.list_turn + 1) % 41;
             self.list_turn
         } else {
-            32
+            LIST
         };
         (0..length).map(|_| self.rng.number() as u32).collect()
     }

@@ -6,7 +6,7 @@ pub type Name = Vec<u8>;
 
 /// The longest name, and the longest string.
 pub const NAME: usize = 16;
-const STRING: usize = 32;
+pub const STRING: usize = 32;
 
 const COMMON: [&str; 16] = [
     "e7",
