@@ -9,6 +9,7 @@ use borrow.Author.Tests.{leb-true, ltb-false}
 use lib.ListN.{length, take, drop, length-append, length-drop}
 use types.Run.{OneOf}
 use denote.Enum.Declared.{tagOf}
+use Rattle.rows.specs.Rows.{Wrote}
 use Rattle.model.specs.Base.{Bytes, text, joined, between, _>>=_}
 use Rattle.model.specs.Limits.{maxLine, maxUsers}
 use Rattle.model.specs.Values.{Value}
@@ -34,8 +35,8 @@ use Rattle.server.specs.declared.answer.Reply.the-variants.{Refused, Session, L
 use Rattle.server.proofs.answer.Reply.{the-type}
 use Rattle.server.specs.Masked.{decideGetMasked, decideMasked, decideLineMasked, decisionMasked, maskFor, notifiedMasked, concludeMasked, effectOf, effectByMasks}
 use Rattle.server.specs.Replies.{answerIn, toldIn, outcomeIn, Outputs, StandsAt, act, eventOf, ServedByMasks}
-use Rattle.server.proofs.Agree.{memory-agrees, agrees-after}
-use Rattle.printing.specs.Printed.{Inside, Left, RespondsByMasks, RespondsByPolicy}
+use Rattle.server.proofs.Agree.{memory-agrees, masked-said}
+use Rattle.printing.specs.Printed.{mostPrinted, Inside, Left, RespondsByMasks, RespondsByPolicy}
 
 length-over : {A : Type 0} (new old : List A) → length new ≤ length old → length (over new old) ≡ length old
 unfolding over
@@ -180,9 +181,16 @@ module _ (before : Arrays) (t : Bytes) (given : Outputs) (r : Reply) (after : Ar
     by-reply (λ o. length (o .buffer) ≡ length b) (λ e. refl) (λ q c asks h. length-over (shown c) b (shown-fits s ms b l q c h)),
   )
 
-  pub reply-left : Left done-by (stateOf after) left
+  reply-left : Left done-by (stateOf after) left
   unfolding outcomeIn
   reply-left = (ap (λ (o : Outcome). o .state) (served .is), ap (λ (o : Outcome). o .buffer) (served .is), ap (λ (o : Outcome). o .list) (served .is))
+
+  -- what is printed for it is written: by the masks, and where they agree with the policy as documents 01 and 02 say
+  pub responds : after .tables ≡ before .tables → {from out : Bytes} {n : ℕ} → Wrote 0 (printed (eventOf s (act t given) done-by)) from n out → n ≤ mostPrinted
+      → RespondsByMasks before t given after left from n out × RespondsByPolicy before t given after left from n out
+  responds same {from} {out} {n} wrote short =
+      let masked : RespondsByMasks before t given after left from n out = record { leaves = reply-left; memory = served .memory; wrote = wrote; short = short } in
+      (masked, λ a. (rw (memory-agrees before (act t given) a) at masked, masked-said before after t given left r same served a .1))
 
   -- for a reply that tells nobody, the answer alone
   pub printed-other : NotAccepted r → printed (eventOf s (act t given) done-by) ≡ printAnswer (left .buffer) (answerIn r)
@@ -215,14 +223,3 @@ module _ (before : Arrays) (t : Bytes) (given : Outputs) (r : Reply) (after : Ar
         (by-reply (λ o. (o .told ≤ maxUsers) × (o .told ≤ length (o .list)))
         (λ e. (omega arith, omega arith))
         (λ q c asks h. let (less, room) = told-fits s ms b l q c h in (less, rw (length-over _ l room) room)))
-
--- ── Where the masks agree with the policy, all this is as documents 01 and 02 say ──
-pub said : (before : Arrays) (t : Bytes) (given : Outputs) (after : Arrays) (left : Outputs) (from : Bytes) (n : ℕ) (out : Bytes) → after .tables ≡ before .tables
-    → RespondsByMasks before t given after left from n out → RespondsByMasks before t given after left from n out × RespondsByPolicy before t given after left from n out
-said before t given after left from n out same masked = (
-  masked,
-  λ a. (
-    rw (memory-agrees before (act t given) a) at masked,
-    agrees-after before after (act t given) same a (ap (λ (s : State). s .fields) (masked .leaves .0)) (masked .memory .masks),
-  ),
-)

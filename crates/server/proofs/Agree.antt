@@ -13,13 +13,11 @@ use Rattle.model.specs.Values.{truth}
 use mathlib.Core.Bool.{false}
 use Rattle.model.specs.Refusals.{Result, refused, done, _>>=_}
 use Rattle.model.specs.Tables.{User, Tables, userAt}
-use Rattle.model.specs.Rights.{mayRead}
 use Rattle.model.specs.Opening.{State}
 use Rattle.model.specs.Requests.{Request, login, inSession, get, push, logout, requestOf}
 use Rattle.model.specs.Serving.{indexIn, Change, setsLogin, shows, stores, readable, copyFor, decideGet, roomFor, decide, apply, readsBy, readsAt, notified, Act, line, save, bufferOf, listOf, decideLine, decision, Outcome, unchanged, conclude, outcome}
 use Rattle.model.proofs.Lists.{bind-agree}
 use Rattle.model.proofs.Decisions.{asking}
-use Rattle.masks.specs.Bits.{bitAt}
 use Rattle.masks.specs.Readers.{readersOf, Agreed}
 use Rattle.masks.proofs.Readers.{reads-bit}
 use Rattle.record.specs.declared.table.Place.{Place}
@@ -37,14 +35,10 @@ use Rattle.server.specs.Replies.{outcomeIn, Outputs, act, ServedByMasks,
 
 -- ── Copies ──
 module _ (t : Tables) (few : length (t .users) ≤ maxUsers) (i : ℕ) (u : User) (is : userAt (t .users) i ≡ some u) where
-  bit-reads : (p : Keys) → bitAt (readersOf t p) i ≡ mayRead (t .policy) u p
-  unfolding readsAt readsBy
-  bit-reads p = reads-bit t few p i ∙ rw is
-
   shown-agrees : (fs : Fields) (ms : List ℕ) → Agreed t fs ms → shownTo i ms fs ≡ readable (t .policy) u fs
-  unfolding shownTo readable keep
+  unfolding shownTo readable keep readsAt readsBy
   shown-agrees [] ms a = rw a
-  shown-agrees (f ∷ fs) ms a = rw (a, bit-reads (f .path), shown-agrees fs _ refl)
+  shown-agrees (f ∷ fs) ms a = rw (a, reads-bit t few (f .path) i, is, shown-agrees fs _ refl)
 
 -- ── Masks of a push ──
 module _ (t : Tables) (fs : Fields) (ms : List ℕ) (a : Agreed t fs ms) where
@@ -52,39 +46,29 @@ module _ (t : Tables) (fs : Fields) (ms : List ℕ) (a : Agreed t fs ms) where
   given f = readersOf t (f .path)
 
   -- the mask that stands where a path is held is the one that the policy gives
-  held-agrees : (p : Keys) → maskAt (placeIn 0 p fs) (readersOf t p) ms ≡ readersOf t p
+  held-agrees : (p : Keys) (l : Place) → placeIn 0 p fs ≡ l → maskAt l (readersOf t p) ms ≡ readersOf t p
   unfolding maskAt
-  held-agrees p = go (placeIn 0 p fs) refl
-    where
-      go : (l : Place) → placeIn 0 p fs ≡ l → maskAt l (readersOf t p) ms ≡ readersOf t p
-      go (At i) e =
-          let z = fieldOf p (truth false) in
-          rw (a, getD-map given i fs 0 z (at-below p fs i e)) (ap (readersOf t) (at-path p fs i e z))
-      go (Before i) e = refl
+  held-agrees p (At i) e =
+      let z = fieldOf p (truth false) in
+      rw (a, getD-map given i fs 0 z (at-below p fs i e)) (ap (readersOf t) (at-path p fs i e z))
+  held-agrees p (Before i) e = refl
 
   -- and once a field is stored with its mask they agree again
-  store-agrees : length fs ≤ maxFields → (f : Field) → Agreed t (store f fs) (storedMasks (placeIn 0 (f .path) fs) (given f) ms)
+  store-agrees : length fs ≤ maxFields → (f : Field) (l : Place) → placeIn 0 (f .path) fs ≡ l → Agreed t (store f fs) (storedMasks l (given f) ms)
   unfolding store storedMasks
-  store-agrees few f = go (placeIn 0 (f .path) fs) refl
-    where
-      go : (l : Place) → placeIn 0 (f .path) fs ≡ l → storedMasks l (given f) ms ≡ map given (store f fs)
-      go (At i) e =
-          rw (at-put (f .path) fs i e (f .value), take-all maxFields (set fs i f) (rw length-set few), map-set given i f fs, a)
-      go (Before i) e =
-          rw (before-put (f .path) fs i e (f .value), map-take, map-append, map-take, map-drop, a)
+  store-agrees few f (At i) e =
+      rw (at-put (f .path) fs i e (f .value), take-all maxFields (set fs i f) (rw length-set few), map-set given i f fs, a)
+  store-agrees few f (Before i) e =
+      rw (before-put (f .path) fs i e (f .value), map-take, map-append, map-take, map-drop, a)
 
 -- ── A state with masks ──
 module _ (s : State) (ms : List ℕ) (users : length (s .tables .users) ≤ maxUsers) (fields : length (s .fields) ≤ maxFields) (a : Agreed (s .tables) (s .fields) ms) where
-  get-agrees : (n room : ℕ) → decideGetMasked s ms n room ≡ decideGet s n room
-  unfolding decideGetMasked decideGet copyFor
-  get-agrees n room = bind-agree _ _ _ λ x e.
+  decide-agrees : (q : Request) (room : ℕ) → decideMasked s ms q room ≡ decide s q room
+  unfolding decideMasked decide decideGetMasked decideGet copyFor
+  decide-agrees (login u k) room = refl
+  decide-agrees (inSession n get) room = bind-agree _ _ _ λ x e.
       let k = asking s n x e in
       rw (k .index, shown-agrees (s .tables) users (indexIn n) (x .user) (k .isUser) (s .fields) ms a)
-
-  decide-agrees : (q : Request) (room : ℕ) → decideMasked s ms q room ≡ decide s q room
-  unfolding decideMasked decide
-  decide-agrees (login u k) room = refl
-  decide-agrees (inSession n get) room = get-agrees n room
   decide-agrees (inSession n (push p v)) room = refl
   decide-agrees (inSession n logout) room = refl
 
@@ -99,7 +83,7 @@ module _ (s : State) (ms : List ℕ) (users : length (s .tables .users) ≤ maxU
 
   mask-agrees : (p : Keys) → maskFor s ms p ≡ readersOf (s .tables) p
   unfolding maskFor
-  mask-agrees p = held-agrees (s .tables) (s .fields) ms a p
+  mask-agrees p = held-agrees (s .tables) (s .fields) ms a p (placeIn 0 p (s .fields)) refl
 
   notified-agrees : (c : Change) → notifiedMasked s ms c ≡ notified s c
   unfolding notifiedMasked notified
@@ -117,7 +101,7 @@ module _ (s : State) (ms : List ℕ) (users : length (s .tables .users) ≤ maxU
   masks-agree b l (refused e) = a
   masks-agree b l (done (setsLogin i x)) = a
   masks-agree b l (done (shows x)) = a
-  masks-agree b l (done (stores i x f)) = rw (mask-agrees (f .path)) (store-agrees (s .tables) (s .fields) ms a fields f)
+  masks-agree b l (done (stores i x f)) = rw (mask-agrees (f .path)) (store-agrees (s .tables) (s .fields) ms a fields f _ refl)
 
   -- serving by the masks is serving by the policy, and the masks are then those that the policy gives
   pub effects-agree : (x : Act) → effectByMasks s ms x ≡ effectByPolicy s x
@@ -139,22 +123,13 @@ memory-agrees before x a =
     effects-agree (stateOf before) (masksOf before) users fields a x
 
 -- the fields and the masks are those of the effect, and the tables stayed: they agree again
-pub agrees-after : (before after : Arrays) (x : Act) → after .tables ≡ before .tables → Agree before
-    → stateOf after .fields ≡ effectByMasks (stateOf before) (masksOf before) x .outcome .state .fields
-    → masksOf after ≡ effectByMasks (stateOf before) (masksOf before) x .masks → Agree after
-unfolding effectByPolicy stateIn
-agrees-after before after x same a fields masks =
-    let is = memory-agrees before x a in
-    let kept = fields ∙ ap (λ (w : Effect). w .outcome .state .fields) is in
-    masks ∙ ap (λ (w : Effect). w .masks) is ∙ rw (same, kept)
-
 pub masked-said : (before after : Arrays) (text : Bytes) (given left : Outputs) (r : Reply) → after .tables ≡ before .tables
     → ServedByMasks before text given r after left → ServedByPolicy before text given r after left
-unfolding outcomeIn
-masked-said before after text given left r same masked a = (
-  rw (memory-agrees before (act text given) a) at masked,
-  agrees-after before after (act text given) same a (ap (λ (o : Outcome). o .state .fields) (masked .is)) (masked .memory .masks),
-)
+unfolding outcomeIn effectByPolicy stateIn
+masked-said before after text given left r same masked a =
+    let is = memory-agrees before (act text given) a in
+    let kept = ap (λ (o : Outcome). o .state .fields) (masked .is) ∙ ap (λ (w : Effect). w .outcome .state .fields) is in
+    (rw is at masked, masked .memory .masks ∙ ap (λ (w : Effect). w .masks) is ∙ rw (same, kept))
 
 -- where something was decided for a line, it is served by the masks, and as the documents say
 pub line-served : (before after : Arrays) (text : Bytes) (given left : Outputs) (r : Reply) → after .tables ≡ before .tables

@@ -14,6 +14,7 @@ use Rattle.model.specs.Refusals.{Result, refused, done}
 use Rattle.model.specs.Opening.{State, Fault, opened, kept, afterOpening}
 use Rattle.model.specs.Serving.{Act, save, Outcome, outcome}
 use Rattle.model.specs.Runs.{Event, events, end}
+use Rattle.model.proofs.Lists.{never}
 use Rattle.record.specs.declared.table.Place.{Place}
 use Rattle.record.specs.declared.table.Place.the-variants.{At, Before}
 use Rattle.record.specs.Search.{placeIn, storedMasks}
@@ -57,10 +58,7 @@ made-when-added s ms i l f new = go (placeIn 0 (f .path) (s .fields)) refl
   where
     go : (p : Place) → placeIn 0 (f .path) (s .fields) ≡ p
         → (k : ℕ) × (p ≡ Before k) × (storedMasks p (maskAt p (readersOf (s .tables) (f .path)) ms) ms ≡ take maxFields (insertAt k (readersOf (s .tables) (f .path)) ms))
-    go (At k) e =
-        let z : false ≡ true = sym new ∙ at-holds (f .path) (s .fields) k e in
-        let w : _≡_ {A = ℕ} 0 1 = cc in
-        absurd (omega arith)
+    go (At k) e = never (sym (at-holds (f .path) (s .fields) k e) ∙ new)
     go (Before k) e = (k, refl, refl)
 
 pub held-makes-none : claims.HeldMakesNone
@@ -69,20 +67,12 @@ held-makes-none s ms i l f held = go (placeIn 0 (f .path) (s .fields)) refl
   where
     go : (p : Place) → placeIn 0 (f .path) (s .fields) ≡ p → storedMasks p (maskAt p (readersOf (s .tables) (f .path)) ms) ms ≡ ms
     go (At k) e = set-getD ms k 0
-    go (Before k) e =
-        let z : true ≡ false = sym held ∙ before-holds (f .path) (s .fields) k e in
-        let w : _≡_ {A = ℕ} 0 1 = cc in
-        absurd (omega arith)
+    go (Before k) e = never (sym held ∙ before-holds (f .path) (s .fields) k e)
 
 pub serves-as-policy : claims.ServesAsPolicy
 serves-as-policy a x agree = memory-agrees a x agree
 
 -- ── Calls ──
--- the outcome of an effect by the policy
-said : (a : Arrays) (x : Act) {o : Outcome} → o ≡ effectByPolicy (stateOf a) x .outcome → o ≡ outcome (stateOf a) x
-unfolding effectByPolicy
-said a x e = e
-
 -- one call with its outcome, and the calls behind it
 step : (a b c : Arrays) (x : Act) (o : Outcome) (es : List Event) → o ≡ outcome (stateOf a) x → o .state ≡ stateOf b → AsRun b es c
     → AsRun a (eventOf (stateOf a) x o ∷ es) c
@@ -96,11 +86,11 @@ step a b c x o es is left later =
     }
 
 pub calls-run : claims.CallsRun
-unfolding events end outcomeIn
+unfolding events end outcomeIn effectByPolicy
 calls-run a b es agree (none x) = record { happened = refl; ends = refl; agrees = agree }
 calls-run a b es agree (requested x y z text given left r rest same served calls) =
     let (by-policy, again) = masked-said x y text given left r same served agree in
-    step x y z (act text given) _ rest (said x (act text given) (by-policy .is)) refl (calls-run y z rest again calls)
+    step x y z (act text given) _ rest (by-policy .is) refl (calls-run y z rest again calls)
 calls-run a b es agree (saved x z before after r rest is calls) =
     step x x z (save before) _ rest (is (x .tables) (x .logins)) refl (calls-run x z rest agree calls)
 

@@ -7,7 +7,7 @@ use lib.ListN.{length, length-drop}
 use Rattle.rows.proofs.Parts.{tail-part}
 use Rattle.model.specs.Limits.{maxCopy, maxLine}
 use Rattle.buffers.proofs.Writers.{wrote-both}
-use Rattle.printing.proofs.Responded.{reply-inside, reply-left, accepted-inside, accepted-few, printed-other, printed-accepted, said}
+use Rattle.printing.proofs.Responded.{reply-inside, responds, accepted-inside, accepted-few, printed-other, printed-accepted}
 use Rattle.printing.proofs.respond.Statement.{statement}
 use Rattle.printing.proofs.respond.Tie as tie
 
@@ -39,12 +39,7 @@ returns : tie.Need-returns
 returns c =
     let put = c .before .before .before in
     let served = put .before .before .before .before .request .ensures .0 in
-    said _ _ _ _ _ _ _ _ refl record {
-      leaves = reply-left _ _ _ _ _ _ served;
-      memory = served .memory;
-      wrote = rw (printed-other _ _ _ _ _ _ served (c .match .keys2)) (put .put-answer .ensures .0);
-      short = omega arith;
-    }
+    responds _ _ _ _ _ _ served refl (rw (printed-other _ _ _ _ _ _ served (c .match .keys2)) (put .put-answer .ensures .0)) (omega arith)
 
 sub-put-deliveries : tie.Need-sub-put-deliveries
 sub-put-deliveries c = inside (c .before .before .before) .0
@@ -74,12 +69,8 @@ returns-2 c =
     let put = told .before .before .before .before .before in
     let served = put .before .before .before .before .request .ensures .0 in
     let sent = rw tail-part at (c .before .before .put-deliveries .ensures .0) in
-    said _ _ _ _ _ _ _ _ refl record {
-      leaves = reply-left _ _ _ _ _ _ served;
-      memory = served .memory;
-      wrote = rw (printed-accepted _ _ _ _ _ _ served is) (wrote-both _ _ _ _ _ _ _ _ (put .put-answer .ensures .0) sent);
-      short = omega (arith, put .put-answer .ensures .1);
-    }
+    let all = wrote-both _ _ _ _ _ _ _ _ (put .put-answer .ensures .0) sent in
+    responds _ _ _ _ _ _ served refl (rw (printed-accepted _ _ _ _ _ _ served is) all) (omega (arith, put .put-answer .ensures .1))
 
 pub respond-spec : {M : Type 1} → statement M
 respond-spec =

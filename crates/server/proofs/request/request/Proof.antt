@@ -1,7 +1,7 @@
 -- The line is taken apart; what it asks for is answered by the function for it.
 use mathlib.Core.Path.{_≡_, refl, ap, _∙_}
 use borrow.Author.Needs.{needs}
-use Rattle.requests.specs.declared.Ask.the-variants.{Get, Push, Logout}
+use Rattle.requests.specs.declared.Ask.{Ask}
 use Rattle.requests.specs.declared.Request.the-variants.{InSession}
 use Rattle.server.proofs.Pushed.{line-refused, asks, asked-stands, asked-short, line-decided, push-asked, slot-asked}
 use Rattle.server.proofs.Agree.{line-served}
@@ -10,20 +10,8 @@ use Rattle.server.proofs.request.request.Statement.{statement}
 use Rattle.server.proofs.request.request.Tie as tie
 
 -- what a session asks for
-asks-copy : (c : tie.After-enum-told2)
-    → let q = c .before .before .before in
-    q .before .before .before .asked .given .0 .0 ≡ InSession (q .asked3 .given .0 .0) Get
-asks-copy c = let q = c .before .before .before in q .asked3 .given .1 ∙ ap (InSession (q .asked3 .given .0 .0)) (c .enum-told2 .given .1)
-
-asks-push : (c : tie.After-ask)
-    → let q = c .before .before .before in
-    q .before .before .before .asked .given .0 .0 ≡ InSession (q .asked3 .given .0 .0) (Push (c .ask .given .0 .0) (c .ask .given .0 .1 .0))
-asks-push c = let q = c .before .before .before in q .asked3 .given .1 ∙ ap (InSession (q .asked3 .given .0 .0)) (c .ask .given .1)
-
-asks-logout : (c : tie.After-enum-told3)
-    → let q = c .before .before .before in
-    q .before .before .before .asked .given .0 .0 ≡ InSession (q .asked3 .given .0 .0) Logout
-asks-logout c = let q = c .before .before .before in q .asked3 .given .1 ∙ ap (InSession (q .asked3 .given .0 .0)) (c .enum-told3 .given .1)
+asks-for : (q : tie.After-asked3) {k : Ask} → q .asked3 .given .0 .1 .0 ≡ k → q .before .before .before .asked .given .0 .0 ≡ InSession (q .asked3 .given .0 .0) k
+asks-for q is = q .asked3 .given .1 ∙ ap (InSession (q .asked3 .given .0 .0)) is
 
 parse-requires : tie.Need-parse-requires
 parse-requires c κs = search needs
@@ -65,7 +53,7 @@ push-requires c κs =
     let o = a .before .before .before .before .before .before in
     let (parsed, slot) = o .before .before .parse .ensures in
     let is = o .asked .given .1 in
-    let kind = asks-push a in
+    let kind = asks-for (a .before .before .before) (a .ask .given .1) in
     let (keyed, valid) = push-asked _ _ (asks _ _ parsed is kind) in
     let (inside, stands) = asked-stands _ _ parsed is kind in
     record { short = asked-short _ _ parsed is kind; inside = inside; stands = stands; keyed = keyed; proper = (slot-asked _ _ is kind slot, valid) }
@@ -94,7 +82,7 @@ returns-3 c =
     let o = t .before .before .before .before .before .before in
     let p = o .before .before in
     let a = p .before .before .before .before .before .args in
-    line-served _ _ _ _ _ _ refl (line-decided _ _ (p .parse .ensures .0) (o .asked .given .1) (asks-copy t) _ _ _ _) (g .get .ensures (a .line .now) (a .list .now))
+    line-served _ _ _ _ _ _ refl (line-decided _ _ (p .parse .ensures .0) (o .asked .given .1) (asks-for (t .before .before .before) (t .enum-told2 .given .1)) _ _ _ _) (g .get .ensures (a .line .now) (a .list .now))
 
 same-length-2 : tie.Need-same-length-2
 same-length-2 c = search needs
@@ -106,7 +94,7 @@ returns-4 c =
     let o = t .before .before .before .before .before .before in
     let p = o .before .before in
     let a = p .before .before .before .before .before .args in
-    line-served _ _ _ _ _ _ refl (line-decided _ _ (p .parse .ensures .0) (o .asked .given .1) (asks-push t) _ _ _ _) (w .push .ensures (a .buffer .now))
+    line-served _ _ _ _ _ _ refl (line-decided _ _ (p .parse .ensures .0) (o .asked .given .1) (asks-for (t .before .before .before) (t .ask .given .1)) _ _ _ _) (w .push .ensures (a .buffer .now))
 
 returns-5 : tie.Need-returns-5
 returns-5 c =
@@ -114,7 +102,7 @@ returns-5 c =
     let o = t .before .before .before .before .before .before in
     let p = o .before .before in
     let a = p .before .before .before .before .before .args in
-    line-served _ _ _ _ _ _ refl (line-decided _ _ (p .parse .ensures .0) (o .asked .given .1) (asks-logout t) _ _ _ _) (c .logout .ensures (a .line .now) (a .fields .now) (a .buffer .now) (a .list .now))
+    line-served _ _ _ _ _ _ refl (line-decided _ _ (p .parse .ensures .0) (o .asked .given .1) (asks-for (t .before .before .before) (t .enum-told3 .given .1)) _ _ _ _) (c .logout .ensures (a .line .now) (a .fields .now) (a .buffer .now) (a .list .now))
 
 pub request-spec : {M : Type 1} → statement M
 request-spec =
