@@ -14,10 +14,10 @@ use steps::step::BINDINGS;
 use tables::memory::ROLE;
 use tables::memory::RULE;
 use tables::memory::RULES;
-use tables::memory::STEPS_AT;
 use tables::memory::bindings;
 use tables::memory::is_for;
 use tables::memory::is_write;
+use tables::memory::rule_path;
 use writer::saved::Shown;
 use writer::saved::put_saved;
 ghost use mathlib.Core.Path.{_≡_};
@@ -49,7 +49,7 @@ fn put_rule_line(out: &mut [u8], at: usize, user: &[u8], rule: &[u8]) -> usize
     } else {
         to = put(out, to, b";READ;");
     }
-    to = put_steps(out, to, &rule[STEPS_AT..]);
+    to = put_steps(out, to, rule_path(rule));
     put_byte(out, to, b'\n')
 }
 

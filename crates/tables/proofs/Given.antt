@@ -1,5 +1,5 @@
 -- Whom a line lets read a path, and the mask of those who may, while loops over the users and the lines set its bits.
-use Prim.Native.Nat.{ℕ, _+_, _*_, _-_, _^_, _≤_, _<_}
+use Prim.Native.Nat.{ℕ, _+_, _*_, _^_, _≤_, _<_}
 use mathlib.Core.Path.{_≡_, refl, sym, _∙_}
 use mathlib.Core.Bool.{Bool, true, false, not, _&&_, _||_, and-false, or-true, or-false, or-assoc}
 use mathlib.Core.Option.{Option, none, some}
@@ -7,7 +7,6 @@ use mathlib.Core.List.{List, [], _∷_}
 use borrow.Author.Tests.{eqb-true}
 use lib.Dec.{eqb}
 use lib.ListN.{length, take, drop, set}
-use Rattle.rows.proofs.Parts.{tail-part}
 use Rattle.model.specs.Base.{Bytes, any}
 use Rattle.model.specs.Limits.{maxUsers, maxRules}
 use Rattle.model.specs.Fields.{Keys}
@@ -18,11 +17,10 @@ use Rattle.model.proofs.Lists.{by-cases}
 use Rattle.masks.specs.Bits.{bitAt}
 use Rattle.masks.specs.Readers.{readersOf}
 use Rattle.masks.proofs.Bits.{mask-is, bit-none, AskedBut, asked-start, asked-next}
-use Rattle.steps.specs.Steps.{stepsIn}
 use Rattle.layout.specs.Layout.{inUse}
 use Rattle.matching.specs.Parts.{mayMatch}
 use Rattle.matching.proofs.Matched.{matches-not}
-use Rattle.tables.specs.Memory.{userRow, usersBytes, ruleRow, pathAt, userIn, usersIn, ruleIn, policyIn, tablesIn}
+use Rattle.tables.specs.Memory.{userRow, usersBytes, ruleRow, userIn, usersIn, ruleIn, policyIn, tablesIn}
 use Rattle.tables.specs.Grants.{givesRead, readsByLine, Covers}
 use Rattle.tables.proofs.Users.{user-some, user-below}
 use Rattle.tables.proofs.Policy.{rule-left, rules-over}
@@ -47,11 +45,8 @@ module _ (p : Keys) (r : Rule) where
 
 -- m rows were counted: the line in the row at i may not match
 pub lines-passed : (q : Bytes) (p : Keys) {m : ℕ} → m ≡ length (inUse ruleRow maxRules q) → (i : ℕ) → i < m → {row : Bytes} → row ≡ take ruleRow (drop (i * ruleRow) q)
-    → mayMatch (stepsIn (take (length row - pathAt) (drop pathAt row))) p ≡ false → (o : Option User) → readsBy (drop i (policyIn q)) o p ≡ readsBy (drop (i + 1) (policyIn q)) o p
-unfolding ruleIn
-lines-passed q p counted i below {row} here h o =
-    let no : mayMatch (ruleIn row .path) p ≡ false = rw (tail-part pathAt row) at h in
-    rw (rule-left q counted i below here) (reads-same p (ruleIn row) (drop (i + 1) (policyIn q)) o no)
+    → mayMatch (ruleIn row .path) p ≡ false → (o : Option User) → readsBy (drop i (policyIn q)) o p ≡ readsBy (drop (i + 1) (policyIn q)) o p
+lines-passed q p counted i below {row} here h o = rw (rule-left q counted i below here) (reads-same p (ruleIn row) (drop (i + 1) (policyIn q)) o h)
 
 -- ── The bit of one user, at j, by one line, of which b says whether it gives the right ──
 module _ (m j k : ℕ) (b : Bool) where

@@ -6,16 +6,14 @@ use mathlib.Core.Option.{some}
 use mathlib.Core.List.{[], _∷_}
 use native.Mathlib.Omega.{arith}
 use lib.ListN.{length, take, drop}
-use Rattle.rows.proofs.Parts.{tail-part}
 use Rattle.model.specs.Base.{Bytes, if_then_else_, any}
 use Rattle.model.specs.Limits.{maxRules}
 use Rattle.model.specs.Paths.{Steps}
 use Rattle.model.specs.Tables.{Rule}
 use Rattle.model.specs.Rights.{isWrite, conflict, conflictsWith}
 use Rattle.model.specs.Opening.{conflictFrom}
-use Rattle.steps.specs.Steps.{stepsIn}
 use Rattle.layout.specs.Layout.{isEmpty, inUse}
-use Rattle.tables.specs.Memory.{ruleRow, policyBytes, pathAt, ruleIn, policyIn}
+use Rattle.tables.specs.Memory.{ruleRow, policyBytes, ruleIn, policyIn}
 use Rattle.layout.proofs.Used.{used-fit, used-last, used-more, row-left, row-more, rows-over}
 
 -- a loop that has passed i rows, all of them in use, by whether the row at i is empty
@@ -53,17 +51,17 @@ module _ (s : Bytes) {m : ℕ} (counted : m ≡ length (inUse ruleRow maxRules s
         -- it is in conflict with the path q, or a later one of the first n lines is
         pub conflict-rule : (q : Steps) (n : ℕ) → i < n
             → any (conflictsWith q) (take (n - i) (drop i (policyIn s)))
-            ≡ ((w && conflict q (stepsIn (take (length row - pathAt) (drop pathAt row)))) || any (conflictsWith q) (take (n - (i + 1)) (drop (i + 1) (policyIn s))))
-        unfolding any conflictsWith ruleIn
+            ≡ ((w && conflict q (ruleIn row .path)) || any (conflictsWith q) (take (n - (i + 1)) (drop (i + 1) (policyIn s))))
+        unfolding any conflictsWith
         conflict-rule q n h =
             let e : n - i ≡ suc (n - (i + 1)) = omega arith in
-            rw (tail-part pathAt row, kind, e, rule-left)
+            rw (kind, e, rule-left)
 
         -- it is the first that is in conflict with an earlier one, or a later line is
         pub conflict-from : conflictFrom (i + 2) (take i (policyIn s)) (drop i (policyIn s))
-            ≡ (if w && any (conflictsWith (stepsIn (take (length row - pathAt) (drop pathAt row)))) (take i (policyIn s)) then some (i + 2)
+            ≡ (if w && any (conflictsWith (ruleIn row .path)) (take i (policyIn s)) then some (i + 2)
             else conflictFrom (i + 1 + 2) (take (i + 1) (policyIn s)) (drop (i + 1) (policyIn s)))
-        unfolding conflictFrom ruleIn policyIn
+        unfolding conflictFrom policyIn
         conflict-from =
             let e : suc (i + 2) ≡ i + 1 + 2 = omega arith in
-            rw (tail-part pathAt row, kind, rule-left, e, row-more ruleIn ruleRow maxRules s counted i below is)
+            rw (kind, rule-left, e, row-more ruleIn ruleRow maxRules s counted i below is)

@@ -1,8 +1,8 @@
 // Paths in conflict with WRITE lines of the policy.
 use crate::memory::RULE;
 use crate::memory::RULES;
-use crate::memory::STEPS_AT;
 use crate::memory::is_write;
+use crate::memory::rule_path;
 use layout::table::row_at;
 use layout::table::row_count;
 use matching::conflict::conflict;
@@ -30,7 +30,7 @@ pub fn has_conflict(policy: &[u8], n: usize, steps: &[u8]) -> bool
         }
         let rule = row_at(policy, RULE, i);
         if is_write(rule) {
-            if conflict(steps, &rule[STEPS_AT..]) {
+            if conflict(steps, rule_path(rule)) {
                 return true;
             }
         }
@@ -49,7 +49,7 @@ pub fn first_conflict(policy: &[u8]) -> usize
     while i < n {
         let rule = row_at(policy, RULE, i);
         if is_write(rule) {
-            if has_conflict(policy, i, &rule[STEPS_AT..]) {
+            if has_conflict(policy, i, rule_path(rule)) {
                 return i + 2;
             }
         }

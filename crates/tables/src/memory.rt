@@ -11,6 +11,7 @@ ghost use Prim.Native.Nat.{_≤_};
 ghost use lib.ListN.{length, drop};
 ghost use Rattle.model.specs.Rights.{isWrite, isFor};
 ghost use Rattle.model.specs.Tables.{userNamed};
+ghost use Rattle.steps.specs.Steps.{stepsSlot, stepsIn};
 ghost use Rattle.steps.specs.Environments.{bindingsBytes, bindingsIn};
 ghost use Rattle.tables.specs.Memory.{userRow, usersBytes, ruleRow, policyBytes, tablesBytes, userIn, usersIn, ruleIn, userAnswer};
 
@@ -35,7 +36,7 @@ pub const POLICY: usize = USERS * USER;
 // A policy line: a row of the role, a byte of the access, and the steps.
 pub const ACCESS: usize = NAME_ROW;
 
-pub const STEPS_AT: usize = ACCESS + 1;
+const STEPS_AT: usize = ACCESS + 1;
 
 pub const RULE: usize = STEPS_AT + STEPS;
 
@@ -73,6 +74,15 @@ pub fn bindings(user: &[u8]) -> &[u8]
     ensures { λ r. ⌜ length (now r) ≡ bindingsBytes ⌝ }
 {
     &user[LINES..]
+}
+
+// The policy path of a line.
+pub fn rule_path(rule: &[u8]) -> &[u8]
+    requires { ⌜ length (now rule) ≡ ruleRow ⌝ }
+    ensures { λ r. ⌜ stepsIn (now r) ≡ ruleIn (now (rule .entry)) .path ⌝ }
+    ensures { λ r. ⌜ length (now r) ≡ stepsSlot ⌝ }
+{
+    &rule[STEPS_AT..]
 }
 
 // The user of a name.

@@ -3,7 +3,6 @@ use crate::candidates::NOT_ASKED;
 use crate::candidates::candidates;
 use crate::memory::RULE;
 use crate::memory::RULES;
-use crate::memory::STEPS_AT;
 use crate::memory::TABLES;
 use crate::memory::USER;
 use crate::memory::USERS;
@@ -11,6 +10,7 @@ use crate::memory::bindings;
 use crate::memory::is_for;
 use crate::memory::is_write;
 use crate::memory::policy_of;
+use crate::memory::rule_path;
 use layout::table::is_empty;
 use layout::table::row_at;
 use layout::table::row_count;
@@ -51,7 +51,7 @@ fn gives_write(rule: &[u8], user: &[u8], path: &[u8]) -> bool
     if !is_for(rule, user) {
         return false;
     }
-    matches(bindings(user), &rule[STEPS_AT..], path)
+    matches(bindings(user), rule_path(rule), path)
 }
 
 // Whether a user may write a path.
@@ -82,7 +82,7 @@ fn gives_read(rule: &[u8], user: &[u8], path: &[u8]) -> bool
     if !is_for(rule, user) {
         return false;
     }
-    let steps = &rule[STEPS_AT..];
+    let steps = rule_path(rule);
     if !asks_lines(steps) {
         return true;
     }
@@ -132,7 +132,7 @@ fn next_line(policy: &[u8], n: usize, from: usize, path: &[u8]) -> usize
     let mut i = from;
     while i < n {
         let rule = row_at(policy, RULE, i);
-        if may_match(&rule[STEPS_AT..], path) {
+        if may_match(rule_path(rule), path) {
             return i;
         }
         i += 1;
@@ -155,7 +155,7 @@ pub fn readers_by(found: &mut [u64; MAX_DEPTH], tables: &[u8; TABLES], path: &[u
     let mut i = next_line(policy, n, 0, path);
     while i < n {
         let rule = row_at(policy, RULE, i);
-        let able = candidates(found, tables, users, &rule[STEPS_AT..], path);
+        let able = candidates(found, tables, users, rule_path(rule), path);
         mask = with_readers(mask, able, tables, rule, path);
         i = next_line(policy, n, i + 1, path);
     }

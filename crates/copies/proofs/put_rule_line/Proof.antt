@@ -7,7 +7,6 @@ use native.Mathlib.Omega.{arith}
 use lib.ListN.{length, length-take}
 use borrow.Author.Needs.{needs}
 use Rattle.rows.specs.Rows.{Wrote}
-use Rattle.rows.proofs.Parts.{tail-part}
 use Rattle.model.specs.Base.{text}
 use Rattle.buffers.proofs.Writers.{wrote-both}
 use Rattle.layout.proofs.Named.{name-length}
@@ -56,14 +55,8 @@ slice-aggregate-put-2 c = search needs
 put-requires-3 : tie.Need-put-requires-3
 put-requires-3 c κs = let k = name-length maxName _ (c .before .before .before .before .before .before .before .name-from .ensures) (simp length-take (omega arith)) in omega arith
 
-sub-put-steps : tie.Need-sub-put-steps
-sub-put-steps c = search needs
-
-part-put-steps-start : tie.Need-part-put-steps-start
-part-put-steps-start c = search needs
-
-part-put-steps-end : tie.Need-part-put-steps-end
-part-put-steps-end c = search needs
+rule-path-requires : tie.Need-rule-path-requires
+rule-path-requires c κs = search needs
 
 put-steps-requires : tie.Need-put-steps-requires
 put-steps-requires c κs = let m = met (c .before .before) in search needs
@@ -78,7 +71,8 @@ returns : tie.Need-returns
 unfolding ruleIn text
 returns c =
     let m = met (c .before .before .before .before .before .before .before .before .before) in
-    let steps = rw tail-part at (c .before .before .before .before .before .before .put-steps .ensures .0) in
+    let put = c .before .before .before .before .before .before in
+    let steps = rw (put .before .rule-path .ensures .0) at (put .put-steps .ensures .0) in
     let end = wrote-both _ _ _ _ _ _ _ _ steps (c .before .before .put-byte .ensures) in
     (rw rule-line (wrote-both _ _ _ _ _ _ _ _ (m .2) end), omega arith)
 
@@ -93,9 +87,7 @@ put-rule-line-spec =
     put-requires-2
     slice-aggregate-put-2
     put-requires-3
-    sub-put-steps
-    part-put-steps-start
-    part-put-steps-end
+    rule-path-requires
     put-steps-requires
     put-byte-requires
     same-length

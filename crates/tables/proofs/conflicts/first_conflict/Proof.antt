@@ -6,13 +6,12 @@ use mathlib.Core.Option.{some}
 use mathlib.Core.List.{[]}
 use mathlib.Core.Logic.{⊎-elim}
 use native.Mathlib.Omega.{arith}
-use lib.ListN.{length, take, drop}
+use lib.ListN.{take, drop}
 use borrow.Author.Needs.{needs}
 use Rattle.model.specs.Base.{if_then_else_, any}
 use Rattle.model.specs.Rights.{conflictsWith}
 use Rattle.model.specs.Opening.{conflictFrom}
-use Rattle.steps.specs.Steps.{stepsIn}
-use Rattle.tables.specs.Memory.{pathAt, policyIn}
+use Rattle.tables.specs.Memory.{ruleIn, policyIn}
 use Rattle.tables.proofs.Policy.{rule-inside, conflict-from, rules-over}
 use Rattle.tables.proofs.conflicts.first_conflict.Statement.{statement}
 use Rattle.tables.proofs.conflicts.first_conflict.Tie as tie
@@ -30,7 +29,7 @@ turn : (c : tie.After-is-write Inv-loop μ-loop)
     let p = policyIn (c .before .before .before .before .before .before .args .policy .now) in
     let row = c .before .row-at .result .now in
     conflictFrom 2 [] p
-    ≡ (if c .is-write .result && any (conflictsWith (stepsIn (take (length row - pathAt) (drop pathAt row)))) (take i p) then some (i + 2)
+    ≡ (if c .is-write .result && any (conflictsWith (ruleIn row .path)) (take i p) then some (i + 2)
     else conflictFrom (i + 1 + 2) (take (i + 1) p) (drop (i + 1) p))
 turn c =
     let k = c .before in
@@ -50,14 +49,8 @@ row-at-requires c κs = rule-inside _ (c .before .before .row-count .ensures) (c
 is-write-requires : tie.Need-is-write-requires Inv-loop μ-loop
 is-write-requires c κs = search needs
 
-sub-has-conflict : tie.Need-sub-has-conflict Inv-loop μ-loop
-sub-has-conflict c = search needs
-
-part-has-conflict-start : tie.Need-part-has-conflict-start Inv-loop μ-loop
-part-has-conflict-start c = search needs
-
-part-has-conflict-end : tie.Need-part-has-conflict-end Inv-loop μ-loop
-part-has-conflict-end c = search needs
+rule-path-requires : tie.Need-rule-path-requires Inv-loop μ-loop
+rule-path-requires c κs = search needs
 
 has-conflict-requires : tie.Need-has-conflict-requires Inv-loop μ-loop
 has-conflict-requires c κs = search needs
@@ -70,7 +63,7 @@ add-result c =
 returns : tie.Need-returns Inv-loop μ-loop
 returns c =
     let k = c .before .before .before in
-    rw (turn (k .before), k .if1 .taken, ← c .before .has-conflict .ensures, c .if2 .taken)
+    rw (turn (k .before), k .if1 .taken, ← c .before .before .rule-path .ensures .0, ← c .before .has-conflict .ensures, c .if2 .taken)
 
 add-i : tie.Need-add-i Inv-loop μ-loop
 add-i c = search needs
@@ -81,7 +74,7 @@ loop-less c = search needs
 loop-again : tie.Need-loop-again Inv-loop μ-loop
 loop-again c = (
   search needs,
-  turn (c .before) ∙ ⊎-elim (λ w. rw (w .0 .taken, ← w .2 .ensures, w .3 .left)) (λ w. rw (w .left)) (c .if1 .came),
+  turn (c .before) ∙ ⊎-elim (λ w. rw (w .0 .taken, ← w .1 .ensures .0, ← w .2 .ensures, w .3 .left)) (λ w. rw (w .left)) (c .if1 .came),
 )
 
 returns-2 : tie.Need-returns-2 Inv-loop μ-loop
@@ -98,9 +91,7 @@ first-conflict-spec =
     loop-holds
     row-at-requires
     is-write-requires
-    sub-has-conflict
-    part-has-conflict-start
-    part-has-conflict-end
+    rule-path-requires
     has-conflict-requires
     add-result
     returns

@@ -5,13 +5,13 @@ use mathlib.Core.Bool.{_&&_, _||_}
 use mathlib.Core.Logic.{⊎-elim}
 use native.Mathlib.Nat.{sub-zero}
 use native.Mathlib.Omega.{arith}
-use lib.ListN.{length, take, drop}
+use lib.ListN.{take, drop}
 use lib.Seq.{take-nil}
 use borrow.Author.Needs.{needs}
 use Rattle.model.specs.Base.{any}
 use Rattle.model.specs.Rights.{conflict, conflictsWith}
 use Rattle.steps.specs.Steps.{stepsIn}
-use Rattle.tables.specs.Memory.{pathAt, policyIn}
+use Rattle.tables.specs.Memory.{ruleIn, policyIn}
 use Rattle.tables.proofs.Policy.{rule-inside, conflict-rule, rules-over}
 use Rattle.tables.proofs.conflicts.has_conflict.Statement.{statement}
 use Rattle.tables.proofs.conflicts.has_conflict.Tie as tie
@@ -29,7 +29,7 @@ turn : (c : tie.After-is-write Inv-loop μ-loop)
     let a = c .before .before .before .before .before .before .before .before .args in
     let row = c .before .row-at .result .now in
     any (conflictsWith (stepsIn (a .steps .now))) (take (a .n) (policyIn (a .policy .now)))
-    ≡ ((c .is-write .result && conflict (stepsIn (a .steps .now)) (stepsIn (take (length row - pathAt) (drop pathAt row))))
+    ≡ ((c .is-write .result && conflict (stepsIn (a .steps .now)) (ruleIn row .path))
     || any (conflictsWith (stepsIn (a .steps .now))) (take (a .n - (i + 1)) (drop (i + 1) (policyIn (a .policy .now)))))
 turn c =
     let k = c .before in
@@ -57,14 +57,8 @@ row-at-requires c κs = rule-inside _ (c .before .before .before .row-count .ens
 is-write-requires : tie.Need-is-write-requires Inv-loop μ-loop
 is-write-requires c κs = search needs
 
-sub-conflict : tie.Need-sub-conflict Inv-loop μ-loop
-sub-conflict c = search needs
-
-part-conflict-start : tie.Need-part-conflict-start Inv-loop μ-loop
-part-conflict-start c = search needs
-
-part-conflict-end : tie.Need-part-conflict-end Inv-loop μ-loop
-part-conflict-end c = search needs
+rule-path-requires : tie.Need-rule-path-requires Inv-loop μ-loop
+rule-path-requires c κs = search needs
 
 conflict-requires : tie.Need-conflict-requires Inv-loop μ-loop
 conflict-requires c κs = search needs
@@ -72,7 +66,7 @@ conflict-requires c κs = search needs
 returns-2 : tie.Need-returns-2 Inv-loop μ-loop
 returns-2 c =
     let k = c .before .before .before in
-    sym (turn (k .before) ∙ rw (k .if2 .taken, ← c .before .conflict .ensures, c .if3 .taken))
+    sym (turn (k .before) ∙ rw (k .if2 .taken, ← c .before .before .rule-path .ensures .0, ← c .before .conflict .ensures, c .if3 .taken))
 
 add-i : tie.Need-add-i Inv-loop μ-loop
 add-i c = search needs
@@ -83,7 +77,7 @@ loop-less c = search needs
 loop-again : tie.Need-loop-again Inv-loop μ-loop
 loop-again c = (
   search needs,
-  turn (c .before) ∙ ⊎-elim (λ w. rw (w .0 .taken, ← w .2 .ensures, w .3 .left)) (λ w. rw (w .left)) (c .if2 .came),
+  turn (c .before) ∙ ⊎-elim (λ w. rw (w .0 .taken, ← w .1 .ensures .0, ← w .2 .ensures, w .3 .left)) (λ w. rw (w .left)) (c .if2 .came),
 )
 
 returns-3 : tie.Need-returns-3 Inv-loop μ-loop
@@ -101,9 +95,7 @@ has-conflict-spec =
     returns
     row-at-requires
     is-write-requires
-    sub-conflict
-    part-conflict-start
-    part-conflict-end
+    rule-path-requires
     conflict-requires
     returns-2
     add-i

@@ -3,8 +3,6 @@ use mathlib.Core.Path.{sym, _∙_}
 use mathlib.Core.Bool.{and-false}
 use borrow.Author.Tests.{not-true, not-false}
 use borrow.Author.Needs.{needs}
-use Rattle.rows.proofs.Parts.{tail-part}
-use Rattle.tables.specs.Memory.{ruleIn}
 use Rattle.tables.specs.Grants.{givesWrite}
 use Rattle.tables.proofs.rights.gives_write.Statement.{statement}
 use Rattle.tables.proofs.rights.gives_write.Tie as tie
@@ -26,23 +24,17 @@ returns-2 c = rw (sym (c .before .is-for .ensures) ∙ not-true _ (c .if2 .taken
 bindings-requires : tie.Need-bindings-requires
 bindings-requires c κs = search needs
 
-sub-matches : tie.Need-sub-matches
-sub-matches c = search needs
-
-part-matches-start : tie.Need-part-matches-start
-part-matches-start c = search needs
-
-part-matches-end : tie.Need-part-matches-end
-part-matches-end c = search needs
+rule-path-requires : tie.Need-rule-path-requires
+rule-path-requires c κs = search needs
 
 matches-requires : tie.Need-matches-requires
 matches-requires c κs = search needs
 
 returns-3 : tie.Need-returns-3
-unfolding givesWrite ruleIn
+unfolding givesWrite
 returns-3 c =
     let k = c .before .before .before in
-    let m = rw (c .before .before .bindings .ensures .0, tail-part) at (c .matches .ensures) in
+    let m = rw (c .before .before .bindings .ensures .0, c .before .rule-path .ensures .0) at (c .matches .ensures) in
     let w = k .before .before in
     rw (sym (k .before .is-for .ensures) ∙ not-false _ (k .if2 .left), sym (w .before .is-write .ensures) ∙ not-false _ (w .if1 .left)) m
 
@@ -55,8 +47,6 @@ gives-write-spec =
     is-for-requires
     returns-2
     bindings-requires
-    sub-matches
-    part-matches-start
-    part-matches-end
+    rule-path-requires
     matches-requires
     returns-3)

@@ -5,11 +5,10 @@ use mathlib.Core.Option.{Option}
 use native.Mathlib.Omega.{arith}
 use borrow.Author.Needs.{needs}
 use lib.ListN.{drop}
-use Rattle.rows.proofs.Parts.{tail-part}
 use Rattle.model.specs.Tables.{User}
 use Rattle.model.specs.Serving.{readsBy}
 use Rattle.paths.specs.Layout.{pathIn}
-use Rattle.tables.specs.Memory.{pathAt, ruleIn, policyIn}
+use Rattle.tables.specs.Memory.{policyIn}
 use Rattle.tables.proofs.Policy.{rule-inside}
 use Rattle.tables.proofs.Given.{lines-passed}
 use Rattle.tables.proofs.rights.next_line.Statement.{statement}
@@ -30,24 +29,17 @@ row-at-requires c κs =
     let s = c .before .before .before .before in
     rule-inside _ (s .pre .2) (c .before .loop .i) (c .loop-test .taken) (s .pre .0)
 
-sub-may-match : tie.Need-sub-may-match Inv-loop μ-loop
-sub-may-match c = search needs
-
-part-may-match-start : tie.Need-part-may-match-start Inv-loop μ-loop
-part-may-match-start c = search needs
-
-part-may-match-end : tie.Need-part-may-match-end Inv-loop μ-loop
-part-may-match-end c = search needs
+rule-path-requires : tie.Need-rule-path-requires Inv-loop μ-loop
+rule-path-requires c κs = search needs
 
 may-match-requires : tie.Need-may-match-requires Inv-loop μ-loop
 may-match-requires c κs = search needs
 
 returns : tie.Need-returns Inv-loop μ-loop
-unfolding ruleIn
 returns c =
     let row = c .before .before .before in
     let l = row .before .before .loop in
-    let may = rw (tail-part pathAt _) at (sym (c .before .may-match .ensures) ∙ c .if1 .taken) in
+    let may = rw (c .before .before .rule-path .ensures .0) at (sym (c .before .may-match .ensures) ∙ c .if1 .taken) in
     ((l .inv .0, l .inv .1), ((λ h. rw (← row .row-at .ensures .0) may), l .inv .2))
 
 add-i : tie.Need-add-i Inv-loop μ-loop
@@ -61,7 +53,8 @@ loop-again c =
     let row = c .before .before .before in
     let l = row .before .before .loop in
     let s = row .before .before .before .before .before in
-    let passed = lines-passed _ _ (s .pre .2) (l .i) (row .before .loop-test .taken) (row .row-at .ensures .0) (sym (c .before .may-match .ensures) ∙ c .if1 .left) in
+    let no = rw (c .before .before .rule-path .ensures .0) at (sym (c .before .may-match .ensures) ∙ c .if1 .left) in
+    let passed = lines-passed _ _ (s .pre .2) (l .i) (row .before .loop-test .taken) (row .row-at .ensures .0) no in
     (search needs, search needs, λ o. l .inv .2 o ∙ passed o)
 
 returns-2 : tie.Need-returns-2 Inv-loop μ-loop
@@ -77,9 +70,7 @@ next-line-spec =
     μ-loop
     loop-holds
     row-at-requires
-    sub-may-match
-    part-may-match-start
-    part-may-match-end
+    rule-path-requires
     may-match-requires
     returns
     add-i

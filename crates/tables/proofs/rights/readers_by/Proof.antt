@@ -3,11 +3,10 @@ use Prim.Native.Nat.{_+_, _-_, _^_, _≤_, _<_}
 use mathlib.Core.Path.{_≡_, sym, _∙_}
 use mathlib.Core.Bool.{true}
 use borrow.Author.Needs.{needs}
-use Rattle.rows.proofs.Parts.{tail-part}
 use Rattle.model.specs.Limits.{maxUsers}
 use Rattle.paths.specs.Layout.{pathIn}
 use Rattle.matching.specs.Parts.{mayMatch}
-use Rattle.tables.specs.Memory.{pathAt, usersIn, ruleIn, ruleAt}
+use Rattle.tables.specs.Memory.{usersIn, ruleAt}
 use Rattle.tables.specs.Grants.{Found}
 use Rattle.tables.proofs.Policy.{rule-inside}
 use Rattle.tables.proofs.Given.{ReadersLeft, readers-start, readers-end, readers-on, readers-more}
@@ -47,32 +46,24 @@ loop-holds c =
 row-at-requires : tie.Need-row-at-requires Inv-loop μ-loop
 row-at-requires c κs = rule-inside _ (c .before .before .before .row-count2 .ensures) (c .before .loop .i) (c .loop-test .taken) (search needs)
 
-sub-candidates : tie.Need-sub-candidates Inv-loop μ-loop
-sub-candidates c = search needs
-
-part-candidates-start : tie.Need-part-candidates-start Inv-loop μ-loop
-part-candidates-start c = search needs
-
-part-candidates-end : tie.Need-part-candidates-end Inv-loop μ-loop
-part-candidates-end c = search needs
+rule-path-requires : tie.Need-rule-path-requires Inv-loop μ-loop
+rule-path-requires c κs = search needs
 
 candidates-requires : tie.Need-candidates-requires Inv-loop μ-loop
-unfolding ruleIn
 candidates-requires c κs =
     let row = c .before .before in
     let l = row .before .before in
     let count = l .before .before .before .before .before in
     let may = l .loop .inv .4 (row .before .loop-test .taken) in
-    ((search needs, count .before .before .before .pre .0, count .row-count .ensures), (rw (tail-part pathAt _, row .row-at .ensures .0) may, l .loop .inv .2))
+    ((search needs, count .before .before .before .pre .0, count .row-count .ensures), (rw (c .rule-path .ensures .0, row .row-at .ensures .0) may, l .loop .inv .2))
 
 with-readers-requires : tie.Need-with-readers-requires Inv-loop μ-loop
-unfolding ruleIn
 with-readers-requires c κs =
     let row = c .before .before .before in
     let l = row .before .before in
     let start = l .before .before .before .before .before .before .before .before in
     let may = l .loop .inv .4 (row .before .loop-test .taken) in
-    ((row .row-at .ensures .1, start .pre .0), (rw (row .row-at .ensures .0) may, rw (tail-part pathAt _) at (c .candidates .ensures .0)))
+    ((row .row-at .ensures .1, start .pre .0), (rw (row .row-at .ensures .0) may, rw (c .before .rule-path .ensures .0) at (c .candidates .ensures .0)))
 
 add-next-line : tie.Need-add-next-line Inv-loop μ-loop
 add-next-line c = search needs
@@ -109,9 +100,7 @@ readers-by-spec =
     next-line-requires
     loop-holds
     row-at-requires
-    sub-candidates
-    part-candidates-start
-    part-candidates-end
+    rule-path-requires
     candidates-requires
     with-readers-requires
     add-next-line
