@@ -9,12 +9,12 @@ use native.Mathlib.Omega.{arith}
 use lib.Dec.{isLe, isEq}
 use lib.ListN.{length, getD, drop, length-append, length-drop}
 use lib.Seq.{drop-append-seam, drop-drop}
-use borrow.Author.Tests.{eq-eqb, ne-eqb, eqb-true, eqb-false, leb-true, leb-false}
+use borrow.Author.Tests.{eq-eqb, ne-eqb, eqb-true, leb-true, leb-false}
 use Rattle.rows.proofs.Positions.{here, over}
 use Rattle.model.specs.Base.{Bytes, _==_, after, isSome}
 use Rattle.model.specs.Fields.{andThen, lex, byOrder}
 use Rattle.model.proofs.Lists.{by-cases, never, bytes-eq, bytes-refl}
-use Rattle.model.proofs.Order.{by-three}
+use Rattle.model.proofs.Order.{by-three, compare-orders}
 use Rattle.model.proofs.Reading.{after-some}
 use Rattle.lexical.specs.Orders.{orderOf, isGreater}
 use Rattle.lexical.specs.declared.slice.Order.{Order}
@@ -68,10 +68,7 @@ module _ (x y : ℕ) where
       (λ e. absurd (omega (arith, leb-false x y (ap isLe e))))
 
   pub compare-same : x ≡ y → compare x y ≡ Ordering·eq
-  compare-same h = by-three (compare x y)
-      (λ e. absurd (eqb-false x y (ap isEq e) h))
-      (λ e. e)
-      (λ e. absurd (eqb-false x y (ap isEq e) h))
+  compare-same h = rw h (compare-orders .self y)
 
   pub compare-more : y < x → compare x y ≡ Ordering·gt
   compare-more h = by-three (compare x y)
@@ -107,19 +104,8 @@ order-told o h e = told o ∙ ap orderIn (sym h ∙ e)
     told Ordering·gt = refl
 
 -- whether it tells that the first is behind
-abbrev pub tellsBehind : Order → Bool
-tellsBehind Less = false
-tellsBehind Equal = false
-tellsBehind Greater = true
-
-pub behind-told : (o : Ordering) {r v : Order} → r ≡ orderOf o → r ≡ v → tellsBehind v ≡ isGreater o
-unfolding byOrder
-behind-told o {r} {v} h e = rw (order-told o h e) (told v)
-  where
-    told : (v : Order) → tellsBehind v ≡ isGreater (orderIn v)
-    told Less = refl
-    told Equal = refl
-    told Greater = refl
+pub behind-told : (o : Ordering) {r v : Order} → r ≡ orderOf o → r ≡ v → {b : Bool} → isGreater (orderIn v) ≡ b → b ≡ isGreater o
+behind-told o h e b = sym b ∙ ap isGreater (sym (order-told o h e))
 
 pub behind-order : (o : Ordering) → isGreater o ≡ true → o ≡ Ordering·gt
 unfolding byOrder

@@ -59,7 +59,7 @@ compare-trans a (suc b) zero h k = lt-gt (sym k ∙ compare·suc-zero b)
 compare-trans zero (suc b) (suc c) h k = compare·zero-suc c
 compare-trans (suc a) (suc b) (suc c) h k = compare·suc-suc a c ∙ compare-trans a b c (sym (compare·suc-suc a b) ∙ h) (sym (compare·suc-suc b c) ∙ k)
 
-compare-orders : Orders compare
+pub compare-orders : Orders compare
 compare-orders = record { same = compare-same; self = compare-self; flip = compare-flip; trans = compare-trans }
 
 -- ── Lists, element by element ──

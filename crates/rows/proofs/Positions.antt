@@ -1,12 +1,12 @@
 -- Positions in a text: the rest at a position, where a run ends, and what a reader reads.
-use Prim.Native.Nat.{ℕ, _+_, _-_, _≤_, _<_}
+use Prim.Native.Nat.{ℕ, zero, suc, _+_, _-_, _≤_, _<_}
 use mathlib.Core.Path.{_≡_, refl, ap, ap₂, _∙_}
 use mathlib.Core.Bool.{Bool, true, false, not}
 use mathlib.Core.Option.{Option, none, some}
 use mathlib.Core.List.{List, [], _∷_}
 use native.Mathlib.Numerals.{add-one}
 use native.Mathlib.Omega.{arith}
-use lib.ListN.{length, getD, take, drop, length-drop, drop-of-length-le}
+use lib.ListN.{length, getD, getElem?, take, drop, length-drop, drop-of-length-le}
 use lib.Seq.{drop-cons, drop-drop}
 use Rattle.rows.specs.Rows.{upTo}
 use Rattle.rows.specs.Positions.{Reader, Reads, behind, placed, LeavesEnd, run, runEnd}
@@ -19,6 +19,13 @@ module _ {ℓ} {A : Type ℓ} where
 
   pub over : (s : List A) (i : ℕ) → length s ≤ i → drop i s ≡ []
   over s i h = drop-of-length-le s h
+
+  -- the element at a position is the first of the rest there
+  pub elem-left : (s : List A) (i : ℕ) → getElem? s i ≡ getElem? (drop i s) 0
+  elem-left [] zero = refl
+  elem-left [] (suc i) = refl
+  elem-left (x ∷ s) zero = refl
+  elem-left (x ∷ s) (suc i) = elem-left s i
 
   -- the rest at a later position, and what stands between
   pub rest-from : (s : List A) (at e : ℕ) → at ≤ e → drop (e - at) (drop at s) ≡ drop e s

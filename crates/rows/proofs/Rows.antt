@@ -205,12 +205,6 @@ module _ {ℓ} {A : Type ℓ} (stop : A → Bool) where
       let l = length-take-le i (upTo stop xs) h in
       sym (ap (drop i) split ∙ drop-at (take i (upTo stop xs)) (upTo stop (drop i xs)) i l)
 
-  -- nothing from a stop on counts
-  pub upTo-stop : (xs : List A) (x : A) (ys : List A) → stop x ≡ true → upTo stop (xs ++ x ∷ ys) ≡ upTo stop xs
-  unfolding upTo
-  upTo-stop [] x ys e = rw e
-  upTo-stop (y ∷ xs) x ys e = rw (upTo-stop xs x ys e)
-
   -- an element that is no stop put in, or written over another
   module _ (i : ℕ) (a : A) (xs : List A) (kept : stop a ≡ false) where
     pub upTo-insert : i ≤ length (upTo stop xs) → upTo stop (insertAt i a xs) ≡ insertAt i a (upTo stop xs)

@@ -69,10 +69,10 @@ returns-3 c =
     let b = k .before .before .args .b .now in
     let at = m .least2 .result in
     let e : bigEndian wordBytes a ≡ bigEndian wordBytes b = cc in
-    let v : c .before .before .before .word3 .result ≡ bigEndian wordBytes (drop at a) = c .before .before .before .word3 .ensures ∙ rw (tail-part at a) in
-    let w : c .before .word4 .result ≡ bigEndian wordBytes (drop at b) = c .before .word4 .ensures ∙ rw (tail-part at b) in
-    rw (v, w) (second-behind wordBytes a b (search needs) (search needs) (λ i. k .before .shared-slice-known .given i .fits) (λ i. k .shared-slice-known2 .given i .fits)
-    at (search needs) e (search needs) (search needs) (rw (v, w) at (c .if3 .taken)))
+    rw (c .before .before .before .word3 .ensures, c .before .word4 .ensures, tail-part at a, tail-part at b)
+    (second-behind wordBytes a b (search needs) (search needs) (λ i. k .before .shared-slice-known .given i .fits) (λ i. k .shared-slice-known2 .given i .fits)
+    at (search needs) e (search needs) (search needs)
+    (rw (c .before .before .before .word3 .ensures, c .before .word4 .ensures, tail-part at a, tail-part at b) at (c .if3 .taken)))
 
 add-is-behind-from : tie.Need-add-is-behind-from
 add-is-behind-from c = search needs

@@ -1,6 +1,6 @@
 -- The last words differ, or the first words decide, which reach as far as these.
 use Prim.Native.Nat.{_-_}
-use mathlib.Core.Path.{_≡_, sym, _∙_}
+use mathlib.Core.Path.{_≡_, sym}
 use lib.ListN.{length, drop}
 use Rattle.rows.proofs.Parts.{tail-part}
 use borrow.Author.Needs.{needs}
@@ -44,9 +44,8 @@ returns c =
     let a = s .args .a .now in
     let b = s .args .b .now in
     let at = length a - wordBytes in
-    let v : c .before .before .before .word .result ≡ bigEndian wordBytes (drop at a) = c .before .before .before .word .ensures ∙ rw (tail-part at a) in
-    let w : c .before .word2 .result ≡ bigEndian wordBytes (drop at b) = c .before .word2 .ensures ∙ rw (tail-part at b) in
-    sym (same-not a b (λ (t : Bytes). bigEndian wordBytes (drop at t)) (rw (v, w) at (c .if1 .taken)))
+    sym (same-not a b (λ (t : Bytes). bigEndian wordBytes (drop at t))
+    (rw (c .before .before .before .word .ensures, c .before .word2 .ensures, tail-part at a, tail-part at b) at (c .if1 .taken)))
 
 word-requires-3 : tie.Need-word-requires-3
 word-requires-3 c κs = search needs
