@@ -1,6 +1,6 @@
 -- Which rows are in use where one is written behind the last, over another or before another.
 use Prim.Native.Nat.{ℕ, suc, _+_, _*_, _-_, _≤_, _<_, min}
-use mathlib.Core.Path.{_≡_, refl, sym, ap, _∙_}
+use mathlib.Core.Path.{_≡_, sym, ap, _∙_}
 use mathlib.Core.Bool.{false}
 use mathlib.Core.List.{[], _∷_, _++_, map-append, append-assoc}
 use native.Mathlib.Nat.{suc-mul, mul-le-mul-left, mul-le-mul-right, mul-lt-mul-of-pos-right}
@@ -18,7 +18,7 @@ use Rattle.rows.proofs.Parts.{tail-part, tail-replaced, length-part}
 use Rattle.rows.proofs.Writing.{take-written}
 use Rattle.model.specs.Base.{Bytes}
 use Rattle.model.proofs.Lists.{by-cases}
-use Rattle.layout.specs.Layout.{isEmpty, inUse, table, Holds, insertedRow}
+use Rattle.layout.specs.Layout.{isEmpty, inUse, table, Holds, movedEnd, insertedRow}
 use Rattle.layout.proofs.Used.{used-fit, byte-empty}
 
 -- ── A part that was lent from the place a on and came back with a row at its start ──
@@ -120,51 +120,43 @@ module _ (k n : ℕ) where
       all-count = ap length all-inserted ∙ simp (length-append, length-take, length-drop) (omega arith)
 
       -- rows move up to the end e, behind which none is in use: it is as if all had moved
-      module _ (m e : ℕ) (ends : e ≡ m * k) (moved : m ≡ min (length (inUse k n xs) + 2) n) where
-        room : i * k + k ≤ e
-        room = let l : i + 1 ≤ m = omega arith in omega (arith, next-row i k, mul-le-mul-right k l)
+      abbrev e : ℕ
+      e = movedEnd k n xs
 
-        inside : e ≤ length xs
-        inside = let l : m ≤ n = omega arith in omega (arith, fits .1, mul-le-mul-right k l)
+      room : i * k + k ≤ e
+      room = let l : i + 1 ≤ min (length (inUse k n xs) + 2) n = omega arith in omega (arith, next-row i k, mul-le-mul-right k l)
 
-        pub moved-room : (i * k + k ≤ e) × (e ≤ length xs)
-        moved-room = (room, inside)
+      inside : e ≤ length xs
+      inside = let l : min (length (inUse k n xs) + 2) n ≤ n = omega arith in omega (arith, fits .1, mul-le-mul-right k l)
 
-        put-start : (ys : Bytes) → take e (put ys) ≡ put (take (e - i * k - k) ys)
-        put-start ys =
-            let p : e ≡ length (take (i * k) xs) + (length row + (e - i * k - k)) = omega (arith, room, inside, length-take-le (i * k) xs (omega (arith, room, inside))) in
-            ap (λ (j : ℕ). take j (put ys)) p ∙ rw (take-append-add, take-append-add)
+      pub moved-room : (i * k + k ≤ movedEnd k n xs) × (movedEnd k n xs ≤ length xs)
+      moved-room = (room, inside)
 
-        same-start : (ys : Bytes) → take e (put (next (e - i * k - k) ++ ys)) ≡ take e all
-        same-start ys =
-            let j = e - i * k - k in
-            let w = length-part (i * k) j xs (omega (arith, room, inside)) in
-            let t = take-take j (length xs - i * k - k) (drop (i * k) xs) (omega (arith, inside)) in
-            put-start (next j ++ ys) ∙ rw (take-at (next j) ys j w, ← t) (sym (put-start (next (length xs - i * k - k))))
+      put-start : (ys : Bytes) → take e (put ys) ≡ put (take (e - i * k - k) ys)
+      put-start ys =
+          let p : e ≡ length (take (i * k) xs) + (length row + (e - i * k - k)) = omega (arith, room, inside, length-take-le (i * k) xs (omega (arith, room, inside))) in
+          ap (λ (j : ℕ). take j (put ys)) p ∙ rw (take-append-add, take-append-add)
 
-        module _ (ys : Bytes) (came : ys ≡ row ++ take (length (next (e - i * k)) - length row) (next (e - i * k))) where
-          part-inserted : ys ≡ row ++ next (e - i * k - k)
-          part-inserted =
-              let w = length-part (i * k) (e - i * k) xs (omega (arith, room, inside)) in
-              came ∙ rw (w, long, take-take (e - i * k - k) (e - i * k) (drop (i * k) xs) (omega arith))
+      same-start : (ys : Bytes) → take e (put (next (e - i * k - k) ++ ys)) ≡ take e all
+      same-start ys =
+          let j = e - i * k - k in
+          let w = length-part (i * k) j xs (omega (arith, room, inside)) in
+          let t = take-take j (length xs - i * k - k) (drop (i * k) xs) (omega (arith, inside)) in
+          put-start (next j ++ ys) ∙ rw (take-at (next j) ys j w, ← t) (sym (put-start (next (length xs - i * k - k))))
 
-          pub used-inserted : inUse k n (replaced (i * k) (e - i * k) ys xs) ≡ take n (insertAt i row (inUse k n xs))
-          used-inserted =
-              let same = same-start (drop (e - i * k) (drop (i * k) xs)) in
-              rw (part-inserted, append-assoc) (used-same m e all _ (omega arith) (omega arith) (omega (arith, all-count)) same)
-              ∙ all-inserted
+      pub inserted-used : inUse k n (insertedRow k n i row xs) ≡ take n (insertAt i row (inUse k n xs))
+      unfolding insertedRow
+      inserted-used =
+          let same = same-start (drop (e - i * k) (drop (i * k) xs)) in
+          rw append-assoc (used-same (min (length (inUse k n xs) + 2) n) e all _ (omega arith) (omega arith) (omega (arith, all-count)) same) ∙ all-inserted
 
-          pub bytes-inserted : replaced (i * k) (e - i * k) ys xs ≡ insertedRow k n i row xs
-          unfolding insertedRow
-          bytes-inserted = rw (part-inserted, ends, moved)
-
--- the same of the bytes by themselves
-pub inserted-used : (k n i : ℕ) (row xs : Bytes) → Holds k n xs → length row ≡ k → isEmpty row ≡ false → i < n → i ≤ length (inUse k n xs)
-    → inUse k n (insertedRow k n i row xs) ≡ take n (insertAt i row (inUse k n xs))
-inserted-used k n i row xs fits long kept below within =
-    let m = min (length (inUse k n xs) + 2) n in
-    rw (← bytes-inserted k n i row xs fits long kept below within m (m * k) refl refl _ refl)
-    (used-inserted k n i row xs fits long kept below within m (m * k) refl refl _ refl)
+      -- the part up to the end came back with the row at its start
+      pub bytes-inserted : {end : ℕ} → end ≡ movedEnd k n xs → {ys : Bytes} → ys ≡ row ++ take (length (next (end - i * k)) - length row) (next (end - i * k))
+          → replaced (i * k) (end - i * k) ys xs ≡ insertedRow k n i row xs
+      unfolding insertedRow
+      bytes-inserted ends came =
+          let w = length-part (i * k) (e - i * k) xs (omega (arith, room, inside)) in
+          rw (came, ends, w, long, take-take (e - i * k - k) (e - i * k) (drop (i * k) xs) (omega arith))
 
 -- after each byte has moved by the length of a row, the copy of the row
 pub put-first : (tail row mid out : Bytes) → length row ≤ length tail → mid ≡ movedLater (length row) tail → out ≡ row ++ drop (length row) mid

@@ -1,6 +1,6 @@
 -- Rows in use: how a loop over the rows finds where they end, and what is left of them, and of what they mean, at each.
 use Prim.Native.Nat.{ℕ, _+_, _*_, _-_, _≤_, _<_}
-use mathlib.Core.Path.{_≡_, sym, ap, _∙_}
+use mathlib.Core.Path.{_≡_, refl, sym, ap, _∙_}
 use mathlib.Core.Bool.{true, false}
 use mathlib.Core.List.{List, [], _∷_, _++_}
 use native.Mathlib.Nat.{add-zero, zero-mul}
@@ -30,19 +30,20 @@ module _ (k n : ℕ) (s : Bytes) where
     used-from : drop i (inUse k n s) ≡ upTo isEmpty (take k (drop (i * k) s) ∷ rows k (n - (i + 1)) (drop ((i + 1) * k) s))
     used-from = sym (upTo-drop isEmpty i (rows k n s) passed) ∙ rw (drop-rows k i n s, rows-step k i n s below)
 
-    -- the row at i is empty: it ends them
-    pub used-last : isEmpty (take k (drop (i * k) s)) ≡ true → length (inUse k n s) ≤ i
-    unfolding upTo
-    used-last e =
-        let none : drop i (inUse k n s) ≡ [] = used-from ∙ rw e in
-        omega (arith, ap length none, length-drop i (inUse k n s))
+    module _ {row : Bytes} (is : row ≡ take k (drop (i * k) s)) where
+      -- the row at i is empty: it ends them
+      pub used-last : isEmpty row ≡ true → length (inUse k n s) ≤ i
+      unfolding upTo
+      used-last e =
+          let none : drop i (inUse k n s) ≡ [] = used-from ∙ rw (← is, e) in
+          omega (arith, ap length none, length-drop i (inUse k n s))
 
-    -- it is in use
-    pub used-more : isEmpty (take k (drop (i * k) s)) ≡ false → i < length (inUse k n s)
-    unfolding upTo
-    used-more e =
-        let some : drop i (inUse k n s) ≡ take k (drop (i * k) s) ∷ upTo isEmpty (rows k (n - (i + 1)) (drop ((i + 1) * k) s)) = used-from ∙ rw e in
-        omega (arith, ap length some, length-drop i (inUse k n s))
+      -- it is in use
+      pub used-more : isEmpty row ≡ false → i < length (inUse k n s)
+      unfolding upTo
+      used-more e =
+          let some : drop i (inUse k n s) ≡ row ∷ upTo isEmpty (rows k (n - (i + 1)) (drop ((i + 1) * k) s)) = used-from ∙ rw (← is, e) in
+          omega (arith, ap length some, length-drop i (inUse k n s))
 
   -- the first byte of a row tells whether it is empty
   module _ (i : ℕ) (size : 0 < k) where
@@ -60,13 +61,13 @@ module _ (k n : ℕ) (s : Bytes) where
   -- where the first row is empty, none is in use
   pub used-none : 0 < k → getD s 0 0 ≡ 0 → inUse k n s ≡ []
   used-none size e = over (inUse k n s) 0 (by-cases (ltb 0 n)
-      (λ t. used-last 0 (ltb-true 0 n t) (omega arith) (byte-empty 0 size (rw zero-mul e)))
+      (λ t. used-last 0 (ltb-true 0 n t) (omega arith) refl (byte-empty 0 size (rw zero-mul e)))
       (λ f. omega (arith, used-fit, ltb-false 0 n f)))
 
   -- a row in use is not empty
   pub used-full : (i : ℕ) → i < length (inUse k n s) → isEmpty (take k (drop (i * k) s)) ≡ false
   used-full i h = by-cases (isEmpty (take k (drop (i * k) s)))
-      (λ e. absurd (omega (arith, used-last i (omega (arith, used-fit)) (omega arith) e)))
+      (λ e. absurd (omega (arith, used-last i (omega (arith, used-fit)) (omega arith) refl e)))
       (λ e. e)
 
   -- the row at i, where it is in use

@@ -4,7 +4,6 @@ use crate::table::Shown;
 use crate::table::each;
 use buffers::put;
 use layout::counted::count;
-use layout::counted::row_at;
 use layout::name::KEY_ROW;
 use layout::name::NAME_ROW;
 use layout::name::name;
@@ -14,7 +13,6 @@ use lexical::limits::MAX_DEPTH;
 use lexical::limits::MAX_LISTED;
 use matching::conflict::conflict;
 use matching::conflict::steps_of;
-use matching::path::admits;
 use matching::path::has_name;
 use matching::path::matches;
 use paths::field::PATH;
@@ -23,7 +21,6 @@ use paths::field::put_path;
 use paths::field::read_path;
 use paths::key::key_at;
 use paths::key::push_key;
-use steps::policy::STEP;
 use steps::policy::STEPS;
 use steps::policy::kind_of;
 use steps::policy::push_step;
@@ -176,7 +173,6 @@ fn two_lines() -> [u8; ENVIRONMENT] {
 
 fn matched(lines: &[u8; ENVIRONMENT], steps: &[u8; STEPS], slot: &[u8; PATH]) {
     show::flag(matches(lines, steps, slot));
-    show::flag(admits(lines, row_at(steps, STEP, 0), key_at(slot, 0)));
 }
 
 fn match_of(p: &[u8], k: &[u8]) {

@@ -48,12 +48,12 @@ lines-over s i h = rows-over bindingIn bindingRow maxBindings s refl i h
 
 module _ (s : Bytes) (i : ℕ) (h : i < maxBindings) (passed : i ≤ length (inUse bindingRow maxBindings s)) where
   pub lines-stop : getD s (i * bindingRow) 0 ≡ 0 → drop i (bindingsIn s) ≡ []
-  lines-stop e = lines-over s i (used-last bindingRow maxBindings s i h passed (byte-empty bindingRow maxBindings s i (omega arith) e))
+  lines-stop e = lines-over s i (used-last bindingRow maxBindings s i h passed refl (byte-empty bindingRow maxBindings s i (omega arith) e))
 
   -- a row that is not empty
   module _ (f : getD s (i * bindingRow) 0 ≡ 0 → ⊥) where
     pub line-more : i < length (inUse bindingRow maxBindings s)
-    line-more = used-more bindingRow maxBindings s i h passed (byte-full bindingRow maxBindings s i (omega arith) f)
+    line-more = used-more bindingRow maxBindings s i h passed refl (byte-full bindingRow maxBindings s i (omega arith) f)
 
     line-next : drop i (bindingsIn s) ≡ bindingIn (lineAt s i) ∷ drop (i + 1) (bindingsIn s)
     unfolding bindingsIn
@@ -146,7 +146,7 @@ module _ (row key : Bytes) {k v : Kind} (h : k ≡ kindOf (getD row 0 0)) (e : k
   is-met-told bs = rw (step-told row h e)
 
 -- a step admits a key where the key may be admitted and the lines let it be
-pub admits-parts : (bs : List Binding) (t : Step) (k : Bytes) → admits bs t k ≡ (mayAdmit t k && isMet bs t k)
+admits-parts : (bs : List Binding) (t : Step) (k : Bytes) → admits bs t k ≡ (mayAdmit t k && isMet bs t k)
 unfolding admits mayAdmit isMet
 admits-parts bs (paths.names ns) k = sym (and-true (among k ns))
 admits-parts bs paths.wildcard k = refl
@@ -212,10 +212,6 @@ matches-parts bs (t ∷ ts) (k ∷ ks) =
 -- where it may not match, it does not
 pub matches-not : (bs : List Binding) (ts : Steps) (ks : Keys) → mayMatch ts ks ≡ false → matches bs ts ks ≡ false
 matches-not bs ts ks h = matches-parts bs ts ks ∙ rw h
-
--- where it may match, the lines decide
-pub matches-met : (bs : List Binding) (ts : Steps) (ks : Keys) → mayMatch ts ks ≡ true → matches bs ts ks ≡ paired (isMet bs) ts ks
-matches-met bs ts ks h = matches-parts bs ts ks ∙ rw h
 
 -- where no step asks the lines, a path that may match does
 pub matches-unasked : (bs : List Binding) (ts : Steps) (ks : Keys) → any asks ts ≡ false → mayMatch ts ks ≡ true → matches bs ts ks ≡ true

@@ -130,17 +130,6 @@ fn is_met(lines: &[u8], step: &[u8], key: &[u8]) -> bool
     }
 }
 
-// Whether the step in a row admits the key.
-pub fn admits(lines: &[u8], step: &[u8], key: &[u8]) -> bool
-    requires { ⌜ (bindingsBytes ≤ length (now lines)) × (length (now step) ≡ stepRow) ⌝ }
-    ensures { λ r. ⌜ r ≡ admits (bindingsIn (now (lines .entry))) (stepIn (now (step .entry))) (now (key .entry)) ⌝ }
-{
-    if !may_admit(step, key) {
-        return false;
-    }
-    is_met(lines, step, key)
-}
-
 // Whether the policy path in one slot matches the field's path in the other, given the right environment lines.
 pub fn may_match(steps: &[u8], slot: &[u8]) -> bool
     requires { ⌜ (stepsSlot ≤ length (now steps)) × (pathSlot ≤ length (now slot)) ⌝ }

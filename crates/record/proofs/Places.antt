@@ -98,15 +98,12 @@ module _ (p : Keys) (fs : Fields) (i : ℕ) where
     pub at-path : (z : Field) → getD fs i z .path ≡ p
     at-path z = rw at-place at (at-found .path z)
 
-    pub at-value : (z : Field) → valueAt p fs ≡ some (getD fs i z .value)
-    at-value z = at-found .value z ∙ rw at-place
-
     pub at-put : (v : Value) → put (fieldOf p v) fs ≡ set fs i (fieldOf p v)
     at-put v = at-found .stored v ∙ rw at-place
 
     pub at-holds : holds p fs ≡ true
     unfolding holds isSome
-    at-holds = ap isSome (at-value (fieldOf p (truth false)))
+    at-holds = ap isSome (at-found .value (fieldOf p (truth false)))
 
   module _ (e : placeIn 0 p fs ≡ Before i) where
     before-found : FoundBefore p fs 0 i
@@ -118,12 +115,9 @@ module _ (p : Keys) (fs : Fields) (i : ℕ) where
     pub before-within : i ≤ length fs
     before-within = omega (arith, before-place, before-found .within)
 
-    pub before-value : valueAt p fs ≡ none
-    before-value = before-found .value
-
     pub before-put : (v : Value) → put (fieldOf p v) fs ≡ insertAt i (fieldOf p v) fs
     before-put v = before-found .stored v ∙ rw before-place
 
     pub before-holds : holds p fs ≡ false
     unfolding holds isSome
-    before-holds = ap isSome before-value
+    before-holds = ap isSome (before-found .value)

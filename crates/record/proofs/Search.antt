@@ -29,10 +29,10 @@ module _ (s : Bytes) where
   -- a loop that has passed i slots, all of them in use, by whether the slot at i is empty
   module _ (i : ℕ) {slot : Bytes} (here : slot ≡ take slotBytes (drop (i * slotBytes) s)) (h : i < maxFields) (passed : i ≤ length (fieldsIn s)) where
     pub fields-last : isEmpty slot ≡ true → length (fieldsIn s) ≤ i
-    fields-last e = omega (arith, fields-used, used-last slotBytes maxFields s i h (omega (arith, fields-used)) (ap isEmpty (sym here) ∙ e))
+    fields-last e = omega (arith, fields-used, used-last slotBytes maxFields s i h (omega (arith, fields-used)) here e)
 
     pub fields-more : isEmpty slot ≡ false → i < length (fieldsIn s)
-    fields-more e = omega (arith, fields-used, used-more slotBytes maxFields s i h (omega (arith, fields-used)) (ap isEmpty (sym here) ∙ e))
+    fields-more e = omega (arith, fields-used, used-more slotBytes maxFields s i h (omega (arith, fields-used)) here e)
 
     pub fields-step : isEmpty slot ≡ false → drop i (fieldsIn s) ≡ fieldIn slot ∷ drop (i + 1) (fieldsIn s)
     unfolding fieldsIn
@@ -44,13 +44,8 @@ module _ (s : Bytes) where
     unfolding placeIn fieldIn
     place-step p e q t = rw (fields-step e, order-told (orderPath p (pathIn slot)) q t, add-one)
 
-    -- the path is behind the slot's
-    pub place-passed : (p : Keys) → isEmpty slot ≡ false → orderPath p (pathIn slot) ≡ Ordering·gt
-        → placeIn i p (drop i (fieldsIn s)) ≡ placeIn (i + 1) p (drop (i + 1) (fieldsIn s))
-    unfolding byOrder
-    place-passed p e o = place-step p {v = Greater} e (ap orderOf (sym o)) refl
-
-    -- so a search that has come to the slot goes on behind it
+    -- the path is behind the slot's: a search that has come to the slot goes on behind it
     pub searched-on : (p : Keys) → isEmpty slot ≡ false → orderPath p (pathIn slot) ≡ Ordering·gt → placeIn 0 p (fieldsIn s) ≡ placeIn i p (drop i (fieldsIn s))
         → SearchedTo (i + 1) p (fieldsIn s)
-    searched-on p e o q = (omega (arith, fields-more e), q ∙ place-passed p e o)
+    unfolding byOrder
+    searched-on p e o q = (omega (arith, fields-more e), q ∙ place-step p {v = Greater} e (ap orderOf (sym o)) refl)

@@ -1,7 +1,7 @@
 -- The lines of a policy in memory: what a loop over their rows has left to ask at each.
 use Prim.Native.Nat.{ℕ, suc, _+_, _*_, _-_, _≤_, _<_}
-use mathlib.Core.Path.{_≡_, sym, ap, _∙_}
-use mathlib.Core.Bool.{Bool, true, false, _&&_, _||_}
+use mathlib.Core.Path.{_≡_}
+use mathlib.Core.Bool.{Bool, _&&_, _||_}
 use mathlib.Core.Option.{some}
 use mathlib.Core.List.{[], _∷_}
 use native.Mathlib.Omega.{arith}
@@ -12,17 +12,9 @@ use Rattle.model.specs.Paths.{Steps}
 use Rattle.model.specs.Tables.{Rule}
 use Rattle.model.specs.Rights.{isWrite, conflict, conflictsWith}
 use Rattle.model.specs.Opening.{conflictFrom}
-use Rattle.layout.specs.Layout.{isEmpty, inUse}
+use Rattle.layout.specs.Layout.{inUse}
 use Rattle.tables.specs.Memory.{ruleRow, policyBytes, ruleIn, policyIn}
-use Rattle.layout.proofs.Used.{used-fit, used-last, used-more, row-left, row-more, rows-over}
-
--- a loop that has passed i rows, all of them in use, by whether the row at i is empty
-module _ (s : Bytes) (i : ℕ) (h : i < maxRules) (passed : i ≤ length (inUse ruleRow maxRules s)) {row : Bytes} (is : row ≡ take ruleRow (drop (i * ruleRow) s)) where
-  pub rules-last : isEmpty row ≡ true → length (inUse ruleRow maxRules s) ≤ i
-  rules-last e = used-last ruleRow maxRules s i h passed (ap isEmpty (sym is) ∙ e)
-
-  pub rules-more : isEmpty row ≡ false → i < length (inUse ruleRow maxRules s)
-  rules-more e = used-more ruleRow maxRules s i h passed (ap isEmpty (sym is) ∙ e)
+use Rattle.layout.proofs.Used.{used-fit, row-left, row-more, rows-over}
 
 -- m rows were counted
 module _ (s : Bytes) {m : ℕ} (counted : m ≡ length (inUse ruleRow maxRules s)) (i : ℕ) where

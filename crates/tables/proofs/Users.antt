@@ -1,28 +1,22 @@
 -- The users in memory: the user at an index, and what a search through the rows has left at each.
-use Prim.Native.Nat.{ℕ, zero, suc, _+_, _*_, _≤_, _<_}
+use Prim.Native.Nat.{ℕ, _+_, _*_, _≤_, _<_}
 use mathlib.Core.Path.{_≡_, refl}
 use mathlib.Core.Bool.{Bool}
 use mathlib.Core.Option.{Option, none, some}
-use mathlib.Core.List.{List, [], _∷_}
+use mathlib.Core.List.{[], _∷_}
 use native.Mathlib.Numerals.{add-one}
 use native.Mathlib.Omega.{arith}
-use lib.ListN.{length, getD, getElem?, take, drop}
+use lib.ListN.{length, getD, take, drop}
 use lib.Seq.{take-take}
 use Rattle.layout.specs.Layout.{inUse, table, nameRow, nameIn}
 use Rattle.rows.proofs.Rows.{rows-take}
 use Rattle.rows.proofs.Parts.{part-at}
+use Rattle.rows.proofs.Positions.{elem-left}
 use Rattle.model.specs.Base.{Bytes, if_then_else_, firstFrom, _==_}
 use Rattle.model.specs.Limits.{maxUsers}
 use Rattle.model.specs.Tables.{User, userAt}
 use Rattle.tables.specs.Memory.{userRow, usersBytes, quotaAt, userIn, usersIn}
 use Rattle.layout.proofs.Used.{length-table, used-fit, used-last, used-more, byte-empty, byte-full, row-left, rows-over}
-
--- the element at an index is the first of what is left there
-elem-left : {A : Type 0} (xs : List A) (i : ℕ) → getElem? xs i ≡ getElem? (drop i xs) 0
-elem-left [] zero = refl
-elem-left [] (suc i) = refl
-elem-left (x ∷ xs) zero = refl
-elem-left (x ∷ xs) (suc i) = elem-left xs i
 
 -- the first bytes of the tables are the users'
 pub users-first : (s : Bytes) → usersIn (take usersBytes s) ≡ usersIn s
@@ -67,12 +61,12 @@ module _ (n s : Bytes) (i : ℕ) where
 
   module _ (below : i < maxUsers) (passed : i ≤ length (inUse userRow maxUsers s)) where
     pub named-stop : getD s (i * userRow) 0 ≡ 0 → namedFrom n s i ≡ none
-    named-stop e = named-over (used-last userRow maxUsers s i below passed (byte-empty userRow maxUsers s i (omega arith) e))
+    named-stop e = named-over (used-last userRow maxUsers s i below passed refl (byte-empty userRow maxUsers s i (omega arith) e))
 
     -- the row is in use
     module _ (f : getD s (i * userRow) 0 ≡ 0 → ⊥) where
       pub named-more : i < length (inUse userRow maxUsers s)
-      named-more = used-more userRow maxUsers s i below passed (byte-full userRow maxUsers s i (omega arith) f)
+      named-more = used-more userRow maxUsers s i below passed refl (byte-full userRow maxUsers s i (omega arith) f)
 
       -- its name was compared with n: it is the one, or the search goes on
       pub named-next : {name : Bytes} {r : Bool} → name ≡ nameIn (take nameRow (drop (i * userRow) s)) → r ≡ (name == n)

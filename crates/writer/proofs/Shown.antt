@@ -55,11 +55,10 @@ slotsFrom j s = drop j (inUse slotBytes maxFields s)
 -- a loop has passed j slots, all of them in use, and the slot at j is
 module _ (s : Bytes) (j : ℕ) (h : j < maxFields) (passed : j ≤ length (inUse slotBytes maxFields s))
     {slot : Bytes} (at : slot ≡ take slotBytes (drop (j * slotBytes) s)) (e : isEmpty slot ≡ false) where
-  pub slot-more : j < length (inUse slotBytes maxFields s)
-  slot-more = used-more slotBytes maxFields s j h passed (ap isEmpty (sym at) ∙ e)
-
   slot-left : slotsFrom j s ≡ slot ∷ slotsFrom (j + 1) s
-  slot-left = here [] (inUse slotBytes maxFields s) j slot-more ∙ rw (used-at slotBytes maxFields s j [] slot-more, at)
+  slot-left =
+      let more = used-more slotBytes maxFields s j h passed at e in
+      here [] (inUse slotBytes maxFields s) j more ∙ rw (used-at slotBytes maxFields s j [] more, at)
 
 -- ── The place of the first of them that is shown ──
 module _ (s : Bytes) (v : Shown) (j : ℕ) where
@@ -69,7 +68,7 @@ module _ (s : Bytes) (v : Shown) (j : ℕ) where
 
   module _ (h : j < maxFields) (passed : j ≤ length (inUse slotBytes maxFields s)) {slot : Bytes} (at : slot ≡ take slotBytes (drop (j * slotBytes) s)) where
     pub shown-stop : isEmpty slot ≡ true → shownFrom v j (slotsFrom j s) ≡ maxFields
-    shown-stop e = shown-over (used-last slotBytes maxFields s j h passed (ap isEmpty (sym at) ∙ e))
+    shown-stop e = shown-over (used-last slotBytes maxFields s j h passed at e)
 
     module _ (e : isEmpty slot ≡ false) where
       pub shown-step : isShown v slot ≡ false → shownFrom v j (slotsFrom j s) ≡ shownFrom v (j + 1) (slotsFrom (j + 1) s)

@@ -1,5 +1,6 @@
 -- The first rows are known to be in use, and each turn counts one more; the count ends at an empty row or behind the last.
 use borrow.Author.Needs.{needs}
+use mathlib.Core.Path.{refl}
 use Prim.Native.Nat.{_-_, _≤_}
 use native.Mathlib.Nat.{mul-lt-mul-of-pos-right}
 use native.Mathlib.Omega.{arith}
@@ -29,7 +30,7 @@ returns c =
     let l = c .before .before .before .loop in
     let s = c .before .before .before .before in
     let a = s .args in
-    omega (arith, used-last (a .size) (a .most) (a .t .now) (l .i) (search needs) (l .inv .1) (byte-empty (a .size) (a .most) (a .t .now) (l .i) (s .pre .0 .0) (c .if1 .taken)))
+    omega (arith, used-last (a .size) (a .most) (a .t .now) (l .i) (search needs) (l .inv .1) refl (byte-empty (a .size) (a .most) (a .t .now) (l .i) (s .pre .0 .0) (c .if1 .taken)))
 
 add-i : tie.Need-add-i Inv-loop μ-loop
 add-i c = search needs
@@ -42,7 +43,7 @@ loop-again c =
     let l = c .before .before .before .loop in
     let s = c .before .before .before .before in
     let a = s .args in
-    let more = used-more (a .size) (a .most) (a .t .now) (l .i) (search needs) (l .inv .1) (byte-full (a .size) (a .most) (a .t .now) (l .i) (s .pre .0 .0) (c .if1 .left)) in
+    let more = used-more (a .size) (a .most) (a .t .now) (l .i) (search needs) (l .inv .1) refl (byte-full (a .size) (a .most) (a .t .now) (l .i) (s .pre .0 .0) (c .if1 .left)) in
     (search needs, omega arith)
 
 returns-2 : tie.Need-returns-2 Inv-loop μ-loop

@@ -10,7 +10,7 @@ use Rattle.paths.specs.Layout.{pathIn}
 use Rattle.steps.specs.Steps.{stepsIn}
 use Rattle.steps.specs.Environments.{bindingsIn}
 use Rattle.matching.specs.Parts.{isMet, paired, mayMatch}
-use Rattle.matching.proofs.Matched.{paired-counts, paired-step, paired-end, matches-met}
+use Rattle.matching.proofs.Matched.{paired-counts, paired-step, paired-end, matches-parts}
 use Rattle.matching.proofs.path.lines_match.Statement.{statement}
 use Rattle.matching.proofs.path.lines_match.Tie as tie
 
@@ -29,7 +29,7 @@ loop-holds : tie.Need-loop-holds Inv-loop μ-loop
 unfolding mayMatch
 loop-holds c =
     let may = c .before .before .before .before .pre .1 in
-    (search needs, matches-met _ _ _ may, c .count .ensures ∙ sym (paired-counts _ _ _ may))
+    (search needs, matches-parts _ _ _ ∙ rw may, c .count .ensures ∙ sym (paired-counts _ _ _ may))
 
 row-at-requires : tie.Need-row-at-requires Inv-loop μ-loop
 row-at-requires c κs = search needs

@@ -2,10 +2,9 @@
 use native.Mathlib.Omega.{arith}
 use Prim.Native.Nat.{_+_, _*_, _≤_}
 use lib.ListN.{length, length-take, length-drop}
-use mathlib.Core.Path.{refl}
 use Rattle.model.specs.Limits.{maxFields}
 use Rattle.layout.specs.Layout.{Holds}
-use Rattle.layout.proofs.Changed.{moved-room, used-inserted, bytes-inserted}
+use Rattle.layout.proofs.Changed.{moved-room, inserted-used, bytes-inserted}
 use Rattle.record.specs.Slots.{slotBytes}
 use borrow.Author.Needs.{needs}
 use Rattle.record.proofs.insert.insert_slot.Statement.{statement}
@@ -21,7 +20,7 @@ room c =
     let s = c .before .before .before .before in
     let a = s .args in
     let p = s .pre .0 in
-    moved-room slotBytes maxFields (a .i) (a .slot .now) (a .table .now) (holds s) (p .1) (p .2) (s .pre .1 .0) (s .pre .1 .1) _ (c .moved-end .result) (c .moved-end .ensures) refl
+    rw (c .moved-end .ensures) (moved-room slotBytes maxFields (a .i) (a .slot .now) (a .table .now) (holds s) (p .1) (p .2) (s .pre .1 .0) (s .pre .1 .1))
 
 mul-start : tie.Need-mul-start
 mul-start c = search needs
@@ -53,10 +52,8 @@ returns c =
     let s = m .before .before .before .before in
     let a = s .args in
     let p = s .pre .0 in
-    let e = m .moved-end .result in (
-      used-inserted slotBytes maxFields (a .i) (a .slot .now) (a .table .now) (holds s) (p .1) (p .2) (s .pre .1 .0) (s .pre .1 .1) _ e (m .moved-end .ensures) refl _ (put .put-before .ensures),
-      bytes-inserted slotBytes maxFields (a .i) (a .slot .now) (a .table .now) (holds s) (p .1) (p .2) (s .pre .1 .0) (s .pre .1 .1) _ e (m .moved-end .ensures) refl _ (put .put-before .ensures),
-    )
+    let is = bytes-inserted slotBytes maxFields (a .i) (a .slot .now) (a .table .now) (holds s) (p .1) (p .2) (s .pre .1 .0) (s .pre .1 .1) (m .moved-end .ensures) (put .put-before .ensures) in
+    (rw is (inserted-used slotBytes maxFields (a .i) (a .slot .now) (a .table .now) (holds s) (p .1) (p .2) (s .pre .1 .0) (s .pre .1 .1)), is)
 
 pub insert-slot-spec : {M : Type 1} → statement M
 insert-slot-spec =

@@ -5,14 +5,14 @@ use native.Mathlib.Omega.{arith}
 use lib.ListN.{length, drop}
 use borrow.Author.Needs.{needs}
 use Rattle.layout.specs.Layout.{inUse}
-use Rattle.layout.proofs.Used.{used-fit}
+use Rattle.layout.proofs.Used.{used-fit, used-last, used-more}
 use Rattle.model.specs.Base.{any}
 use Rattle.model.specs.Limits.{maxRules}
 use Rattle.model.specs.Rights.{mayWrite}
 use Rattle.paths.specs.Layout.{pathIn}
 use Rattle.tables.specs.Memory.{ruleRow, userIn, policyIn}
 use Rattle.tables.specs.Grants.{givesWrite}
-use Rattle.tables.proofs.Policy.{rules-last, rules-more, any-rule, rules-over}
+use Rattle.tables.proofs.Policy.{any-rule, rules-over}
 use Rattle.tables.proofs.rights.may_write.Statement.{statement}
 use Rattle.tables.proofs.rights.may_write.Tie as tie
 
@@ -38,7 +38,7 @@ unfolding any
 returns c =
     let k = c .before .before in
     let l = k .before .before .loop in
-    let last = rules-last _ (l .i) (search needs) (l .inv .0) (k .row-at .ensures .0) (sym (c .before .is-empty .ensures) ∙ c .if1 .taken) in
+    let last = used-last ruleRow maxRules _ (l .i) (search needs) (l .inv .0) (k .row-at .ensures .0) (sym (c .before .is-empty .ensures) ∙ c .if1 .taken) in
     sym (l .inv .1 ∙ rw (rules-over _ refl (l .i) last))
 
 gives-write-requires : tie.Need-gives-write-requires Inv-loop μ-loop
@@ -48,7 +48,7 @@ returns-2 : tie.Need-returns-2 Inv-loop μ-loop
 returns-2 c =
     let k = c .before .before .before .before in
     let l = k .before .before .loop in
-    let more = rules-more _ (l .i) (search needs) (l .inv .0) (k .row-at .ensures .0) (sym (c .before .before .before .is-empty .ensures) ∙ c .before .before .if1 .left) in
+    let more = used-more ruleRow maxRules _ (l .i) (search needs) (l .inv .0) (k .row-at .ensures .0) (sym (c .before .before .before .is-empty .ensures) ∙ c .before .before .if1 .left) in
     sym (l .inv .1 ∙ any-rule _ refl (l .i) more (k .row-at .ensures .0) _ (c .before .gives-write .ensures) ∙ rw (c .if2 .taken))
 
 add-i : tie.Need-add-i Inv-loop μ-loop
@@ -61,7 +61,7 @@ loop-again : tie.Need-loop-again Inv-loop μ-loop
 loop-again c =
     let k = c .before .before .before .before in
     let l = k .before .before .loop in
-    let more = rules-more _ (l .i) (search needs) (l .inv .0) (k .row-at .ensures .0) (sym (c .before .before .before .is-empty .ensures) ∙ c .before .before .if1 .left) in
+    let more = used-more ruleRow maxRules _ (l .i) (search needs) (l .inv .0) (k .row-at .ensures .0) (sym (c .before .before .before .is-empty .ensures) ∙ c .before .before .if1 .left) in
     (omega arith, l .inv .1 ∙ any-rule _ refl (l .i) more (k .row-at .ensures .0) _ (c .before .gives-write .ensures) ∙ rw (c .if2 .left))
 
 returns-3 : tie.Need-returns-3 Inv-loop μ-loop

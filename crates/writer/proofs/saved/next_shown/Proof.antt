@@ -5,11 +5,11 @@ use borrow.Author.Needs.{needs}
 use native.Mathlib.Omega.{arith}
 use lib.ListN.{length}
 use Rattle.layout.specs.Layout.{inUse}
-use Rattle.layout.proofs.Used.{used-fit}
+use Rattle.layout.proofs.Used.{used-fit, used-more}
 use Rattle.record.specs.Slots.{slotBytes}
 use Rattle.model.specs.Limits.{maxFields}
 use Rattle.writer.specs.Selected.{shownFrom}
-use Rattle.writer.proofs.Shown.{slotsFrom, slot-more, shown-over, shown-stop, shown-step, shown-here}
+use Rattle.writer.proofs.Shown.{slotsFrom, shown-over, shown-stop, shown-step, shown-here}
 use Rattle.writer.proofs.saved.next_shown.Statement.{statement}
 use Rattle.writer.proofs.saved.next_shown.Tie as tie
 
@@ -57,7 +57,7 @@ loop-again c =
     let slot = t .before .before .slot-at .ensures .0 in
     let full = sym (t .before .is-empty .ensures) ∙ t .if1 .left in
     let step = shown-step _ _ (l .j) (search needs) (l .inv .0) slot full (sym (c .before .is-shown .ensures) ∙ c .if2 .left) in
-    (omega (arith, slot-more _ (l .j) (search needs) (l .inv .0) slot full), l .inv .1 ∙ step)
+    (omega (arith, used-more slotBytes maxFields _ (l .j) (search needs) (l .inv .0) slot full), l .inv .1 ∙ step)
 
 returns-3 : tie.Need-returns-3 Inv-loop μ-loop
 returns-3 c =
