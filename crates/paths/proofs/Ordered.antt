@@ -1,8 +1,7 @@
 -- The order of two slots' paths from the key i on: a path that ends first is before the other, else the two keys decide, or what stands behind them.
-use Prim.Native.Nat.{ℕ, _+_, _*_, _≤_, _<_, min, Ordering·lt, Ordering·eq, Ordering·gt}
+use Prim.Native.Nat.{ℕ, _+_, _*_, _<_, min, Ordering·gt}
 use mathlib.Core.Path.{_≡_, refl, sym, ap}
 use mathlib.Core.Bool.{true, false}
-use mathlib.Core.List.{[]}
 use native.Mathlib.Omega.{arith}
 use borrow.Author.Tests.{eqb-false}
 use lib.ListN.{getD, take, drop}
@@ -12,24 +11,12 @@ use Rattle.model.specs.Fields.{andThen, lex, orderKey, orderPath}
 use Rattle.lexical.specs.Orders.{orderOf, isGreater}
 use Rattle.lexical.specs.declared.slice.Order.{Order}
 use Rattle.lexical.specs.declared.slice.Order.the-variants.{Greater}
-use Rattle.lexical.proofs.Slices.{lex-shorter, lex-longer, lex-end, orderIn, order-told, behind-order}
+use Rattle.lexical.proofs.Slices.{orderIn, order-told, behind-order}
 use Rattle.paths.specs.Layout.{pathIn}
 use Rattle.layout.specs.Layout.{keyRow, nameIn, isEmpty}
-use Rattle.layout.proofs.Counts.{length-counted, counted-step}
+use Rattle.layout.proofs.Counts.{counted-step}
 
 module _ (a b : Bytes) (i : ℕ) where
-  pub paths-shorter : min (getD a 0 0) maxDepth ≤ i → i < min (getD b 0 0) maxDepth → lex orderKey (drop i (pathIn a)) (drop i (pathIn b)) ≡ Ordering·lt
-  unfolding pathIn
-  paths-shorter p q = lex-shorter orderKey [] _ _ i (rw length-counted p) (rw length-counted q)
-
-  pub paths-longer : i < min (getD a 0 0) maxDepth → min (getD b 0 0) maxDepth ≤ i → lex orderKey (drop i (pathIn a)) (drop i (pathIn b)) ≡ Ordering·gt
-  unfolding pathIn
-  paths-longer p q = lex-longer orderKey [] _ _ i (rw length-counted p) (rw length-counted q)
-
-  pub paths-end : min (getD a 0 0) maxDepth ≤ i → min (getD b 0 0) maxDepth ≤ i → lex orderKey (drop i (pathIn a)) (drop i (pathIn b)) ≡ Ordering·eq
-  unfolding pathIn
-  paths-end p q = lex-end orderKey [] _ _ i (rw length-counted p) (rw length-counted q)
-
   -- x and y are the keys at i, and the answer r of their comparison was matched with v
   pub paths-step : {x y : Bytes} {r v : Order} → i < min (getD a 0 0) maxDepth → i < min (getD b 0 0) maxDepth
       → x ≡ nameIn (take keyRow (drop (i * keyRow + 1) a)) → y ≡ nameIn (take keyRow (drop (i * keyRow + 1) b)) → r ≡ orderOf (orderKey x y) → r ≡ v

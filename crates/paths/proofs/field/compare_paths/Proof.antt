@@ -1,14 +1,16 @@
 -- The first two keys that differ decide, or the path that ends first; each turn leaves the order of what stands behind two equal keys.
 use Prim.Native.Nat.{_+_, _-_, _≤_}
 use mathlib.Core.Path.{_≡_, sym, ap, _∙_}
+use mathlib.Core.List.{[]}
 use borrow.Author.Needs.{needs}
 use lib.ListN.{drop}
 use Rattle.model.specs.Fields.{andThen, lex, orderKey, orderPath}
 use Rattle.lexical.specs.Orders.{orderOf}
 use Rattle.lexical.specs.declared.slice.Order.{Order}
-use Rattle.lexical.proofs.Slices.{orderIn}
+use Rattle.lexical.proofs.Slices.{orderIn, lex-shorter, lex-longer, lex-end}
+use Rattle.layout.proofs.Counts.{length-counted}
 use Rattle.paths.specs.Layout.{pathIn}
-use Rattle.paths.proofs.Ordered.{paths-step, paths-shorter, paths-longer, paths-end}
+use Rattle.paths.proofs.Ordered.{paths-step}
 use Rattle.paths.proofs.field.compare_paths.Statement.{statement}
 use Rattle.paths.proofs.field.compare_paths.Tie as tie
 
@@ -39,9 +41,10 @@ unfolding orderPath
 loop-holds c = search needs
 
 returns : tie.Need-returns Inv-loop μ-loop
+unfolding pathIn
 returns c =
     let l = c .before .before .loop in
-    sym (ap orderOf (l .inv .1 ∙ paths-longer _ _ (l .i) (search needs) (search needs)))
+    sym (ap orderOf (l .inv .1 ∙ lex-longer orderKey [] _ _ (l .i) (rw length-counted (search needs)) (rw length-counted (search needs))))
 
 key-at-requires : tie.Need-key-at-requires Inv-loop μ-loop
 key-at-requires c κs = search needs
@@ -80,14 +83,16 @@ unfolding andThen
 loop-again c = (search needs, turn (c .before .before) (c .enum-told3 .given .1))
 
 returns-4 : tie.Need-returns-4 Inv-loop μ-loop
+unfolding pathIn
 returns-4 c =
     let l = c .before .before .loop in
-    sym (ap orderOf (l .inv .1 ∙ paths-shorter _ _ (l .i) (search needs) (search needs)))
+    sym (ap orderOf (l .inv .1 ∙ lex-shorter orderKey [] _ _ (l .i) (rw length-counted (search needs)) (rw length-counted (search needs))))
 
 returns-5 : tie.Need-returns-5 Inv-loop μ-loop
+unfolding pathIn
 returns-5 c =
     let l = c .before .before .loop in
-    sym (ap orderOf (l .inv .1 ∙ paths-end _ _ (l .i) (search needs) (search needs)))
+    sym (ap orderOf (l .inv .1 ∙ lex-end orderKey [] _ _ (l .i) (rw length-counted (search needs)) (rw length-counted (search needs))))
 
 pub compare-paths-spec : {M : Type 1} → statement M
 compare-paths-spec =
