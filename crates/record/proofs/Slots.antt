@@ -24,11 +24,11 @@ use Rattle.values.specs.declared.value.ValueAt.{ValueAt}
 use Rattle.values.specs.declared.value.ValueAt.the-variants.{Bad}
 use Rattle.values.specs.Scalars as scalars
 use Rattle.values.proofs.Values.{value-bad}
-use Rattle.masks.specs.Bits.{encodeMask}
+use Rattle.masks.specs.Bits.{maskBytes, encodeMask}
 use Rattle.masks.proofs.Bits.{mask-long, mask-back}
 use Rattle.paths.specs.Layout.{pathSlot, pathIn}
 use Rattle.layout.specs.Layout.{keyRow, nameIn, isEmpty, encodeName}
-use Rattle.record.specs.Slots.{valueRoom, lengthAt, slotBytes, textIn, valueOr, valueIn, heldText, heldValue, fieldIn, maskIn, fieldsIn, fieldAt, encodeField, CanonicalField, slotOf, Proper}
+use Rattle.record.specs.Slots.{valueRoom, lengthAt, slotBytes, textIn, valueOr, valueIn, heldText, heldValue, fieldIn, maskIn, fieldsIn, fieldAt, encodeField, CanonicalField, withMask, slotOf, Proper}
 use Rattle.record.specs.Search.{storedIn, storedAt}
 
 -- ── The value's text, and the value ──
@@ -161,19 +161,16 @@ module _ (p : Bytes) (m : ℕ) (v : Value) where
     slot-canonical l h = slot-encoded ∙ rw (slot-field l, slot-mask l h, held-valid v (proper .1))
 
 -- ── A slot s of zeros that is filled with the path p, the mask m and the value v ──
-pub record Filled (s p : Bytes) (m : ℕ) (v : Value) (out : Bytes) : Type 0 where
-  pub is : out ≡ slotOf p m v
-  pub long : length out ≡ length s
-
--- the path and the mask are written, which gives q; the room for a text comes back as ys, with v's text up to e; n, which says its length, stands before it
+-- the path is copied, which gives t, and the mask put, which gives q; the room for a text comes back as ys, with v's text up to e; n, which says its length, stands before it
 module _
-    (s p q ys : Bytes)
+    (s p t q ys : Bytes)
     (m : ℕ)
     (v : Value)
-    (to e n : ℕ)
+    (e n : ℕ)
     (clean : s ≡ zeros slotBytes)
     (l : length p ≡ pathSlot)
-    (begun : Wrote 0 (head p m) s to q)
+    (copied : t ≡ p ++ drop (length p) s)
+    (masked : q ≡ withMask m t)
     (put : Wrote 0 (valueText v) (take (length q - (1 + lengthAt)) (drop (1 + lengthAt) q)) e ys)
     (byte : n ≡ min e valueRoom)
   where
@@ -185,10 +182,12 @@ module _
     start-long = rw length-append (omega (arith, head-long p m l))
 
     begun-is : q ≡ start ++ zeros valueRoom
+    unfolding withMask
     begun-is =
-        let h = head p m in
-        let all : take (length s - 0) h ≡ h = take-all (length s - 0) h (omega (arith, head-long p m l, ap length clean, length-replicate {A = ℕ} slotBytes 0)) in
-        begun .1 ∙ rw (written-clipped 0 h s, all, zero-add, clean, head-long p m l, drop-zeros lengthAt slotBytes, append-assoc h)
+        let later = drop (length p) s in
+        let none : later ≡ zeros (slotBytes - pathSlot) = rw (clean, l) (drop-zeros pathSlot slotBytes) in
+        let behind = sym (drop-drop maskBytes pathSlot (p ++ later)) ∙ ap (drop maskBytes) (drop-at p later pathSlot l ∙ none) in
+        masked ∙ rw (copied, take-at p later pathSlot l, behind, append-assoc (head p m))
 
     room-is : take (length q - (1 + lengthAt)) (drop (1 + lengthAt) q) ≡ zeros valueRoom
     room-is = tail-part (1 + lengthAt) q ∙ rw (begun-is, drop-at start (zeros valueRoom) (1 + lengthAt) start-long)
@@ -199,13 +198,10 @@ module _
     abbrev out : Bytes
     out = set (replaced (1 + lengthAt) (length q - (1 + lengthAt)) ys q) lengthAt n
 
-    out-is : out ≡ slotOf p m v
+    pub filled : out ≡ slotOf p m v
     unfolding slotOf encodeName
-    out-is =
+    filled =
         let says : n ≡ length (heldText v) = rw length-take (omega (arith, put .0)) in
         let rest : 1 + valueRoom - suc (length (heldText v)) ≡ valueRoom - length (valueText v) = rw length-take (omega arith) in
         rw (tail-replaced (1 + lengthAt) q ys, begun-is, take-at start (zeros valueRoom) (1 + lengthAt) start-long)
         (rw (append-assoc (head p m) (0 ∷ []) ys, set-at (head p m) 0 ys n lengthAt (head-long p m l), text-is, says, rest))
-
-    pub filled : Filled s p m v out
-    filled = record { is = out-is; long = ap length out-is ∙ slot-long p m v l ∙ sym (ap length clean) }

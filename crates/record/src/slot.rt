@@ -7,6 +7,7 @@ use crate::table::TEXT;
 use crate::table::VALUE_ROOM;
 use crate::table::store;
 use crate::table::store_at;
+use buffers::copy;
 use buffers::put;
 use layout::counted::count;
 use masks::decode_mask;
@@ -87,9 +88,8 @@ fn fill(slot: &mut [u8], path: &[u8], mask: u32, v: Scalar, text: &[u8])
     requires { ⌜ (now slot ≡ replicate slotBytes 0) × (length (now path) ≡ pathSlot) × (length (now text) ≤ maxText) × scalars.InText v (now text) ⌝ }
     ensures { λ _. ⌜ now (slot .exit) ≡ slotOf (now (path .entry)) mask (scalars.valueIn (now (text .entry)) v) ⌝ }
 {
-    let bytes = encode_mask(mask);
-    let to = put(slot, 0, &path[0..PATH]);
-    put(slot, to, &bytes);
+    copy(slot, &path[0..PATH]);
+    put_mask(slot, mask);
     let n = put_value(&mut slot[TEXT..], 0, v, text);
     slot[LENGTH] = length_byte(n);
 }

@@ -1,15 +1,11 @@
--- The path and the mask are written, then the value's text behind the byte that says its length, as far as there is room for it.
-use mathlib.Core.Path.{_≡_, ap}
-use mathlib.Core.List.{_++_}
+-- The path is copied and the mask put, then the value's text is written behind the byte that says its length, as far as there is room for it.
+use mathlib.Core.Path.{_≡_, sym, ap, _∙_}
 use native.Mathlib.Omega.{arith}
 use lib.ListN.{length, take}
 use lib.Seq.{take-all}
-use Rattle.rows.specs.Rows.{Wrote}
-use Rattle.buffers.proofs.Writers.{wrote-both}
-use Rattle.masks.specs.Bits.{encodeMask}
 use Rattle.paths.specs.Layout.{pathSlot}
 use Rattle.record.specs.Slots.{slotBytes}
-use Rattle.record.proofs.Slots.{filled}
+use Rattle.record.proofs.Slots.{slot-long, filled}
 use borrow.Author.Needs.{needs}
 use Rattle.record.proofs.slot.fill.Statement.{statement}
 use Rattle.record.proofs.slot.fill.Tie as tie
@@ -22,42 +18,26 @@ long s = ap length (s .pre .0)
 whole : (s : tie.Start) → take pathSlot (s .args .path .now) ≡ s .args .path .now
 whole s = take-all pathSlot (s .args .path .now) (omega (arith, s .pre .1))
 
--- what stands before the value
-begun : (c : tie.After-put2)
-    → let s = c .before .before .before .before .before .before .before .before .before .before .before .before in
-    Wrote 0 (s .args .path .now ++ encodeMask (s .args .mask)) (s .args .slot .now) (c .put2 .result) (c .put2 .last .0)
-begun c =
-    let first = c .before .before .before .before .before in
-    let mask = first .before .before .before in
-    let s = mask .before .before .before .before in
-    wrote-both 0 _ _ (s .args .path .now) (encodeMask (s .args .mask)) _ _ _ (rw (whole s) at (first .put .ensures)) (rw (mask .encode-mask .ensures) at (c .put2 .ensures))
+sub-copy : tie.Need-sub-copy
+sub-copy c = search needs
 
-encode-mask-requires : tie.Need-encode-mask-requires
-encode-mask-requires c κs = search needs
+part-copy-start : tie.Need-part-copy-start
+part-copy-start c = search needs
 
-sub-put : tie.Need-sub-put
-sub-put c = search needs
+part-copy-end : tie.Need-part-copy-end
+part-copy-end c = search needs
 
-part-put-start : tie.Need-part-put-start
-part-put-start c = search needs
+copy-requires : tie.Need-copy-requires
+copy-requires c κs = let l = long (c .before .before .before .before .before) in search needs
 
-part-put-end : tie.Need-part-put-end
-part-put-end c = search needs
-
-put-requires : tie.Need-put-requires
-put-requires c κs = search needs
-
-slice-aggregate-put : tie.Need-slice-aggregate-put
-slice-aggregate-put c = search needs
-
-put-requires-2 : tie.Need-put-requires-2
-put-requires-2 c κs = search needs
+put-mask-requires : tie.Need-put-mask-requires
+put-mask-requires c κs = let l = long (c .before .before .before .before .before .before .before .before .before) in search needs
 
 sub-put-value : tie.Need-sub-put-value
-sub-put-value c = omega (arith, long (c .before .before .before .before .before .before .before .before .before .before .before .before .before .before))
+sub-put-value c = omega (arith, long (c .before .before .before .before .before .before .before .before .before .before .before .before))
 
 part-put-value-start : tie.Need-part-put-value-start
-part-put-value-start c = let l = long (c .before .before .before .before .before .before .before .before .before .before .before .before .before .before) in search needs
+part-put-value-start c = let l = long (c .before .before .before .before .before .before .before .before .before .before .before .before) in search needs
 
 part-put-value-end : tie.Need-part-put-value-end
 part-put-value-end c = search needs
@@ -69,33 +49,28 @@ length-byte-requires : tie.Need-length-byte-requires
 length-byte-requires c κs = search needs
 
 slice-write-slot : tie.Need-slice-write-slot
-slice-write-slot c = let l = long (c .before .before .before .before .before .before .before .before .before .before .before .before .before .before .before .before .before .before .before) in search needs
-
-same-length : tie.Need-same-length
-same-length c =
-    let text = c .before .before .before in
-    let head = text .before .before .before .before in
-    let s = head .before .before .before .before .before .before .before .before .before .before .before .before in
-    filled _ (s .args .path .now) _ _ (s .args .mask) _ _ _ _ (s .pre .0) (s .pre .1) (begun head) (text .put-value .ensures) (c .length-byte .ensures) .long
+slice-write-slot c = let l = long (c .before .before .before .before .before .before .before .before .before .before .before .before .before .before .before .before .before) in search needs
 
 returns : tie.Need-returns
 returns c =
     let text = c .before .before .before in
-    let head = text .before .before .before .before in
-    let s = head .before .before .before .before .before .before .before .before .before .before .before .before in
-    filled _ (s .args .path .now) _ _ (s .args .mask) _ _ _ _ (s .pre .0) (s .pre .1) (begun head) (text .put-value .ensures) (c .length-byte .ensures) .is
+    let mask = text .before .before .before .before in
+    let path = mask .before .before .before .before in
+    let s = path .before .before .before .before .before .before in
+    filled _ (s .args .path .now) _ _ _ (s .args .mask) _ _ _ (s .pre .0) (s .pre .1) (rw (whole s) at (path .copy .ensures)) (mask .put-mask .ensures) (text .put-value .ensures) (c .length-byte .ensures)
+
+same-length : tie.Need-same-length
+same-length c = let s = c .before .before .before .before .before .before .before .before .before .before .before .before .before .before .before .before .before in ap length (returns c) ∙ slot-long _ _ _ (s .pre .1) ∙ sym (long s)
 
 pub fill-spec : {M : Type 1} → statement M
 fill-spec =
     tie.close
     (tie.spec
-    encode-mask-requires
-    sub-put
-    part-put-start
-    part-put-end
-    put-requires
-    slice-aggregate-put
-    put-requires-2
+    sub-copy
+    part-copy-start
+    part-copy-end
+    copy-requires
+    put-mask-requires
     sub-put-value
     part-put-value-start
     part-put-value-end
