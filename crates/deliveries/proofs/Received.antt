@@ -2,28 +2,26 @@
 use Prim.Native.Nat.{ℕ, zero, suc, _+_, _-_, _/_, _^_, _≤_, _<_}
 use mathlib.Core.Path.{_≡_, refl, sym, ap, _∙_}
 use mathlib.Core.Bool.{Bool, true, false, not, _&&_, and-false}
-use mathlib.Core.Option.{none}
-use mathlib.Core.List.{List, [], _∷_, map}
+use mathlib.Core.List.{List, _∷_, map}
 use native.Mathlib.Nat.{zero-add}
 use native.Mathlib.Numerals.{add-one}
 use native.Mathlib.Omega.{arith}
 use borrow.Author.Tests.{eqb-true}
 use lib.Dec.{eqb}
-use lib.ListN.{length, getD, getElem?, set, length-map}
+use lib.ListN.{length, getD, set, length-map}
 use lib.Seq.{sets-eq}
 use Rattle.rows.specs.Rows.{written}
 use Rattle.rows.proofs.Writing.{written-none, written-cons}
 use Rattle.model.specs.Base.{keep, range}
 use Rattle.model.specs.Limits.{maxUsers}
 use Rattle.model.specs.Fields.{Keys}
-use Rattle.model.specs.Tables.{Tables, userAt}
 use Rattle.model.specs.Opening.{LoginState, State, emptyLogin}
-use Rattle.model.specs.Serving.{sessionNumber, loginAt, readsBy, readsAt, receivers, over}
-use Rattle.model.proofs.Lists.{by-cases, keep-yes, keep-no, keep-none, all-range}
+use Rattle.model.specs.Serving.{sessionNumber, loginAt, readsAt, receivers, over}
+use Rattle.model.proofs.Lists.{keep-yes, keep-no, keep-none, length-keep-le, all-range}
 use Rattle.masks.specs.Bits.{noneFrom}
 use Rattle.masks.specs.Readers.{readersOf}
 use Rattle.masks.proofs.Bits.{none-set}
-use Rattle.masks.proofs.Readers.{reads-bit}
+use Rattle.masks.proofs.Readers.{reads-past, reads-bit}
 use Rattle.sessions.specs.Logins.{loginsIn}
 use Rattle.deliveries.specs.Receivers.{receives, receiversOf, Listed}
 
@@ -40,16 +38,6 @@ kept-same f g k (suc n) (suc m) h same past =
     let rest = kept-same f g (suc k) n m (omega arith) (λ j l. same j (omega arith)) (λ j l. past j (omega arith)) in
     rw (same k (omega arith), rest)
 
-elem-past : {A : Type 0} (xs : List A) (j : ℕ) → length xs ≤ j → getElem? xs j ≡ none
-elem-past [] j h = refl
-elem-past (x ∷ xs) zero h = absurd (omega arith)
-elem-past (x ∷ xs) (suc j) h = elem-past xs j (omega arith)
-
--- where there is no user, nobody reads
-reads-past : (t : Tables) (p : Keys) (j : ℕ) → length (t .users) ≤ j → readsAt t j p ≡ false
-unfolding readsAt readsBy userAt
-reads-past t p j h = rw (elem-past (t .users) j h)
-
 pub receivers-of : (s : State) → length (s .tables .users) ≤ maxUsers → (i : ℕ) (p : Keys)
     → receiversOf (s .loginStates) i (readersOf (s .tables) p) ≡ receivers s i p
 unfolding receivers receiversOf receives loginAt
@@ -61,15 +49,9 @@ receivers-of s few i p =
     (λ j h. rw (reads-past (s .tables) p j (omega arith), and-false)))
 
 -- ── There are at most as many receivers as user places ──
-length-kept : (f : ℕ → Bool) (i n : ℕ) → length (keep f (range i n)) ≤ n
-unfolding range keep
-length-kept f i zero = omega arith
-length-kept f i (suc n) =
-    by-cases (f i) (λ e. rw e (omega (arith, length-kept f (suc i) n))) (λ e. rw e (omega (arith, length-kept f (suc i) n)))
-
 pub receivers-few : (ls : List LoginState) (i m : ℕ) → length (receiversOf ls i m) ≤ maxUsers
-unfolding receiversOf
-receivers-few ls i m = rw length-map (length-kept (receives ls i m) 0 maxUsers)
+unfolding receiversOf range
+receivers-few ls i m = rw length-map (length-keep-le (receives ls i m) (range 0 maxUsers))
 
 -- ── The loop over the user places ──
 -- stored from the first place on, numbers that the list has room for stand at its start
@@ -122,5 +104,5 @@ module _ (logins : List ℕ) (i m : ℕ) (l₀ : List ℕ) where
     listed-all h = complete λ x from to. absurd (omega arith)
 
     pub listed-none : noneFrom m j ≡ true → Listed logins i m l₀ k l
-    unfolding receives noneFrom
+    unfolding receives
     listed-none shifted = complete λ x from to. rw (none-set m j x (eqb-true (m / 2 ^ j) 0 shifted) from, and-false)

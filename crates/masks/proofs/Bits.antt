@@ -104,9 +104,6 @@ mask-bits f (suc n) j = rw (below-suc f n j) (by-cases (f n)
     (λ e. rw (e, bit-more (maskOf f n) n j (mask-below f n), mask-bits f n j, and-true))
     (λ e. rw (e, add-zero, mask-bits f n j, and-false)))
 
-pub mask-bit : (f : ℕ → Bool) (n j : ℕ) → j < n → bitAt (maskOf f n) j ≡ f j
-mask-bit f n j h = mask-bits f n j ∙ rw (lt-ltb j n h)
-
 -- ── Two numbers with the same bits are equal: what a u32 needs to be the mask of a test ──
 bit-half : (m j : ℕ) → bitAt (m / 2) j ≡ bitAt m (suc j)
 unfolding bitAt
@@ -136,7 +133,7 @@ pub mask-is : (f : ℕ → Bool) (n m : ℕ) → m < 2 ^ n → ((j : ℕ) → bi
 mask-is f n m h e =
     bits-same n m (maskOf f n) h (mask-below f n)
     (λ j. by-cases (ltb j n)
-    (λ l. e j ∙ sym (mask-bit f n j (ltb-true j n l)))
+    (λ l. e j ∙ sym (mask-bits f n j ∙ rw l))
     (λ l. none-set m n j (div-eq-of-lt h) (ltb-false j n l) ∙ sym (mask-bits f n j ∙ rw l)))
 
 -- ── `high << k | low`, in w bits: nothing is lost, and nothing is in the way ──
@@ -193,6 +190,20 @@ first-set (suc w) m h l = by-cases (eqb (m % 2) 1)
     let rest = first-set w (m / 2) (omega arith) (omega arith) in
     rw even (omega (arith, rest .0), sym (bit-half m r) ∙ rest .1, lower-none m r even (rest .2)))
 
+-- ── The bit of the place j, set where b says so ──
+module _ (m j k : ℕ) (b : Bool) where
+  -- what is set already stays so
+  pub marked-before : bitAt m j ≡ true → bitAt m k ≡ (bitAt m k || (eqb k j && b))
+  marked-before h = by-cases (eqb k j)
+      (λ e. let q : k ≡ j = eqb-true k j e in rw (q, h))
+      (λ e. rw e (sym (or-false (bitAt m k))))
+
+  pub marked-not : b ≡ false → bitAt m k ≡ (bitAt m k || (eqb k j && b))
+  marked-not h = rw (h, and-false (eqb k j)) (sym (or-false (bitAt m k)))
+
+  pub marked-now : b ≡ true → (eqb k j || bitAt m k) ≡ (bitAt m k || (eqb k j && b))
+  marked-now h = rw (h, and-true (eqb k j)) (or-comm (eqb k j) (bitAt m k))
+
 -- ── A loop that sets the bits of those who pass a test g: the ones below j were asked ──
 unfoldable pub SetBelow : (ℕ → Bool) → ℕ → ℕ → Type 0
 SetBelow g j m = (k : ℕ) → bitAt m k ≡ (ltb k j && g k)
@@ -202,13 +213,9 @@ unfolding SetBelow
 below-start g k = bit-none k ∙ rw (le-ltb k 0 (omega arith))
 
 module _ (g : ℕ → Bool) (j m : ℕ) (h : SetBelow g j m) where
-  pub below-set : (n : ℕ) → g j ≡ true → ((k : ℕ) → bitAt n k ≡ (eqb k j || bitAt m k)) → SetBelow g (j + 1) n
+  pub below-next : (n : ℕ) → ((k : ℕ) → bitAt n k ≡ (bitAt m k || (eqb k j && g j))) → SetBelow g (j + 1) n
   unfolding SetBelow
-  below-set n t e k = rw (add-one j, e k, h k, below-suc g j k, t, and-true)
-
-  pub below-skip : g j ≡ false → SetBelow g (j + 1) m
-  unfolding SetBelow
-  below-skip t k = rw (add-one j, h k, below-suc g j k, t, and-false)
+  below-next n e k = rw (add-one j, e k, h k, below-suc g j k) (or-comm (ltb k j && g k) (eqb k j && g j))
 
   pub below-end : ((k : ℕ) → j ≤ k → g k ≡ false) → (k : ℕ) → bitAt m k ≡ g k
   unfolding SetBelow

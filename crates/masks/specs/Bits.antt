@@ -12,7 +12,7 @@ unfoldable pub bitAt : ℕ → ℕ → Bool
 bitAt m j = eqb (m / 2 ^ j % 2) 1
 
 -- no bit is set from the place j on
-unfoldable pub noneFrom : ℕ → ℕ → Bool
+abbrev pub noneFrom : ℕ → ℕ → Bool
 noneFrom m j = eqb (m / 2 ^ j) 0
 
 -- the number whose bits are set below n where the test holds, and nowhere else

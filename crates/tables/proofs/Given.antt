@@ -1,19 +1,17 @@
 -- Whom a line lets read a path, and the mask of those who may, while loops over the users and the lines set its bits.
 use Prim.Native.Nat.{ℕ, _+_, _*_, _^_, _≤_, _<_}
 use mathlib.Core.Path.{_≡_, refl, sym, _∙_}
-use mathlib.Core.Bool.{Bool, true, false, not, _&&_, _||_, and-false, or-true, or-false, or-assoc}
+use mathlib.Core.Bool.{true, false, not, _&&_, _||_, and-false, or-false, or-assoc}
 use mathlib.Core.Option.{Option, none, some}
 use mathlib.Core.List.{List, [], _∷_}
-use borrow.Author.Tests.{eqb-true}
 use lib.Dec.{eqb}
 use lib.ListN.{length, take, drop, set}
 use Rattle.model.specs.Base.{Bytes, any}
 use Rattle.model.specs.Limits.{maxUsers, maxRules}
 use Rattle.model.specs.Fields.{Keys}
 use Rattle.model.specs.Tables.{User, Rule, userAt}
-use Rattle.model.specs.Rights.{isFor, mayRead}
+use Rattle.model.specs.Rights.{isFor, matches, mayRead}
 use Rattle.model.specs.Serving.{readsBy, readsAt}
-use Rattle.model.proofs.Lists.{by-cases}
 use Rattle.masks.specs.Bits.{bitAt}
 use Rattle.masks.specs.Readers.{readersOf}
 use Rattle.masks.proofs.Bits.{mask-is, bit-none, AskedBut, asked-start, asked-next}
@@ -37,30 +35,17 @@ module _ (p : Keys) (r : Rule) where
   reads-more rs none = refl
   reads-more rs (some u) = refl
 
-  -- a line that may not match lets nobody read
-  reads-same : (rs : List Rule) (o : Option User) → mayMatch (r .path) p ≡ false → readsBy (r ∷ rs) o p ≡ readsBy rs o p
-  unfolding readsBy mayRead any
-  reads-same rs none h = refl
-  reads-same rs (some u) h = rw (matches-not (u .environment) (r .path) p h, and-false)
+  -- a line that does not match lets nobody read
+  line-not : (o : Option User) → ((u : User) → o ≡ some u → matches (u .environment) (r .path) p ≡ false) → readsByLine p r o ≡ false
+  unfolding readsByLine givesRead
+  line-not none h = refl
+  line-not (some u) h = rw (h u refl) (and-false (isFor u r))
 
 -- m rows were counted: the line in the row at i may not match
 pub lines-passed : (q : Bytes) (p : Keys) {m : ℕ} → m ≡ length (inUse ruleRow maxRules q) → (i : ℕ) → i < m → {row : Bytes} → row ≡ take ruleRow (drop (i * ruleRow) q)
     → mayMatch (ruleIn row .path) p ≡ false → (o : Option User) → readsBy (drop i (policyIn q)) o p ≡ readsBy (drop (i + 1) (policyIn q)) o p
-lines-passed q p counted i below {row} here h o = rw (rule-left q counted i below here) (reads-same p (ruleIn row) (drop (i + 1) (policyIn q)) o h)
-
--- ── The bit of one user, at j, by one line, of which b says whether it gives the right ──
-module _ (m j k : ℕ) (b : Bool) where
-  -- who is marked already stays so
-  pub marked-before : bitAt m j ≡ true → bitAt m k ≡ (bitAt m k || (eqb k j && b))
-  marked-before h = by-cases (eqb k j)
-      (λ e. let q : k ≡ j = eqb-true k j e in rw (q, h))
-      (λ e. rw e (sym (or-false (bitAt m k))))
-
-  pub marked-not : b ≡ false → bitAt m k ≡ (bitAt m k || (eqb k j && b))
-  marked-not h = rw (h, and-false (eqb k j)) (sym (or-false (bitAt m k)))
-
-  pub marked-now : b ≡ true → (eqb k j || bitAt m k) ≡ (bitAt m k || (eqb k j && b))
-  marked-now h = rw h (by-cases (eqb k j) (λ e. rw e (sym (or-true (bitAt m k)))) (λ e. rw e (sym (or-false (bitAt m k)))))
+lines-passed q p counted i below {row} here h o =
+    rw (rule-left q counted i below here, reads-more p (ruleIn row), line-not p (ruleIn row) o (λ u is. matches-not (u .environment) (ruleIn row .path) p h))
 
 -- ── A loop over the lines of the policy, the bytes q: the bit of each user who may read is set, or the user may by a line that is left at i ──
 unfoldable pub ReadersLeft : Bytes → Bytes → Keys → ℕ → ℕ → Type 0
@@ -96,12 +81,7 @@ module _ (s : Bytes) (p : Keys) (r : Rule) where
 
   -- who is left out may not read by the line
   pub readers-able : (m₀ able : ℕ) → Covers (usersIn s) (r .path) p able → ReadersBut m₀ able m₀
-  unfolding readsByLine givesRead
-  readers-able m₀ able c = asked-start (λ k. readsByLine p r (userAt (usersIn s) k)) m₀ able (λ k out. go k (userAt (usersIn s) k) refl out)
-    where
-      go : (k : ℕ) (o : Option User) → userAt (usersIn s) k ≡ o → bitAt able k ≡ false → readsByLine p r o ≡ false
-      go k none is out = refl
-      go k (some u) is out = rw (c .all k u is out) (and-false (isFor u r))
+  readers-able m₀ able c = asked-start (λ k. readsByLine p r (userAt (usersIn s) k)) m₀ able (λ k out. line-not p r _ (λ u is. c .all k u is out))
 
   -- the user in the row at j was asked
   pub readers-next : (m₀ rest mask : ℕ) → ReadersBut m₀ rest mask → (j : ℕ) → j < length (usersIn s) → {row : Bytes} → row ≡ take userRow (drop (j * userRow) s)

@@ -1,7 +1,7 @@
 -- Who holds the keys of a path as environment values, and masks that leave out nobody for whom a policy path matches.
 use Prim.Native.Nat.{ℕ, zero, suc, _+_, _*_, _^_, _≤_, _<_, min}
 use mathlib.Core.Path.{_≡_, refl, sym, _∙_}
-use mathlib.Core.Bool.{Bool, true, false, _&&_, _||_}
+use mathlib.Core.Bool.{Bool, true, _&&_, _||_}
 use mathlib.Core.List.{List, [], _∷_}
 use native.Mathlib.Omega.{arith}
 use borrow.Author.Tests.{eqb-true, eqb-false, ltb-true, ltb-false}
@@ -15,7 +15,7 @@ use Rattle.model.specs.Paths.{Steps, wildcard}
 use Rattle.model.specs.Tables.{User, userAt}
 use Rattle.model.proofs.Lists.{by-cases, and-both, bytes-eq}
 use Rattle.masks.specs.Bits.{bitAt}
-use Rattle.masks.proofs.Bits.{SetBelow, below-set, below-skip, below-end}
+use Rattle.masks.proofs.Bits.{SetBelow, below-next, below-end}
 use Rattle.layout.specs.Layout.{keyRow, nameIn}
 use Rattle.layout.proofs.Counts.{length-counted, counted-at}
 use Rattle.layout.proofs.Used.{length-table}
@@ -39,11 +39,8 @@ module _ (s v : Bytes) {m : ℕ} (counted : m ≡ userCount s) (j mask : ℕ) (l
     unfolding holdsValue
     told = rw (user-some s counted j below here) (sym t)
 
-    pub holder-set : r ≡ true → (new : ℕ) → ((k : ℕ) → bitAt new k ≡ (eqb k j || bitAt mask k)) → HoldersBelow s v (j + 1) new
-    holder-set y new e = below-set (λ k. holdsValue v (userAt (usersIn s) k)) j mask left new (told ∙ y) e
-
-    pub holder-skip : r ≡ false → HoldersBelow s v (j + 1) mask
-    holder-skip n = below-skip (λ k. holdsValue v (userAt (usersIn s) k)) j mask left (told ∙ n)
+    pub holder-next : (new : ℕ) → ((k : ℕ) → bitAt new k ≡ (bitAt mask k || (eqb k j && r))) → HoldersBelow s v (j + 1) new
+    holder-next new e = below-next (λ k. holdsValue v (userAt (usersIn s) k)) j mask left new (λ k. e k ∙ rw told)
 
   pub holders-end : m ≤ j → (k : ℕ) → bitAt mask k ≡ holdsValue v (userAt (usersIn s) k)
   unfolding holdsValue

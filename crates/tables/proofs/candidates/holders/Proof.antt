@@ -1,13 +1,14 @@
 -- Each turn asks one user more.
 use Prim.Native.Nat.{_-_, _≤_}
+use mathlib.Core.Path.{_∙_}
 use mathlib.Core.Logic.{⊎-elim}
 use borrow.Author.Needs.{needs}
 use Rattle.model.specs.Limits.{maxUsers}
-use Rattle.masks.proofs.Bits.{below-start}
+use Rattle.masks.proofs.Bits.{below-start, marked-now, marked-not}
 use Rattle.layout.proofs.Used.{counted-fit}
 use Rattle.tables.specs.Memory.{userRow}
 use Rattle.tables.proofs.Users.{user-inside}
-use Rattle.tables.proofs.Held.{HoldersBelow, holder-set, holder-skip, holders-end}
+use Rattle.tables.proofs.Held.{HoldersBelow, holder-next, holders-end}
 use Rattle.tables.proofs.candidates.holders.Statement.{statement}
 use Rattle.tables.proofs.candidates.holders.Tie as tie
 
@@ -48,9 +49,10 @@ loop-again c =
     let count = k .before .before .before .before .before .pre in
     let test = k .before .before .loop-test .taken in
     let said = rw (c .before .before .bindings .ensures .0) at (c .before .has-value .ensures) in
+    let next = holder-next _ _ count (l .j) (l .held) (l .inv .1) test (k .row-at .ensures .0) said in
     ⊎-elim
-    (λ w. (search needs, rw (w .2) (holder-set _ _ count (l .j) (l .held) (l .inv .1) test (k .row-at .ensures .0) said (w .0 .taken) _ (w .1 .ensures))))
-    (λ w. (search needs, rw (w .1) (holder-skip _ _ count (l .j) (l .held) (l .inv .1) test (k .row-at .ensures .0) said (w .0 .left))))
+    (λ w. (search needs, rw (w .2) (next _ (λ i. w .1 .ensures i ∙ marked-now _ _ i _ (w .0 .taken)))))
+    (λ w. (search needs, rw (w .1) (next _ (λ i. marked-not _ _ i _ (w .0 .left)))))
     (c .if1 .came)
 
 returns : tie.Need-returns Inv-loop μ-loop

@@ -2,7 +2,7 @@
 use mathlib.Core.Path.{sym, _∙_}
 use borrow.Author.Tests.{not-true, not-false}
 use borrow.Author.Needs.{needs}
-use Rattle.tables.proofs.Given.{marked-before, marked-not, marked-now}
+use Rattle.masks.proofs.Bits.{marked-before, marked-not, marked-now}
 use Rattle.tables.proofs.rights.with_reader.Statement.{statement}
 use Rattle.tables.proofs.rights.with_reader.Tie as tie
 
