@@ -67,6 +67,11 @@ pub xor-bit : (a b j : ℕ) → bitAt (bitXor a b) j ≡ xor (bitAt a j) (bitAt 
 unfolding xor
 xor-bit = op-bit bitXor differ xor xor-shr xor-step refl refl refl refl
 
+-- set in the one, and not set in the other
+pub difference-bit : (a b j : ℕ) → bitAt (bitAnd a (bitXor a b)) j ≡ (bitAt a j && not (bitAt b j))
+unfolding xor
+difference-bit a b j = rw (and-bit a (bitXor a b) j, xor-bit a b j) (by-cases (bitAt a j) (λ e. by-cases (bitAt b j) (λ d. rw (e, d)) (λ d. rw (e, d))) (λ e. rw e))
+
 -- a power of two has one bit
 pub pow-bit : (i j : ℕ) → bitAt (2 ^ i) j ≡ eqb j i
 unfolding bitAt
@@ -192,12 +197,6 @@ first-set (suc w) m h l = by-cases (eqb (m % 2) 1)
 
 -- ── The bit of the place j, set where b says so ──
 module _ (m j k : ℕ) (b : Bool) where
-  -- what is set already stays so
-  pub marked-before : bitAt m j ≡ true → bitAt m k ≡ (bitAt m k || (eqb k j && b))
-  marked-before h = by-cases (eqb k j)
-      (λ e. let q : k ≡ j = eqb-true k j e in rw (q, h))
-      (λ e. rw e (sym (or-false (bitAt m k))))
-
   pub marked-not : b ≡ false → bitAt m k ≡ (bitAt m k || (eqb k j && b))
   marked-not h = rw (h, and-false (eqb k j)) (sym (or-false (bitAt m k)))
 
@@ -226,10 +225,10 @@ unfoldable pub AskedBut : (ℕ → Bool) → ℕ → ℕ → ℕ → Type 0
 AskedBut g m₀ rest m = (k : ℕ) → (bitAt m₀ k || g k) ≡ (bitAt m k || (bitAt rest k && g k))
 
 module _ (g : ℕ → Bool) (m₀ : ℕ) where
-  -- nobody passes who is left out
-  pub asked-start : (able : ℕ) → ((k : ℕ) → bitAt able k ≡ false → g k ≡ false) → AskedBut g m₀ able m₀
+  -- nobody passes who is left out, and nobody is asked whose bit is set
+  pub asked-start : (able rest : ℕ) → ((k : ℕ) → bitAt able k ≡ false → g k ≡ false) → ((k : ℕ) → bitAt rest k ≡ (bitAt able k && not (bitAt m₀ k))) → AskedBut g m₀ rest m₀
   unfolding AskedBut
-  asked-start able out k = by-cases (bitAt able k) (λ e. rw e) (λ e. rw (out k e, and-false (bitAt able k)))
+  asked-start able rest out is k = rw (is k) (by-cases (bitAt m₀ k) (λ e. rw e) (λ e. by-cases (bitAt able k) (λ a. rw (e, a)) (λ a. rw (e, a, out k a))))
 
   module _ (rest m : ℕ) (left : AskedBut g m₀ rest m) where
     pub asked-next : (j new cut : ℕ) → bitAt rest j ≡ true → ((k : ℕ) → bitAt new k ≡ (bitAt m k || (eqb k j && g j)))

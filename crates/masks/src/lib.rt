@@ -72,6 +72,13 @@ pub fn both(a: u32, b: u32) -> u32
     a & b
 }
 
+// The bits of a mask that are not set in another.
+pub fn difference(a: u32, b: u32) -> u32
+    ensures { λ r. ⌜ ((k : ℕ) → bitAt r k ≡ (bitAt a k && not (bitAt b k))) ⌝ }
+{
+    a & (a ^ b)
+}
+
 // A byte more at the end where it counts least.
 fn with_byte(high: u32, low: u8) -> u32
     requires { ⌜ high < 2 ^ (maxUsers - byteBits) ⌝ }

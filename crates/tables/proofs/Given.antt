@@ -80,14 +80,14 @@ module _ (s : Bytes) (p : Keys) (r : Rule) where
   ReadersBut m₀ rest mask = AskedBut (λ k. readsByLine p r (userAt (usersIn s) k)) m₀ rest mask
 
   -- who is left out may not read by the line
-  pub readers-able : (m₀ able : ℕ) → Covers (usersIn s) (r .path) p able → ReadersBut m₀ able m₀
-  readers-able m₀ able c = asked-start (λ k. readsByLine p r (userAt (usersIn s) k)) m₀ able (λ k out. line-not p r _ (λ u is. c .all k u is out))
+  pub readers-able : (m₀ able rest : ℕ) → Covers (usersIn s) (r .path) p able → ((k : ℕ) → bitAt rest k ≡ (bitAt able k && not (bitAt m₀ k))) → ReadersBut m₀ rest m₀
+  readers-able m₀ able rest c = asked-start (λ k. readsByLine p r (userAt (usersIn s) k)) m₀ able rest (λ k out. line-not p r _ (λ u is. c .all k u is out))
 
   -- the user in the row at j was asked
   pub readers-next : (m₀ rest mask : ℕ) → ReadersBut m₀ rest mask → (j : ℕ) → j < length (usersIn s) → {row : Bytes} → row ≡ take userRow (drop (j * userRow) s)
-      → (new cut : ℕ) → bitAt rest j ≡ true → ((k : ℕ) → bitAt new k ≡ (bitAt mask k || (eqb k j && givesRead p r (userIn row))))
-      → ((k : ℕ) → bitAt cut k ≡ (not (eqb k j) && bitAt rest k)) → ReadersBut m₀ cut new
+      → (cut : ℕ) → bitAt rest j ≡ true → ((k : ℕ) → bitAt cut k ≡ (not (eqb k j) && bitAt rest k))
+      → (new : ℕ) → ((k : ℕ) → bitAt new k ≡ (bitAt mask k || (eqb k j && givesRead p r (userIn row)))) → ReadersBut m₀ cut new
   unfolding readsByLine
-  readers-next m₀ rest mask left j below {row} here new cut is set without =
+  readers-next m₀ rest mask left j below {row} here cut is without new set =
       let told : readsByLine p r (userAt (usersIn s) j) ≡ givesRead p r (userIn row) = rw (user-some s refl j (user-below s j below) here) in
       asked-next (λ k. readsByLine p r (userAt (usersIn s) k)) m₀ rest mask left j new cut is (λ k. set k ∙ rw told) without

@@ -15,8 +15,8 @@ use layout::table::is_empty;
 use layout::table::row_at;
 use layout::table::row_count;
 use lexical::limits::MAX_DEPTH;
+use masks::difference;
 use masks::first_bit;
-use masks::has_bit;
 use masks::with_bit;
 use masks::without_bit;
 use matching::path::asks_lines;
@@ -89,23 +89,8 @@ fn gives_read(rule: &[u8], user: &[u8], path: &[u8]) -> bool
     lines_match(bindings(user), steps, path)
 }
 
-// A mask with the bit of the place j set where a line that may match the path gives this user the right to read it. Who is marked already is not asked again.
-fn with_reader(mask: u32, j: usize, rule: &[u8], user: &[u8], path: &[u8]) -> u32
-    requires { ⌜ (length (now rule) ≡ ruleRow) × (length (now user) ≡ userRow) × (pathSlot ≤ length (now path)) × (j < maxUsers) ⌝ }
-    requires { ⌜ mayMatch (ruleIn (now rule) .path) (pathIn (now path)) ≡ true ⌝ }
-    ensures { λ r. ⌜ ((k : ℕ) → bitAt r k ≡ (bitAt mask k || (eqb k j && givesRead (pathIn (now (path .entry))) (ruleIn (now (rule .entry))) (userIn (now (user .entry)))))) ⌝ }
-{
-    if has_bit(mask, j) {
-        return mask;
-    }
-    if !gives_read(rule, user, path) {
-        return mask;
-    }
-    with_bit(mask, j)
-}
-
 // A mask with the bits set of those to whom a line that may match the path gives the right to read it.
-// Only the users of `able` are asked: it leaves out nobody for whom the line matches.
+// Only the users of `able` are asked, which leaves out nobody for whom the line matches, and nobody who is marked already.
 fn with_readers(mask: u32, able: u32, tables: &[u8; TABLES], rule: &[u8], path: &[u8]) -> u32
     requires { ⌜ (length (now rule) ≡ ruleRow) × (pathSlot ≤ length (now path)) ⌝ }
     requires { ⌜ mayMatch (ruleIn (now rule) .path) (pathIn (now path)) ≡ true ⌝ }
@@ -113,10 +98,12 @@ fn with_readers(mask: u32, able: u32, tables: &[u8; TABLES], rule: &[u8], path: 
     ensures { λ r. ⌜ ((k : ℕ) → bitAt r k ≡ (bitAt mask k || readsByLine (pathIn (now (path .entry))) (ruleIn (now (rule .entry))) (userAt (usersIn (now (tables .entry))) k))) ⌝ }
 {
     let mut marked = mask;
-    let mut rest = able;
+    let mut rest = difference(able, mask);
     while rest != 0 {
         let j = first_bit(rest);
-        marked = with_reader(marked, j, rule, row_at(tables, USER, j), path);
+        if gives_read(rule, row_at(tables, USER, j), path) {
+            marked = with_bit(marked, j);
+        }
         rest = without_bit(rest, j);
     }
     marked
