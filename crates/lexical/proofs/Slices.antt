@@ -103,7 +103,7 @@ order-told o h e = told o ∙ ap orderIn (sym h ∙ e)
     told Ordering·eq = refl
     told Ordering·gt = refl
 
--- whether it tells that the first is behind
+-- so what it tells of whether the first is behind is so
 pub behind-told : (o : Ordering) {r v : Order} → r ≡ orderOf o → r ≡ v → {b : Bool} → isGreater (orderIn v) ≡ b → b ≡ isGreater o
 behind-told o h e b = sym b ∙ ap isGreater (sym (order-told o h e))
 

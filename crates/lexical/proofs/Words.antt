@@ -1,7 +1,7 @@
 -- First bytes as one number: numbers in order are texts in order.
 use Prim.Native.Nat.{ℕ, zero, suc, _+_, _*_, _^_, _≤_, _<_, compare, Ordering, Ordering·lt, Ordering·eq, Ordering·gt}
 use mathlib.Core.Path.{_≡_, refl, sym, ap, _∙_}
-use mathlib.Core.Bool.{true, false}
+use mathlib.Core.Bool.{true}
 use mathlib.Core.List.{[], _∷_}
 use native.Mathlib.Nat.{mul-suc, pow-zero, pow-suc, mul-le-mul-left, le-of-suc-le-suc}
 use native.Mathlib.Omega.{arith}

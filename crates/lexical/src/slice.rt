@@ -1,7 +1,7 @@
 // Comparing slices.
 use crate::bounds::least;
 ghost use mathlib.Core.Path.{_≡_};
-ghost use mathlib.Core.Bool.{true, false};
+ghost use mathlib.Core.Bool.{true};
 ghost use mathlib.Core.List.{[], _∷_};
 ghost use Prim.Native.Nat.{_+_, _≤_, compare};
 ghost use lib.ListN.{length, drop};
@@ -136,7 +136,7 @@ fn is_behind_from(a: &[u8], b: &[u8], from: usize) -> bool
 }
 
 // Whether a stands behind b in this order: `compare` for a search, short enough to stand in its loop.
-// The second words end with the shorter slice, so that names of up to two words take two comparisons.
+// The second words end with the shorter slice, so that names of one to two words take two comparisons.
 pub fn is_behind(a: &[u8], b: &[u8]) -> bool
     ensures { λ r. ⌜ r ≡ isGreater (orderKey (now (a .entry)) (now (b .entry))) ⌝ }
 {

@@ -1,4 +1,4 @@
--- The order of two slots' paths from the key i on: a path that ends first is before the other, else the two keys decide, or what stands behind them.
+-- The order of two slots' paths from the key i on, where both have one: the two keys decide, or what stands behind them.
 use Prim.Native.Nat.{ℕ, _+_, _*_, _<_, min, Ordering·gt}
 use mathlib.Core.Path.{_≡_, refl, sym, ap}
 use mathlib.Core.Bool.{true, false}

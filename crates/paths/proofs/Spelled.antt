@@ -1,7 +1,7 @@
 -- Rows behind a byte that says how many there are, spelled one behind the other, as a path's keys are: how a loop writes them.
 use Prim.Native.Nat.{ℕ, _+_, _*_, _≤_, _<_, min}
 use mathlib.Core.Path.{_≡_}
-use mathlib.Core.List.{[], _++_, map, map-append, append-nil}
+use mathlib.Core.List.{_++_, map, map-append, append-nil}
 use lib.ListN.{getD, take, drop}
 use Rattle.model.specs.Base.{Bytes, joined}
 use Rattle.model.proofs.Lists.{joined-append}

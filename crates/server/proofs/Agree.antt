@@ -2,7 +2,7 @@
 use Prim.Native.Nat.{ℕ, _≤_}
 use mathlib.Core.Path.{_≡_, refl, ap, fun-ext, _∙_}
 use mathlib.Core.Option.{Option, none, some}
-use mathlib.Core.List.{List, [], _∷_, map, map-append}
+use mathlib.Core.List.{List, [], _∷_, map-append}
 use lib.ListN.{length, set, length-set}
 use lib.Seq.{take-all}
 use Rattle.rows.proofs.Rows.{map-take, map-drop, map-set, getD-map}
@@ -11,7 +11,7 @@ use Rattle.model.specs.Limits.{maxUsers, maxFields}
 use Rattle.model.specs.Fields.{Keys, Field, Fields, store, fieldOf}
 use Rattle.model.specs.Values.{truth}
 use mathlib.Core.Bool.{false}
-use Rattle.model.specs.Refusals.{Result, refused, done, _>>=_}
+use Rattle.model.specs.Refusals.{Result, refused, done}
 use Rattle.model.specs.Tables.{User, Tables, userAt}
 use Rattle.model.specs.Opening.{State}
 use Rattle.model.specs.Requests.{Request, login, inSession, get, push, logout, requestOf}
@@ -122,7 +122,7 @@ memory-agrees before x a =
     let fields = table-fit fieldIn slotBytes maxFields (before .fields) in
     effects-agree (stateOf before) (masksOf before) users fields a x
 
--- the fields and the masks are those of the effect, and the tables stayed: they agree again
+-- what is served by the masks is served as the documents say; the fields and the masks are those of the effect, and the tables stayed: they agree again
 pub masked-said : (before after : Arrays) (text : Bytes) (given left : Outputs) (r : Reply) → after .tables ≡ before .tables
     → ServedByMasks before text given r after left → ServedByPolicy before text given r after left
 unfolding outcomeIn effectByPolicy stateIn

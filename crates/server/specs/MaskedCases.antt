@@ -64,7 +64,7 @@ unfolding given masks allIn bobOut
 cases =
     -- a new field gets the mask that the policy gives, at its place, and the others move along
     pushes allIn given "PUSH;1;$['e9']['cv']['3'];10" [] (3 ∷ 3 ∷ 7 ∷ 4 ∷ 3 ∷ 1 ∷ 7 ∷ []) ∷
-    -- and whom it reaches says that mask
+    -- and that mask says whom it reaches
     pushes allIn (masks 0 0) "PUSH;1;$['e9']['cv']['29'];5" (65537 ∷ []) (0 ∷ 0 ∷ 0 ∷ 0 ∷ 0 ∷ 3 ∷ 0 ∷ []) ∷
     -- a push to a held field reaches those in its mask but the sender, and changes no mask
     pushes allIn given "PUSH;1;$['e7']['cv']['29'];38" (65537 ∷ []) given ∷

@@ -18,7 +18,7 @@ use paths::key::key_at;
 ghost use mathlib.Core.Path.{_≡_};
 ghost use mathlib.Core.Option.{none};
 ghost use mathlib.Core.List.{[], _∷_, _++_};
-ghost use Prim.Native.Nat.{_+_, _*_, _≤_, _<_, _^_};
+ghost use Prim.Native.Nat.{_+_, _≤_, _<_, _^_};
 ghost use lib.ListN.{length, getD, take};
 ghost use Rattle.rows.specs.Rows.{Wrote};
 ghost use Rattle.model.specs.Paths.{environment, operatorText, stepText, stepsText, readStep, readPath, stepsOf};

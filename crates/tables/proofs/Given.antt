@@ -79,7 +79,7 @@ module _ (s : Bytes) (p : Keys) (r : Rule) where
   abbrev pub ReadersBut : ℕ → ℕ → ℕ → Type 0
   ReadersBut m₀ rest mask = AskedBut (λ k. readsByLine p r (userAt (usersIn s) k)) m₀ rest mask
 
-  -- who is left out may not read by the line
+  -- who is left out may not read by the line, or is marked already
   pub readers-able : (m₀ able rest : ℕ) → Covers (usersIn s) (r .path) p able → ((k : ℕ) → bitAt rest k ≡ (bitAt able k && not (bitAt m₀ k))) → ReadersBut m₀ rest m₀
   readers-able m₀ able rest c = asked-start (λ k. readsByLine p r (userAt (usersIn s) k)) m₀ able rest (λ k out. line-not p r _ (λ u is. c .all k u is out))
 

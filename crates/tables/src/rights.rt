@@ -24,12 +24,10 @@ use matching::path::lines_match;
 use matching::path::matches;
 use matching::path::may_match;
 ghost use mathlib.Core.Path.{_≡_};
-ghost use mathlib.Core.Bool.{true, _&&_, _||_};
+ghost use mathlib.Core.Bool.{true, _||_};
 ghost use mathlib.Core.Option.{Option};
 ghost use Prim.Native.Nat.{ℕ, _≤_, _<_};
-ghost use lib.Dec.{eqb};
 ghost use lib.ListN.{length, drop};
-ghost use Rattle.model.specs.Limits.{maxUsers};
 ghost use Rattle.model.specs.Tables.{User, userAt};
 ghost use Rattle.model.specs.Rights.{mayWrite};
 ghost use Rattle.model.specs.Serving.{readsBy};
@@ -90,7 +88,7 @@ fn gives_read(rule: &[u8], user: &[u8], path: &[u8]) -> bool
 }
 
 // A mask with the bits set of those to whom a line that may match the path gives the right to read it.
-// Only the users of `able` are asked, which leaves out nobody for whom the line matches, and nobody who is marked already.
+// Of the users of `able`, which leaves out nobody for whom the line matches, those are asked who are not marked yet.
 fn with_readers(mask: u32, able: u32, tables: &[u8; TABLES], rule: &[u8], path: &[u8]) -> u32
     requires { ⌜ (length (now rule) ≡ ruleRow) × (pathSlot ≤ length (now path)) ⌝ }
     requires { ⌜ mayMatch (ruleIn (now rule) .path) (pathIn (now path)) ≡ true ⌝ }

@@ -117,33 +117,33 @@ module _ {M : Type 1} (𝓤 : URA M) (H : Heap 𝓤) (A : Atoms 𝓤) (W : Given
 
   -- the call of `set_session`: what it is passed, what it asks, and what is known after it
   module _ (α l : ℕ) (δ : GName) where
-    abbrev lent : RefT LoginState
-    lent = record { ptr = (l, 0); name = δ; now = h }
+    abbrev borrowed : RefT LoginState
+    borrowed = record { ptr = (l, 0); name = δ; now = h }
 
-    abbrev lent-own : SProp 𝓤
-    lent-own = sem 𝓤 H A (MutRef (named 0) (α ∷ []) T.the-row .own lent (vptr l 0 ∷ []))
+    abbrev borrowed-own : SProp 𝓤
+    borrowed-own = sem 𝓤 H A (MutRef (named 0) (α ∷ []) T.the-row .own borrowed (vptr l 0 ∷ []))
 
     abbrev Sets-ensured : Unit {0} → SProp 𝓤
-    Sets-ensured r = ensured 𝓤 H A callee.ended (callee.clauses 𝓤 H A at-mem run) (α ∷ [], tt) (lent, x .1) tt r
+    Sets-ensured r = ensured 𝓤 H A callee.ended (callee.clauses 𝓤 H A at-mem run) (α ∷ [], tt) (borrowed, x .1) tt r
 
     abbrev to-set : Sets 𝓤 H A at-mem run .Ghost
-    to-set = (((α ∷ [], tt), (fullShare, tt), tt, (lent, x .1), (vptr l 0 ∷ [], at .1)), tt)
+    to-set = (((α ∷ [], tt), (fullShare, tt), tt, (borrowed, x .1), (vptr l 0 ∷ [], at .1)), tt)
 
-    goes-in : n < 2 ^ 16 → ent 𝓤 (sep 𝓤 (A .lft (α ∷ []) fullShare) lent-own) (Sets 𝓤 H A at-mem run .pre to-set)
+    goes-in : n < 2 ^ 16 → ent 𝓤 (sep 𝓤 (A .lft (α ∷ []) fullShare) borrowed-own) (Sets 𝓤 H A at-mem run .pre to-set)
     goes-in fits =
-        qed W (‵ (flft (α ∷ []) fullShare) ∷ ‵ (MutRef (named 0) (α ∷ []) T.the-row .own lent (vptr l 0 ∷ [])) ∷ []) ∵
+        qed W (‵ (flft (α ∷ []) fullShare) ∷ ‵ (MutRef (named 0) (α ∷ []) T.the-row .own borrowed (vptr l 0 ∷ [])) ∷ []) ∵
         nothing ! $ owned ! bool (Is bool) (bool-makes 𝓤 H A W) t (vbool t ∷ []) refl $ fjoin ! $
         owned ! u16 (Is u16) (uint-makes 𝓤 H A W w16) n (vint w16 n ∷ []) (refl, fits) $ fjoin ! $
         move ! (2 ∷ 0 ∷ []) $ fjoin ! $ nothing ! $ move ! (2 ∷ 0 ∷ []) $ join ! $ join ! $ frame ! $ done !
 
     last : (r : Unit {0}) → ent 𝓤 (Sets-ensured r) (A .res δ (T.the-row .coded .code h′))
     last r = exE 𝓤 _ (λ ws.
-        let Ls : SProp 𝓤 = sem 𝓤 H A (lasts callee.ended (α ∷ [], tt) (lent, x .1) ws) in
+        let Ls : SProp 𝓤 = sem 𝓤 H A (lasts callee.ended (α ∷ [], tt) (borrowed, x .1) ws) in
         let E : SProp 𝓤 = fact 𝓤 (stateOf (ws .0) ≡ withSession (stateOf h) n t) in
         fact-use 𝓤 (stateOf (ws .0) ≡ withSession (stateOf h) n t) (snd∗ 𝓤 Ls E) (λ e.
         via 𝓤 Ls (fst∗ 𝓤 Ls E)
         (subst (λ (w : LoginState). ent 𝓤 Ls (A .res δ (T.the-row .coded .code w))) (changed-from h (ws .0) n t e)
-        (qed W (‵ (lasts callee.ended (α ∷ [], tt) (lent, x .1) ws) ∷ []) ∵ fsplit ! $ keep ! (0 ∷ []) $ done !))))
+        (qed W (‵ (lasts callee.ended (α ∷ [], tt) (borrowed, x .1) ws) ∷ []) ∵ fsplit ! $ keep ! (0 ∷ []) $ done !))))
 
     gives : (u : Val) → ent 𝓤 (Sets 𝓤 H A at-mem run .post to-set u)
         (H .⇛ (guard 𝓤 (u ≡ vunit) (sep 𝓤 (A .lft (α ∷ []) fullShare) (A .res δ (T.the-row .coded .code h′)))))
@@ -168,7 +168,7 @@ module _ {M : Type 1} (𝓤 : URA M) (H : Heap 𝓤) (A : Atoms 𝓤) (W : Given
         move ! (4 ∷ []) $ use1 W (‵ (partAt T.the-row fullShare h l₄ 0)) (state-in 𝓤 H A W h l₄ is) $
         lft-new ! tt (λ α. move ! (1 ∷ []) $
         use1 W (later (some (λ (δ : GName).
-        ‵ (MutRef (named 0) (α ∷ []) T.the-row .own (lent α l₄ δ) (vptr l₄ 0 ∷ [])) ⊛ ‵ (flent (α ∷ []) (Body (mem T.the-row) l₄ 0 δ)))))
+        ‵ (MutRef (named 0) (α ∷ []) T.the-row .own (borrowed α l₄ δ) (vptr l₄ 0 ∷ [])) ⊛ ‵ (flent (α ∷ []) (Body (mem T.the-row) l₄ 0 δ)))))
         (lends-ref 𝓤 H A W T.the-row (named 0) (α ∷ []) h l₄ 0) $
         await ! tt $ pick ! (λ δ. split ! $ move ! (2 ∷ 0 ∷ []) $
         use2 W (raw (Sets 𝓤 H A at-mem run .pre (to-set α l₄ δ))) (goes-in α l₄ δ fits) $

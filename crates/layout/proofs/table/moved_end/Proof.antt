@@ -2,7 +2,6 @@
 use native.Mathlib.Omega.{arith}
 use native.Mathlib.Nat.{mul-le-mul-right}
 use Prim.Native.Nat.{_≤_}
-use mathlib.Core.Path.{ap, _∙_}
 use Rattle.layout.proofs.Changed.{used-few}
 use borrow.Author.Needs.{needs}
 use Rattle.layout.proofs.table.moved_end.Statement.{statement}

@@ -1,6 +1,6 @@
 -- Each slot whose first key is before the path's leaves the search from the next slot on.
 use Prim.Native.Nat.{_-_}
-use mathlib.Core.Path.{_≡_, refl, sym, _∙_}
+use mathlib.Core.Path.{refl, sym, _∙_}
 use borrow.Author.Tests.{not-false}
 use borrow.Author.Needs.{needs}
 use Rattle.model.specs.Limits.{maxFields}

@@ -1,5 +1,5 @@
 -- The field is written or put in where the search ended; behind the last place nothing changes.
-use mathlib.Core.Path.{_≡_, sym, _∙_}
+use mathlib.Core.Path.{sym, _∙_}
 use native.Mathlib.Omega.{arith}
 use Rattle.model.specs.Limits.{maxFields}
 use Rattle.layout.proofs.Changed.{table-set, table-inserted}

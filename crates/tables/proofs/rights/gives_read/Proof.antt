@@ -3,7 +3,6 @@ use mathlib.Core.Path.{sym, _∙_}
 use borrow.Author.Tests.{not-true, not-false}
 use borrow.Author.Needs.{needs}
 use Rattle.matching.proofs.Matched.{matches-unasked}
-use Rattle.tables.specs.Memory.{ruleIn}
 use Rattle.tables.specs.Grants.{givesRead}
 use Rattle.tables.proofs.rights.gives_read.Statement.{statement}
 use Rattle.tables.proofs.rights.gives_read.Tie as tie

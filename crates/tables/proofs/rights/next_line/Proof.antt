@@ -1,5 +1,5 @@
 -- Each line that may not match leaves what the lines behind it let read.
-use Prim.Native.Nat.{_-_, _≤_, _<_}
+use Prim.Native.Nat.{_-_, _≤_}
 use mathlib.Core.Path.{_≡_, refl, sym, _∙_}
 use mathlib.Core.Option.{Option}
 use native.Mathlib.Omega.{arith}

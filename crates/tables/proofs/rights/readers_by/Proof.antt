@@ -1,6 +1,6 @@
 -- Each turn leaves, for the users whose bit is not set, the question for the lines behind the one that it asked, up to the next that may match.
 use Prim.Native.Nat.{_+_, _-_, _^_, _≤_, _<_}
-use mathlib.Core.Path.{_≡_, sym, _∙_}
+use mathlib.Core.Path.{_≡_}
 use mathlib.Core.Bool.{true}
 use borrow.Author.Needs.{needs}
 use Rattle.model.specs.Limits.{maxUsers}
