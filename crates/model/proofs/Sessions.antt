@@ -1,5 +1,5 @@
 -- Sessions in a run (02, 1): a number is answered once, and is open exactly from the login that answers it to the LOGOUT that closes it.
-use Prim.Native.Nat.{ℕ, suc, _≤_}
+use Prim.Native.Nat.{ℕ, suc, _+_, _*_, _≤_}
 use mathlib.Core.Path.{_≡_, refl, sym, ap, _∙_}
 use mathlib.Core.Option.{Option, none, some}
 use mathlib.Core.List.{List, [], _∷_}
@@ -9,13 +9,13 @@ use lib.ListN.{length, take}
 use native.Mathlib.Omega.{arith}
 use borrow.Author.Tests.{eqb-true, eqb-false, eq-eqb, ne-eqb}
 use Rattle.model.specs.Base.{Bytes, if_then_else_, any, keep, range, All}
-use Rattle.model.specs.Limits.{listRoom, maxLogins}
+use Rattle.model.specs.Limits.{listRoom, perUser, maxLogins}
 use Rattle.model.specs.Fields.{Field}
 use Rattle.model.specs.Refusals.{Result, refused, _>>=_, _>>_, refuse_if_, _or_}
 use Rattle.model.specs.Tables.{User, userAt, userNamed}
 use Rattle.model.specs.Opening.{LoginState, State}
 use Rattle.model.specs.Requests.{Ask, Request, inSession, login, get, push, logout, requestOf}
-use Rattle.model.specs.Serving.{sessionNumber, indexIn, isSession, loginAt, Change, setsLogin, shows, stores, asker, decideLogin, decideGet, creating, decidePush, decideLogout, roomFor, decide, apply, readsAt, receivers, notified, answerOf, Answer, refusal, session, length-is, accepted, Act, line, decideLine, decision, unchanged, conclude, outcome}
+use Rattle.model.specs.Serving.{sessionNumber, indexIn, countIn, isSession, loginAt, Change, setsLogin, shows, stores, asker, decideLogin, decideGet, creating, decidePush, decideLogout, roomFor, decide, apply, readsAt, receivers, notified, answerOf, Answer, refusal, session, length-is, accepted, Act, line, decideLine, decision, unchanged, conclude, outcome}
 use Rattle.model.specs.Runs.{requestOfAct, eventIn, events, end, inSet, only, isAccepted, isOpenNumber, sessionIn, gives, closes}
 use Rattle.model.specs.Claims.{groundWithout}
 use Rattle.model.proofs.Lists.{by-cases, never, bytes-refl, both-and, all-imp, all-map, all-kept, keep-yes, keep-no, keep-none, false-any, and-both, elem-at}
@@ -25,6 +25,17 @@ use Rattle.model.proofs.Invariant.{Running, few-at, login-set-place, lo
 use Rattle.model.proofs.Changes.{accepts, login-own, login-other, login-changes}
 use Rattle.model.proofs.Growth.{logins-grow, login-number}
 use Rattle.model.proofs.TwoRuns.{over-take}
+
+-- ── A number in two parts, the index and the count (02, 3): a sum with its index is the number exactly if the rest is its count ──
+rest-is-count : (n c : ℕ) → eqb (perUser * indexIn n + c) n ≡ eqb c (countIn n)
+unfolding indexIn countIn
+rest-is-count n c = by-cases (eqb c (countIn n))
+    (λ e. rw e (eq-eqb (perUser * indexIn n + c) n (omega (arith, eqb-true c (countIn n) e))))
+    (λ e. rw e (ne-eqb (perUser * indexIn n + c) n (λ k. eqb-false c (countIn n) e (omega arith))))
+
+pub parts-session : (a : LoginState) (n : ℕ) → isSession (indexIn n) a n ≡ (a .isOpen && eqb (a .logins) (countIn n))
+unfolding isSession sessionNumber
+parts-session a n = ap (a .isOpen &&_) (rest-is-count n (a .logins))
 
 -- ── A number is past: its user has had as many logins ──
 abbrev pub Past : State → ℕ → Type 0

@@ -1,5 +1,5 @@
 -- The claims of specs/Claims, proved, in their order; some stand where their argument does (Changes, Spelling, Loads).
-use Prim.Native.Nat.{ℕ, zero, suc, _+_, _*_, _%_, _≤_}
+use Prim.Native.Nat.{ℕ, zero, suc, _+_, _*_, _≤_}
 use mathlib.Core.Path.{_≡_, refl, sym, ap, ap₂, _∙_}
 use mathlib.Core.Option.{some}
 use mathlib.Core.List.{List, [], _∷_, map, map-map}
@@ -20,7 +20,7 @@ use Rattle.model.specs.Tables.{User, Access, Rule, Tables, userAt}
 use Rattle.model.specs.Rights.{mayRead}
 use Rattle.model.specs.Opening.{LoginState, State, emptyLogin, emptyLogins, Texts, Fault, openRecord, opened}
 use Rattle.model.specs.Requests.{logout}
-use Rattle.model.specs.Serving.{sessionNumber, indexIn, isSession, loginAt, readable, copyFor, readsBy, readsAt, Change, setsLogin, shows, stores, apply, Act}
+use Rattle.model.specs.Serving.{sessionNumber, indexIn, countIn, isSession, loginAt, readable, copyFor, readsBy, readsAt, Change, setsLogin, shows, stores, apply, Act}
 use Rattle.model.specs.Runs.{Event, events, end, only, seen, seenFields, isOpenNumber, gives, closes, isOpenAfter}
 use Rattle.model.specs.Program.{lineBytes, printRun, serveWith, serve}
 use Rattle.model.specs.Claims
@@ -38,7 +38,7 @@ use Rattle.model.proofs.CopyLength.{savedText, copy-length}
 use Rattle.model.proofs.Decisions.{decided}
 use Rattle.model.proofs.Invariant.{Within, totalCreated, within-at, few-at, few-fields, store-is-put, next-state, at-end}
 use Rattle.model.proofs.Changes.{login-changes, logout-changes, push-changes}
-use Rattle.model.proofs.Sessions.{past-not-given, given-once, open-run, closed-past, shut-refuses, shut-not-told, last-open, lets-in, lets-out}
+use Rattle.model.proofs.Sessions.{parts-session, past-not-given, given-once, open-run, closed-past, shut-refuses, shut-not-told, last-open, lets-in, lets-out}
 use Rattle.model.proofs.Growth.{fields-grow, created-grow, logins-grow, login-number}
 use Rattle.model.proofs.TwoRuns.{view, same-view, replay, one-run}
 use Rattle.model.proofs.Notified.{told-ascends}
@@ -220,7 +220,7 @@ pub logins-end : Claims.LoginsEnd
 logins-end t s r i = few-at (ran t s r .running) i
 
 pub number-divides : Claims.NumberDivides
-unfolding indexIn
+unfolding indexIn countIn
 number-divides t s acts h a n k =
     let w = login-number (ran-end t s acts h .running) n a k in
     (w .owned, omega (arith, w .number, w .few) ∙ ap suc (counts-own-logins t s acts h (indexIn n)))
@@ -243,6 +243,10 @@ pub open-between : Claims.OpenBetween
 unfolding isOpenAfter
 open-between t s acts h n = open-run _ n s acts (ran-opened t s h .running) ∙ rw (start-shut t s h n)
 
+pub open-by-parts : Claims.OpenByParts
+unfolding isOpenNumber
+open-by-parts s n = parts-session (loginAt s (indexIn n)) n
+
 pub logout-answers : Claims.LogoutAnswers
 unfolding Claims.groundWithout
 logout-answers t s acts h x b l n is = rw (← open-between t s acts h n) (by-cases (isOpenNumber (end s acts) n)
@@ -261,10 +265,10 @@ stays-closed t s acts h n k = (
 )
 
 pub logs-in-again : Claims.LogsInAgain
-unfolding indexIn sessionNumber
+unfolding indexIn countIn sessionNumber
 logs-in-again t s acts h n k last name u named x b l is =
     let e = end s acts in
-    let count : loginAt e (indexIn n) .logins ≡ n % perUser = counts-own-logins t s acts h (indexIn n) ∙ sym last in
+    let count : loginAt e (indexIn n) .logins ≡ countIn n = counts-own-logins t s acts h (indexIn n) ∙ sym last in
     let number : sessionNumber (indexIn n) (loginAt e (indexIn n)) ≡ n = omega (arith, count) in
     let shut : isOpenNumber e n ≡ false = open-between t s acts h n ∙ closed-shut (events s acts) n k in
     rw (number, count) at (lets-in e name (indexIn n) u (rw (same-tables-end s acts) named) (last-open e n number shut) x b l is)

@@ -13,7 +13,7 @@ use Rattle.model.specs.Values.{whole}
 use Rattle.model.specs.Fields.{orderKey, byOrder}
 use Rattle.model.specs.Refusals.{Result, refused, done}
 use Rattle.model.specs.Opening.{State, initial, Texts, Fault, opened, afterOpening}
-use Rattle.model.specs.Serving.{Act, line, save, Answer, refusal, session, length-is, accepted, outcome}
+use Rattle.model.specs.Serving.{indexIn, countIn, Act, line, save, Answer, refusal, session, length-is, accepted, outcome}
 use Rattle.model.specs.Runs.{end, events, only, sequence, own, others, got, answer, copy, delivery}
 use Rattle.model.specs.Program.{serve}
 use Rattle.model.specs.Program
@@ -242,6 +242,28 @@ lastLogin : map (λ e. e .result .answer) (events almostAll (map (asked 0) (
     "LOGIN;cy;k3" ∷ []))) ≡ session 196607 ∷ refusal 13 ∷ accepted ∷ refusal 12 ∷ refusal 18 ∷ []
 unfolding Program.Opened asked almostAll
 lastLogin = refl
+
+-- the place and the count of a number (02, 3): the first and the last of a place, ann's, the last of all places, the next, and the last that a line may carry
+numbersDivide : map {B = ℕ × ℕ} (λ n. (indexIn n, countIn n)) (0 ∷ 65535 ∷ 65536 ∷ 1 ∷ 2097151 ∷ 2097152 ∷ 4294967295 ∷ []) ≡
+    (0, 0) ∷ (0, 65535) ∷ (1, 0) ∷ (0, 1) ∷ (31, 65535) ∷ (32, 0) ∷ (65535, 65535) ∷ []
+unfolding Program.Opened
+numbersDivide = refl
+
+-- ann's number is open; those of her place with another count and those of another place with her count are not, though 2,097,153 is hers by a place taken modulo 32
+onlyHers : map (λ e. e .result .answer) (events clubState (map (asked 0) (
+    "LOGIN;ann;k1" ∷
+    "LOGOUT;0" ∷
+    "LOGOUT;2" ∷
+    "LOGOUT;32769" ∷
+    "LOGOUT;65537" ∷
+    "LOGOUT;2097153" ∷
+    "LOGOUT;4294901761" ∷
+    "LOGOUT;4294967295" ∷
+    "LOGOUT;4294967296" ∷
+    "LOGOUT;1" ∷ []))) ≡
+    session 1 ∷ refusal 14 ∷ refusal 14 ∷ refusal 14 ∷ refusal 14 ∷ refusal 14 ∷ refusal 14 ∷ refusal 14 ∷ refusal 11 ∷ accepted ∷ []
+unfolding Program.Opened asked clubState
+onlyHers = refl
 
 -- LOGOUT is bob's own request, with no length lent; that ann leaves is none of his
 leavingActs : List Act

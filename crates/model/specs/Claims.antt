@@ -1,5 +1,5 @@
 -- The claims about runs, by the club's three conditions, each with its sentence: of document 01, of document 02 where a request is named, or of the conditions where it says so.
-use Prim.Native.Nat.{ℕ, suc, _+_, _*_, _%_, _≤_, _<_}
+use Prim.Native.Nat.{ℕ, suc, _+_, _*_, _≤_, _<_}
 use mathlib.Core.Path.{_≡_}
 use mathlib.Core.Option.{some}
 use mathlib.Core.List.{List, [], _∷_, map}
@@ -17,7 +17,7 @@ use Rattle.model.specs.Refusals.{refused, done}
 use Rattle.model.specs.Tables.{User, Access, Rule, Tables, userAt, userNamed}
 use Rattle.model.specs.Opening.{LoginState, State, emptyLogins, Texts, Fault, fault, quotas, opened, afterOpening}
 use Rattle.model.specs.Requests.{Ask, Request, login, inSession, get, push, logout, requestOf}
-use Rattle.model.specs.Serving.{indexIn, loginAt, readable, copyFor, stores, decide, refusal, session, length-is, accepted, Act, line, bufferOf, listOf, Outcome, outcome}
+use Rattle.model.specs.Serving.{indexIn, countIn, loginAt, readable, copyFor, stores, decide, refusal, session, length-is, accepted, Act, line, bufferOf, listOf, Outcome, outcome}
 use Rattle.model.specs.Runs.{eventIn, events, end, ownerIn, only, seenFields, sequence, got, creates, createdBy, isOpenNumber, gives, loginBy, closes, isOpenAfter}
 use Rattle.model.specs.Program.{printed, serveWith, serve}
 
@@ -204,7 +204,7 @@ LoginsEnd = (t : Texts) (s : State) → Reached t s → (i : ℕ) → loginAt s 
 abbrev pub NumberDivides : Type 0
 NumberDivides =
     (t : Texts) (s : State) (acts : List Act) → opened t ≡ done s → (a : Act) (n : ℕ) → outcome (end s acts) a .answer ≡ session n →
-    (ownerIn (eventIn (end s acts) a) ≡ some (indexIn n)) × (n % perUser ≡ suc (length (keep (loginBy (indexIn n)) (events s acts))))
+    (ownerIn (eventIn (end s acts) a) ≡ some (indexIn n)) × (countIn n ≡ suc (length (keep (loginBy (indexIn n)) (events s acts))))
 
 -- ── Condition 2: sessions (02, 1) ──
 -- a number is answered at most once
@@ -218,6 +218,13 @@ abbrev pub OpenBetween : Type 0
 OpenBetween =
     (t : Texts) (s : State) (acts : List Act) → opened t ≡ done s → (n : ℕ) →
     isOpenNumber (end s acts) n ≡ isOpenAfter (events s acts) n
+
+-- 02, 3: "divides the session number by 65,536 to find the user's place, and the remainder is the login count": in any state a number of any size is
+-- open exactly if the user at its place has a session and has had so many logins
+abbrev pub OpenByParts : Type 0
+OpenByParts =
+    (s : State) (n : ℕ) →
+    isOpenNumber s n ≡ (loginAt s (indexIn n) .isOpen && eqb (loginAt s (indexIn n) .logins) (countIn n))
 
 -- "LOGOUT gives 11, then 14": accepted exactly where the number is open
 abbrev pub LogoutAnswers : Type 0
@@ -253,10 +260,10 @@ StaysClosed =
 abbrev pub LogsInAgain : Type 0
 LogsInAgain =
     (t : Texts) (s : State) (acts : List Act) → opened t ≡ done s →
-    (n : ℕ) → any (closes n) (events s acts) ≡ true → n % perUser ≡ length (keep (loginBy (indexIn n)) (events s acts)) →
+    (n : ℕ) → any (closes n) (events s acts) ≡ true → countIn n ≡ length (keep (loginBy (indexIn n)) (events s acts)) →
     (name : Bytes) (u : User) → userNamed name (s .tables .users) ≡ some (indexIn n, u) →
     (x b : Bytes) (l : List ℕ) → requestOf x ≡ some (login name (u .key)) →
-    outcome (end s acts) (line x b l) .answer ≡ (if leb maxLogins (n % perUser) then refusal 18 else session (suc n))
+    outcome (end s acts) (line x b l) .answer ≡ (if leb maxLogins (countIn n) then refusal 18 else session (suc n))
 
 -- ── Condition 2: growth ──
 -- fields held less fields loaded are the accepted pushes that named an absent field

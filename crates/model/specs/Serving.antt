@@ -1,5 +1,5 @@
 -- Document 01, "Request lines": LOGIN, GET, PUSH and save; document 02, request 1: LOGOUT. What is decided only reads the state; what is decided then changes it.
-use Prim.Native.Nat.{ℕ, suc, _+_, _*_, _/_}
+use Prim.Native.Nat.{ℕ, suc, _+_, _*_, _/_, _%_}
 use mathlib.Core.Option.{Option, none, some}
 use mathlib.Core.List.{List, [], _∷_, _++_, map}
 use mathlib.Core.Bool.{Bool, true, false, not, _&&_}
@@ -28,6 +28,10 @@ sessionNumber i a = perUser * i + a .logins
 -- "number divided by 65,536, rounded down, is that user's place"
 unfoldable pub indexIn : ℕ → ℕ
 indexIn n = n / perUser
+
+-- "and the remainder is the login count" (02, 3)
+unfoldable pub countIn : ℕ → ℕ
+countIn n = n % perUser
 
 -- an open session has this number
 unfoldable pub isSession : ℕ → LoginState → ℕ → Bool
@@ -255,5 +259,5 @@ unfoldable pub outcome : State → Act → Outcome
 outcome s a = conclude s (bufferOf a) (listOf a) (decision s a)
 
 unfoldable pub Opened : Unit {0}
-unfolding SavedText.Opened Opening.Opened Requests.Opened sessionNumber indexIn isSession loginAt accessText tableLine ruleLine bindingLine copyOf readable copyFor asker decideShow decideLogin decideGet creating decidePush decideLogout roomFor decide decideSave apply readsBy readsAt receivers notified shown answerOf bufferOf listOf decideLine decision over unchanged conclude outcome
+unfolding SavedText.Opened Opening.Opened Requests.Opened sessionNumber indexIn countIn isSession loginAt accessText tableLine ruleLine bindingLine copyOf readable copyFor asker decideShow decideLogin decideGet creating decidePush decideLogout roomFor decide decideSave apply readsBy readsAt receivers notified shown answerOf bufferOf listOf decideLine decision over unchanged conclude outcome
 Opened = tt
