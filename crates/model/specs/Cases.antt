@@ -243,13 +243,15 @@ lastLogin : map (λ e. e .result .answer) (events almostAll (map (asked 0) (
 unfolding Program.Opened asked almostAll
 lastLogin = refl
 
--- the place and the count of a number (02, 3): the first and the last of a place, ann's, the last of all places, the next, and the last that a line may carry
+-- the place and the count of a number (02, 3): the first and the last of a place, the first of the next, ann's, the last of the last place, the one behind it, and the last
+-- that a line may carry
 numbersDivide : map {B = ℕ × ℕ} (λ n. (indexIn n, countIn n)) (0 ∷ 65535 ∷ 65536 ∷ 1 ∷ 2097151 ∷ 2097152 ∷ 4294967295 ∷ []) ≡
     (0, 0) ∷ (0, 65535) ∷ (1, 0) ∷ (0, 1) ∷ (31, 65535) ∷ (32, 0) ∷ (65535, 65535) ∷ []
 unfolding Program.Opened
 numbersDivide = refl
 
--- ann's number is open; those of her place with another count and those of another place with her count are not, though 2,097,153 is hers by a place taken modulo 32
+-- ann's number is open; those of her place with another count and those of another place with her count are not, though 2,097,153 is hers by a place taken modulo 32; nor is
+-- the last that a line may carry, and the one behind it is no number
 onlyHers : map (λ e. e .result .answer) (events clubState (map (asked 0) (
     "LOGIN;ann;k1" ∷
     "LOGOUT;0" ∷

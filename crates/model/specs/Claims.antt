@@ -220,7 +220,7 @@ OpenBetween =
     isOpenNumber (end s acts) n ≡ isOpenAfter (events s acts) n
 
 -- 02, 3: "divides the session number by 65,536 to find the user's place, and the remainder is the login count": in any state a number of any size is
--- open exactly if the user at its place has a session and has had so many logins
+-- open exactly if the login state at its index is, and has as many logins as its remainder
 abbrev pub OpenByParts : Type 0
 OpenByParts =
     (s : State) (n : ℕ) →
