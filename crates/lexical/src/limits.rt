@@ -38,8 +38,8 @@ pub const MAX_SESSION: u64 = 4294967295;
 // Numbers that the list of a push must have room for.
 pub const LIST_ROOM: usize = 32;
 
-// A session's number: the user's index times this, and the logins, which end at the last number below it.
-pub const PER_USER: u32 = 65536;
+// A session's number has the logins in its lowest bits, this many, and the user's index above them, that is times 65,536. The logins end at the last number that fits.
+pub const LOGIN_BITS: u32 = 16;
 
 pub const MAX_LOGINS: u16 = 65535;
 

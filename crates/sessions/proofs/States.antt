@@ -1,6 +1,6 @@
 -- The login states in memory: the one at an index, one written, what a login is decided to be, and whether a number is an open session's.
-use Prim.Native.Nat.{ℕ, suc, _+_, _*_, _/_, _≤_, _<_}
-use mathlib.Core.Path.{_≡_, refl, sym, ap, _∙_}
+use Prim.Native.Nat.{ℕ, suc, _+_, _*_, _≤_, _<_}
+use mathlib.Core.Path.{_≡_, refl, sym, ap, ap₂, _∙_}
 use mathlib.Core.Bool.{Bool, true, false, not, _&&_}
 use mathlib.Core.Option.{Option, none, some}
 use mathlib.Core.List.{List, [], _∷_, append-assoc}
@@ -16,12 +16,13 @@ use Rattle.rows.specs.Rows.{rows, replaced, written}
 use Rattle.rows.proofs.Rows.{length-rows, row-at, rows-set, map-set, getD-map}
 use Rattle.rows.proofs.Parts.{part-at, part-part}
 use Rattle.model.specs.Base.{Bytes, if_then_else_, firstFrom, _==_}
-use Rattle.model.specs.Limits.{maxUsers, perUser, maxLogins}
+use Rattle.model.specs.Limits.{maxUsers, maxLogins}
 use Rattle.model.specs.Refusals.{refused, done, _>>=_, _>>_, refuse_if_, _or_}
 use Rattle.model.specs.Tables.{User, userAt, userNamed}
 use Rattle.model.specs.Opening.{LoginState, emptyLogin}
-use Rattle.model.specs.Serving.{setsLogin, loginAt, decideLogin, isSession, indexIn, sessionNumber}
+use Rattle.model.specs.Serving.{setsLogin, loginAt, decideLogin, indexIn, countIn}
 use Rattle.model.proofs.Lists.{by-cases, elem-below}
+use Rattle.model.proofs.Sessions.{parts-session}
 use Rattle.layout.specs.Layout.{inUse, nameRow, nameIn}
 use Rattle.tables.specs.Memory.{userRow, keyAt, userIn, usersIn, userAnswer}
 use Rattle.tables.specs.declared.memory.UserAt.{UserAt}
@@ -29,7 +30,8 @@ use Rattle.tables.specs.declared.memory.UserAt.the-variants.{At, Unknown}
 use Rattle.layout.proofs.Used.{length-table, counted-fit}
 use Rattle.tables.proofs.Users.{user-none, user-some}
 use Rattle.sessions.specs.declared.LoginState as code
-use Rattle.sessions.specs.Logins.{loginRow, loginNumbers, loginIn, loginsIn, stateOf, numbersOf, withLogin, StateStored, withSession, entered, loginDecided, sessionIs, hasSession}
+use Rattle.sessions.specs.declared.NumberParts.{NumberParts}
+use Rattle.sessions.specs.Logins.{loginRow, loginNumbers, loginIn, loginsIn, stateOf, numbersOf, withLogin, StateStored, withSession, entered, loginDecided, partsIn, sessionIs, hasSession}
 
 -- ── A login state in its three numbers ──
 -- a flag is stored as 1 or 0
@@ -169,27 +171,44 @@ login-unknown s n at found ls k = go (userNamed n (usersIn s)) refl (sym at ∙ 
     go none e f = rw e
     go (some t) e f = let z : _≡_ {A = ℕ} 0 1 = cc in absurd (omega arith)
 
--- ── A session's number: m users were counted ──
-module _ (s : Bytes) (ls : List LoginState) (n : ℕ) {m : ℕ} (counted : m ≡ length (inUse userRow maxUsers s)) where
-  -- the number's index is a user's, or nobody's
-  pub session-user : n / perUser < m → n / perUser < maxUsers
-  session-user h = omega (arith, counted-fit userRow maxUsers s counted)
+-- ── A session's number ──
+-- the bits in which the logins stand: 2 to their power is perUser
+abbrev pub loginBits : ℕ
+loginBits = 16
 
-  pub session-none : m ≤ n / perUser → hasSession (usersIn s) ls n ≡ false
-  unfolding hasSession sessionIs indexIn
-  session-none h = rw (user-none s counted (n / perUser) h)
+-- n is taken apart into p, and m users were counted
+module _ (s : Bytes) (ls : List LoginState) (n : ℕ) {p : NumberParts} (split : p ≡ partsIn n) {m : ℕ} (counted : m ≡ length (inUse userRow maxUsers s)) where
+  index-is : p .index ≡ indexIn n
+  index-is = ap (λ (q : NumberParts). q .index) split
 
-  -- it is a user's, whose login state is a: no session is open, one of another number r, or the one of the number n
-  module _ (below : n / perUser < m) {a : LoginState} (state : a ≡ getD ls (n / perUser) emptyLogin) where
-    session-is : hasSession (usersIn s) ls n ≡ (a .isOpen && eqb (sessionNumber (n / perUser) a) n)
-    unfolding hasSession sessionIs indexIn isSession
-    session-is = rw (user-some s counted (n / perUser) below refl, ← state)
+  count-is : p .logins ≡ countIn n
+  count-is = ap (λ (q : NumberParts). q .logins) split
 
-    pub session-closed : a .isOpen ≡ false → hasSession (usersIn s) ls n ≡ false
-    session-closed h = session-is ∙ rw h
+  -- its index is nobody's
+  pub session-none : m ≤ p .index → hasSession (usersIn s) ls n ≡ false
+  unfolding hasSession sessionIs
+  session-none h = rw (user-none s counted (indexIn n) (omega (arith, index-is)))
 
-    pub session-other : a .isOpen ≡ true → {r : ℕ} → r ≡ sessionNumber (n / perUser) a → (r ≡ n → ⊥) → hasSession (usersIn s) ls n ≡ false
-    session-other h e f = session-is ∙ rw (← e, h, ne-eqb _ n f)
+  -- or a user's, whose login state is a: no session is open, one at another count than the number's, or the one of the number
+  module _ (below : p .index < m) where
+    pub session-below : p .index < maxUsers
+    session-below = omega (arith, counted-fit userRow maxUsers s counted)
 
-    pub session-open : a .isOpen ≡ true → {r : ℕ} → r ≡ sessionNumber (n / perUser) a → r ≡ n → hasSession (usersIn s) ls n ≡ true
-    session-open h e f = session-is ∙ rw (← e, h, eq-eqb _ n f)
+    module _ {a : LoginState} (state : a ≡ getD ls (p .index) emptyLogin) where
+      session-is : hasSession (usersIn s) ls n ≡ (a .isOpen && eqb (a .logins) (p .logins))
+      unfolding hasSession sessionIs
+      session-is =
+          let own = getD ls (indexIn n) emptyLogin in
+          let same : own ≡ a = sym (state ∙ ap (λ (j : ℕ). getD ls j emptyLogin) index-is) in
+          rw (user-some s counted (indexIn n) (omega (arith, index-is)) refl)
+          (parts-session own n ∙ ap₂ (λ (b : LoginState) (c : ℕ). b .isOpen && eqb (b .logins) c) same (sym count-is))
+
+      pub session-closed : a .isOpen ≡ false → hasSession (usersIn s) ls n ≡ false
+      session-closed h = session-is ∙ rw h
+
+      module _ (is-open : a .isOpen ≡ true) where
+        pub session-other : (a .logins ≡ p .logins → ⊥) → hasSession (usersIn s) ls n ≡ false
+        session-other f = session-is ∙ rw (is-open, ne-eqb (a .logins) (p .logins) f)
+
+        pub session-open : a .logins ≡ p .logins → hasSession (usersIn s) ls n ≡ true
+        session-open e = session-is ∙ rw (is-open, eq-eqb (a .logins) (p .logins) e)

@@ -13,11 +13,12 @@ use Rattle.model.specs.Refusals.{Result, refused, done}
 use Rattle.model.specs.Tables.{User, userAt}
 use Rattle.model.specs.Opening.{LoginState, emptyLogin}
 use Rattle.model.specs.Serving as serving
-use Rattle.model.specs.Serving.{Change, setsLogin, shows, stores, isSession, indexIn, sessionNumber, decideLogin}
+use Rattle.model.specs.Serving.{Change, setsLogin, shows, stores, isSession, indexIn, countIn, sessionNumber, decideLogin}
 use Rattle.tables.specs.Memory.{usersIn}
 use Rattle.sessions.specs.declared.LoginState as code
 use Rattle.sessions.specs.declared.LoginReply.{LoginReply}
 use Rattle.sessions.specs.declared.LoginReply.the-variants as login
+use Rattle.sessions.specs.declared.NumberParts.{NumberParts}
 use Rattle.sessions.specs.declared.SessionAt.{SessionAt}
 use Rattle.sessions.specs.declared.SessionAt.the-variants as session
 
@@ -100,6 +101,10 @@ pub record LoggedIn (tables : Bytes) (before : List ℕ) (name key : Bytes) (r :
   pub numbers : after ≡ numbersAfter (loginDecided (usersIn tables) (loginsIn before) name key) before
 
 -- ── A session's number ──
+-- "The place and the count found are those of document 01's division, for every number a line may carry" (02, 3)
+abbrev pub partsIn : ℕ → NumberParts
+partsIn n = record { index = indexIn n; logins = countIn n }
+
 unfoldable pub sessionIs : Option User → ℕ → LoginState → ℕ → Bool
 sessionIs none i a n = false
 sessionIs (some u) i a n = isSession i a n

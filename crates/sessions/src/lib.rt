@@ -2,8 +2,8 @@
 use layout::name::NAME_ROW;
 use layout::name::name_from;
 use layout::table::row_count;
+use lexical::limits::LOGIN_BITS;
 use lexical::limits::MAX_LOGINS;
-use lexical::limits::PER_USER;
 use lexical::slice::same_bytes;
 use tables::memory::KEY;
 use tables::memory::TABLES;
@@ -17,12 +17,15 @@ ghost use lib.ListN.{getD};
 ghost use Rattle.model.specs.Limits.{maxUsers, maxLogins};
 ghost use Rattle.model.specs.Opening.{emptyLogin};
 ghost use Rattle.model.specs.Serving.{sessionNumber};
-ghost use Rattle.sessions.specs.Logins.{loginsIn, stateOf, StateStored, withSession, entered, closed, LoggedIn, sessionOf};
+ghost use Rattle.sessions.specs.Logins.{loginsIn, stateOf, StateStored, withSession, entered, closed, LoggedIn, partsIn, sessionOf};
 
 // A login state: the logins, whether a session is open, the fields created.
 pub const LOGIN_ROW: usize = 3;
 
 pub const LOGINS: usize = USERS * LOGIN_ROW;
+
+// The bits of the logins, all set.
+const LOGIN_MASK: u32 = (1 << LOGIN_BITS) - 1;
 
 pub struct LoginState {
     pub logins: u16,
@@ -34,6 +37,12 @@ pub struct LoginState {
 pub enum LoginReply {
     Session(u32),
     Refused(usize),
+}
+
+// A number in the two parts that document 01 divides it into: a user's index, if there is such a user, and a count of logins.
+pub struct NumberParts {
+    pub index: usize,
+    pub logins: u16,
 }
 
 // The user index of an open session.
@@ -72,7 +81,17 @@ pub fn number(i: usize, state: LoginState) -> u32
     requires { ⌜ i < maxUsers ⌝ }
     ensures { λ r. ⌜ r ≡ sessionNumber i (stateOf state) ⌝ }
 {
-    PER_USER * (i as u32) + (state.logins as u32)
+    ((i as u32) << LOGIN_BITS) | (state.logins as u32)
+}
+
+// A u32 of any value, taken apart without a division.
+pub fn split_number(n: u32) -> NumberParts
+    ensures { λ r. ⌜ r ≡ partsIn n ⌝ }
+{
+    NumberParts {
+        index: (n >> LOGIN_BITS) as usize,
+        logins: (n & LOGIN_MASK) as u16,
+    }
 }
 
 // The login count and whether a session is open become these; the fields created stay counted.
@@ -135,11 +154,12 @@ pub fn login(
     LoginReply::Session(number(i, next))
 }
 
-// The user whose open session has the number n.
+// The user whose open session has the number n: the one at its index, with its count of logins.
 pub fn session(tables: &[u8; TABLES], logins: &[u16; LOGINS], n: u32) -> SessionAt
     ensures { λ r. ⌜ r ≡ sessionOf (now (tables .entry)) (now (logins .entry)) n ⌝ }
 {
-    let i = (n / PER_USER) as usize;
+    let parts = split_number(n);
+    let i = parts.index;
     if row_count(tables, USER, USERS) <= i {
         return SessionAt::Unknown;
     }
@@ -147,7 +167,7 @@ pub fn session(tables: &[u8; TABLES], logins: &[u16; LOGINS], n: u32) -> Session
     if !state.is_open {
         return SessionAt::Unknown;
     }
-    if number(i, state) != n {
+    if state.logins != parts.logins {
         return SessionAt::Unknown;
     }
     SessionAt::Of(i)
