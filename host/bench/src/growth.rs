@@ -17,7 +17,7 @@ pub struct Growth {
     pub costs: Vec<Cost>,
 }
 
-/// Microseconds, of the proved server and of the second one.
+/// Microseconds, of the proved server and of the other one.
 pub struct Cost {
     pub size: usize,
     /// The bytes of a copy, on the average of those who ask.

@@ -1,4 +1,5 @@
-//! Measures the proved server and the second implementation, side by side.
+//! Measures the proved server and the second implementation, or an earlier build
+//! of the proved one, side by side.
 
 mod growth;
 mod halls;
@@ -16,6 +17,7 @@ use std::{env, fs};
 use growth::{Cost, Growth};
 use halls::Hall;
 use program::Programs;
+use subject::OTHER;
 use timing::{measure, measure_long, Contest, Rates};
 
 const USAGE: &str = "usage: bench [--serve FILE] [--long-day | [--growth] [--svg FILE]]";
@@ -58,6 +60,7 @@ fn main() -> ExitCode {
         eprintln!("{USAGE}");
         return ExitCode::from(2);
     };
+    subject::check_sizes();
     if options.only_long_day {
         print_long_day(options.serve.as_deref());
         return ExitCode::SUCCESS;
@@ -103,7 +106,7 @@ fn print_rows(title: &str, hall: &Hall, with_room: &Hall) {
 }
 
 /// Prints the rows of the long day, which is run through the library and, where
-/// the programs are found, through them.
+/// the programs are found, through them; an earlier build is a library alone.
 fn print_long_day(serve: Option<&str>) {
     let hall = Hall::long_day();
     tasks::check(&hall);
@@ -115,17 +118,23 @@ fn print_long_day(serve: Option<&str>) {
         ("opening", tasks::opening(&hall)),
     ]);
     print_row("the day", &measure_long(tasks::day(&hall)));
-    let through_programs = Programs::find(serve)
-        .and_then(|programs| programs.contest(&hall).map_err(|error| error.to_string()));
-    match through_programs {
-        Ok(contest) => print_row("the day, through the programs", &measure_long(contest)),
-        Err(missing) => println!("\nThe day was not run through the programs: {missing}"),
+    if !cfg!(feature = "former") {
+        print_programs(serve, &hall);
     }
     println!();
 }
 
+fn print_programs(serve: Option<&str>, hall: &Hall) {
+    let contest = Programs::find(serve)
+        .and_then(|programs| programs.contest(hall).map_err(|error| error.to_string()));
+    match contest {
+        Ok(contest) => print_row("the day, through the programs", &measure_long(contest)),
+        Err(missing) => println!("\nThe day was not run through the programs: {missing}"),
+    }
+}
+
 fn print_head(title: &str) {
-    println!("## {title}\n\n| | proved/s | second/s | ratio |\n|---|---:|---:|---:|");
+    println!("## {title}\n\n| | proved/s | {OTHER}/s | ratio |\n|---|---:|---:|---:|");
 }
 
 fn print_measured<const N: usize>(rows: [(&str, Contest); N]) {
@@ -136,7 +145,7 @@ fn print_measured<const N: usize>(rows: [(&str, Contest); N]) {
 }
 
 fn print_row(name: &str, rates: &Rates) {
-    println!("| {name} | {:.0} | {:.0} | {:.2} |", rates.proved, rates.second, rates.ratio);
+    println!("| {name} | {:.0} | {:.0} | {:.2} |", rates.proved, rates.other, rates.ratio);
 }
 
 /// Measures and prints one growth after the other.
@@ -147,10 +156,10 @@ fn print_growths() -> Vec<Growth> {
 
 fn print_growth(Growth { size, at, costs }: &Growth) {
     println!("## Microseconds by {size}, {at}\n");
-    println!("| {size} | bytes of a copy | GET proved | GET second | PUSH proved | PUSH second |");
+    println!("| {size} | bytes of a copy | GET proved | GET {OTHER} | PUSH proved | PUSH {OTHER} |");
     println!("|---:|---:|---:|---:|---:|---:|");
     for Cost { size, copy, get, push } in costs {
-        let [get, push] = [get, push].map(|[proved, second]| format!("{proved:.2} | {second:.2}"));
+        let [get, push] = [get, push].map(|[proved, other]| format!("{proved:.2} | {other:.2}"));
         println!("| {size} | {copy} | {get} | {push} |");
     }
     println!();

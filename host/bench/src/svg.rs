@@ -4,11 +4,12 @@
 use std::fmt::Write;
 
 use crate::growth::{Cost, Growth};
+use crate::subject::OTHER;
 
 const WIDTH: f64 = 900.0;
 const ROW: f64 = 370.0;
 const COLOURS: [&str; 2] = ["#1f5fa8", "#c4501b"];
-const NAMES: [&str; 2] = ["proved", "second"];
+const NAMES: [&str; 2] = ["proved", OTHER];
 
 /// The part of the picture that a panel's lines are drawn in.
 struct Panel<'a> {

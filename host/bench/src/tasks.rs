@@ -5,7 +5,7 @@ use std::hint::black_box;
 use jesovanga::{COPY, LIST};
 
 use crate::halls::{Hall, Line};
-use crate::subject::Subject;
+use crate::subject::{other, Subject};
 use crate::timing::{Contest, Round};
 
 /// The fewest requests of a round, so that it is not too short for the clock.
@@ -86,7 +86,7 @@ macro_rules! both {
     ($task:ident, $($argument:expr),*) => {
         Contest::new(
             $task::<jesovanga::Server>($($argument),*),
-            $task::<second::Server>($($argument),*),
+            $task::<other::Server>($($argument),*),
         )
     };
 }
@@ -171,12 +171,12 @@ pub fn opening(hall: &Hall) -> Contest {
 /// Both answer a day in the hall alike, or there is nothing to measure.
 pub fn check(hall: &Hall) {
     let mut proved = jesovanga::Server::opened(&hall.texts);
-    let mut second = second::Server::opened(&hall.texts);
+    let mut other = other::Server::opened(&hall.texts);
     let (mut ours, mut theirs) = (Desk::new(), Desk::new());
     for line in hall.day() {
         let answer = proved.ask(&line, &mut ours.buffer, &mut ours.list);
-        let other = second.ask(&line, &mut theirs.buffer, &mut theirs.list);
-        assert_eq!(answer, other, "{}", line.escape_ascii());
+        let expected = other.ask(&line, &mut theirs.buffer, &mut theirs.list);
+        assert_eq!(answer, expected, "{}", line.escape_ascii());
         assert!(ours.buffer == theirs.buffer && ours.list == theirs.list);
     }
 }

@@ -48,7 +48,7 @@ impl Round {
 /// one is: each the median of the measurements.
 pub struct Rates {
     pub proved: f64,
-    pub second: f64,
+    pub other: f64,
     pub ratio: f64,
 }
 
@@ -56,39 +56,39 @@ impl Rates {
     fn medians(rates: &[[f64; 2]]) -> Rates {
         Rates {
             proved: median(rates.iter().map(|[proved, _]| *proved)),
-            second: median(rates.iter().map(|[_, second]| *second)),
-            ratio: median(rates.iter().map(|[proved, second]| proved / second)),
+            other: median(rates.iter().map(|[_, other]| *other)),
+            ratio: median(rates.iter().map(|[proved, other]| proved / other)),
         }
     }
 
     /// Microseconds that a request takes.
     pub fn micros(&self) -> [f64; 2] {
-        [self.proved, self.second].map(|rate| 1e6 / rate)
+        [self.proved, self.other].map(|rate| 1e6 / rate)
     }
 }
 
 /// One task for both servers.
 pub struct Contest {
     proved: Box<dyn FnMut() -> Round>,
-    second: Box<dyn FnMut() -> Round>,
+    other: Box<dyn FnMut() -> Round>,
 }
 
 impl Contest {
     pub fn new(
         proved: impl FnMut() -> Round + 'static,
-        second: impl FnMut() -> Round + 'static,
+        other: impl FnMut() -> Round + 'static,
     ) -> Self {
-        Contest { proved: Box::new(proved), second: Box::new(second) }
+        Contest { proved: Box::new(proved), other: Box::new(other) }
     }
 
     /// Times the two in turn, after a round of each that only warms up.
     fn measure(&mut self) -> [f64; 2] {
         let (mut ours, mut theirs) = (Round::default(), Round::default());
         (self.proved)();
-        (self.second)();
+        (self.other)();
         while ours.time < AT_LEAST || theirs.time < AT_LEAST {
             ours.add_turn(&mut self.proved);
-            theirs.add_turn(&mut self.second);
+            theirs.add_turn(&mut self.other);
         }
         [ours.rate(), theirs.rate()]
     }
@@ -109,7 +109,7 @@ pub fn measure<const N: usize>(mut contests: [Contest; N]) -> [Rates; N] {
 /// Measures a task whose rounds are long: one of each server in turn. They need
 /// no warming up.
 pub fn measure_long(mut contest: Contest) -> Rates {
-    let rates = [(); LONG_TIMES].map(|()| [(contest.proved)().rate(), (contest.second)().rate()]);
+    let rates = [(); LONG_TIMES].map(|()| [(contest.proved)().rate(), (contest.other)().rate()]);
     Rates::medians(&rates)
 }
 

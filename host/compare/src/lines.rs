@@ -126,7 +126,8 @@ impl Guide<'_> {
             4 => place * RANGE + 2,
             5 => rng.below(200),
             6 => *rng.pick(&[0xFFFF_FFFF, 0x1_0000_0000, 0x1_0000_0001, 0xFFFF, 32 * RANGE]),
-            7..=8 => self.to_come(rng),
+            7 => self.to_come(rng),
+            8 => self.one_bit_off(rng),
             _ => rng.below(1 << 33),
         }
     }
@@ -137,6 +138,15 @@ impl Guide<'_> {
         match given {
             [] => rng.between(1, 3),
             _ => rng.pick(given) + rng.between(1, 3),
+        }
+    }
+
+    /// The number of an open session but for one bit: every bit of it counts.
+    fn one_bit_off(&self, rng: &mut Rng) -> usize {
+        let bit = 1 << rng.below(32);
+        match self.sessions {
+            [] => bit,
+            open => rng.pick(open) ^ bit,
         }
     }
 
