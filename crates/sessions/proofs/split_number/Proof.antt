@@ -1,4 +1,6 @@
 -- What is shifted down is the quotient, and the bits below are the remainder.
+use Prim.Native.Nat.{ℕ}
+use mathlib.Core.Path.{ap}
 use lib.Bits.{and-mask, mask-lt}
 use borrow.Author.Needs.{needs}
 use Rattle.model.specs.Serving.{indexIn, countIn}
@@ -8,7 +10,7 @@ use Rattle.sessions.proofs.split_number.Tie as tie
 
 returns : tie.Need-returns
 unfolding indexIn countIn
-returns c = rw (and-mask (c .args .n) loginBits)
+returns c = ap (λ (logins : ℕ). record { index = indexIn (c .args .n); logins = logins }) (and-mask (c .args .n) loginBits)
 
 cast-t3 : tie.Need-cast-t3
 cast-t3 c = search needs
