@@ -1,10 +1,9 @@
 -- Short texts byte by byte; else the first words decide, or the second ones, which begin within the first or behind them, or what stands behind these.
-use mathlib.Core.Path.{_≡_, _∙_}
-use lib.ListN.{drop}
+use mathlib.Core.Path.{sym, _∙_}
 use Rattle.rows.proofs.Parts.{tail-part}
 use borrow.Author.Needs.{needs}
 use Rattle.model.specs.Fields.{orderKey}
-use Rattle.lexical.specs.Orders.{wordBytes, bigEndian}
+use Rattle.lexical.specs.Orders.{wordBytes}
 use Rattle.lexical.proofs.Words.{word-behind, second-behind, second-same}
 use Rattle.lexical.proofs.slice.is_behind.Statement.{statement}
 use Rattle.lexical.proofs.slice.is_behind.Tie as tie
@@ -68,7 +67,8 @@ returns-3 c =
     let a = k .before .before .args .a .now in
     let b = k .before .before .args .b .now in
     let at = m .least2 .result in
-    let e : bigEndian wordBytes a ≡ bigEndian wordBytes b = cc in
+    let w = m .before in
+    let e = sym (w .before .before .word .ensures) ∙ w .if2 .left ∙ w .before .word2 .ensures in
     rw (c .before .before .before .word3 .ensures, c .before .word4 .ensures, tail-part at a, tail-part at b)
     (second-behind wordBytes a b (search needs) (search needs) (λ i. k .before .shared-slice-known .given i .fits) (λ i. k .shared-slice-known2 .given i .fits)
     at (search needs) e (search needs) (search needs)
@@ -88,8 +88,10 @@ returns-4 c =
     let a = k .before .before .args .a .now in
     let b = k .before .before .args .b .now in
     let at = m .least2 .result in
-    let e : bigEndian wordBytes a ≡ bigEndian wordBytes b = cc in
-    let f : bigEndian wordBytes (drop at a) ≡ bigEndian wordBytes (drop at b) = cc (tail-part at a, tail-part at b) in
+    let w = m .before in
+    let e = sym (w .before .before .word .ensures) ∙ w .if2 .left ∙ w .before .word2 .ensures in
+    let v = c .before in
+    let f = rw (tail-part at a, tail-part at b) at (sym (v .before .before .before .word3 .ensures) ∙ v .if3 .left ∙ v .before .word4 .ensures) in
     c .is-behind-from2 .ensures ∙ rw (second-same wordBytes a b (search needs) (search needs) (λ i. k .before .shared-slice-known .given i .fits) (λ i. k .shared-slice-known2 .given i .fits)
     at (search needs) e (search needs) (search needs) f)
 

@@ -1,6 +1,6 @@
 -- The last words differ, or the first words decide, which reach as far as these.
 use Prim.Native.Nat.{_-_}
-use mathlib.Core.Path.{_≡_, sym}
+use mathlib.Core.Path.{sym, _∙_}
 use lib.ListN.{length, drop}
 use Rattle.rows.proofs.Parts.{tail-part}
 use borrow.Author.Needs.{needs}
@@ -60,7 +60,8 @@ returns-2 c =
     let a = s .args .a .now in
     let b = s .args .b .now in
     let at = length a - wordBytes in
-    let f : bigEndian wordBytes (drop at a) ≡ bigEndian wordBytes (drop at b) = cc (tail-part at a, tail-part at b) in
+    let v = c .before .before in
+    let f = rw (tail-part at a, tail-part at b) at (sym (v .before .before .before .word .ensures) ∙ v .if1 .left ∙ v .before .word2 .ensures) in
     rw (c .before .word3 .ensures, c .word4 .ensures)
     (words-same wordBytes a b (search needs) (search needs) (λ i. k .before .shared-slice-known .given i .fits) (λ i. k .shared-slice-known2 .given i .fits)
     at (search needs) (search needs) (search needs) f)
