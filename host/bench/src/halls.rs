@@ -22,8 +22,10 @@ const OWN: usize = 4;
 
 const DAY_SEED: u64 = 1871;
 
-/// Session numbers of one user lie within one such range.
+/// Session numbers of one user lie within one such range, as many as a user has
+/// logins, and one that no session has.
 const RANGE: usize = 65_536;
+pub const MAX_LOGINS: usize = RANGE - 1;
 
 /// What a day is made of.
 #[derive(Clone, Copy)]
@@ -149,17 +151,12 @@ impl Hall {
         }
     }
 
-    /// The logins with keys that are wrong.
-    pub fn wrong_logins(&self) -> Vec<Line> {
-        self.logins.iter().map(|line| [line, &b"x"[..]].concat()).collect()
-    }
-
     /// A day in this hall: all log in; then mostly pushes, some copies, a few
     /// lines that are refused. Now and then a user leaves and comes back soon;
     /// meanwhile that user's lines have a closed number.
     pub fn day(&self) -> Vec<Line> {
         let mut rng = Rng::new(DAY_SEED);
-        let mut seats = Seats::new(self.logins.len());
+        let mut seats = Seats::new(self.logins.len(), 1);
         let mut day = self.logins.clone();
         while day.len() < self.mix.lines {
             let line = match seats.out {
@@ -213,8 +210,9 @@ struct Seats {
 }
 
 impl Seats {
-    fn new(users: usize) -> Self {
-        Seats { logins: vec![1; users], out: None }
+    /// All are in, and each has logged in so often.
+    fn new(users: usize, logins: usize) -> Self {
+        Seats { logins: vec![logins; users], out: None }
     }
 
     /// The logout of any user, who is out then.
@@ -240,6 +238,12 @@ impl Seats {
         parts[1] = last.as_bytes();
         parts.join(&b';')
     }
+}
+
+/// The logouts of all users, each of whom has logged in so often.
+pub fn after_logins(logouts: &[Line], logins: usize) -> Vec<Line> {
+    let seats = Seats::new(logouts.len(), logins);
+    logouts.iter().map(|line| seats.numbered(line)).collect()
 }
 
 fn number(text: &[u8]) -> Option<usize> {

@@ -134,7 +134,8 @@ fn print_programs(serve: Option<&str>, hall: &Hall) {
 }
 
 fn print_head(title: &str) {
-    println!("## {title}\n\n| | proved/s | {OTHER}/s | ratio |\n|---|---:|---:|---:|");
+    println!("## {title}\n\n| | proved/s | {OTHER}/s | ratio | least to most |");
+    println!("|---|---:|---:|---:|---|");
 }
 
 fn print_measured<const N: usize>(rows: [(&str, Contest); N]) {
@@ -144,8 +145,8 @@ fn print_measured<const N: usize>(rows: [(&str, Contest); N]) {
     }
 }
 
-fn print_row(name: &str, rates: &Rates) {
-    println!("| {name} | {:.0} | {:.0} | {:.2} |", rates.proved, rates.other, rates.ratio);
+fn print_row(name: &str, Rates { proved, other, ratio, least, most }: &Rates) {
+    println!("| {name} | {proved:.0} | {other:.0} | {ratio:.2} | {least:.2} to {most:.2} |");
 }
 
 /// Measures and prints one growth after the other.
@@ -156,7 +157,9 @@ fn print_growths() -> Vec<Growth> {
 
 fn print_growth(Growth { size, at, costs }: &Growth) {
     println!("## Microseconds by {size}, {at}\n");
-    println!("| {size} | bytes of a copy | GET proved | GET {OTHER} | PUSH proved | PUSH {OTHER} |");
+    println!(
+        "| {size} | bytes of a copy | GET proved | GET {OTHER} | PUSH proved | PUSH {OTHER} |"
+    );
     println!("|---:|---:|---:|---:|---:|---:|");
     for Cost { size, copy, get, push } in costs {
         let [get, push] = [get, push].map(|[proved, other]| format!("{proved:.2} | {other:.2}"));

@@ -4,7 +4,7 @@ use std::hint::black_box;
 
 use jesovanga::{COPY, LIST};
 
-use crate::halls::{Hall, Line};
+use crate::halls::{after_logins, Hall, Line, MAX_LOGINS};
 use crate::subject::{other, Subject};
 use crate::timing::{Contest, Round};
 
@@ -91,16 +91,46 @@ macro_rules! both {
     };
 }
 
-fn login_rounds<S: Subject>(hall: &Hall) -> impl FnMut() -> Round {
-    on_copies(S::opened(&hall.texts), &hall.wrong_logins(), &hall.logins)
+/// All users log in and out, over and over, each time with the next numbers; the
+/// servers are renewed when their users have had all logins. Gives the time of
+/// the logins and that of the logouts.
+fn session_rounds<S: Subject>(hall: &Hall) -> impl FnMut() -> [Round; 2] {
+    let (state, mut desk) = (S::opened(&hall.texts), Desk::new());
+    let (logins, logouts) = (hall.logins.clone(), hall.logouts.clone());
+    let copies = ROUND.div_ceil(logins.len());
+    let mut trial = state.clone();
+    for count in 1..=2 {
+        desk.ask_accepted(&mut trial, &logins);
+        desk.ask_accepted(&mut trial, &after_logins(&logouts, count));
+    }
+    let (mut servers, mut count) = (Vec::new(), MAX_LOGINS);
+    move || {
+        if count == MAX_LOGINS {
+            (servers, count) = (vec![state.clone(); copies], 0);
+        }
+        count += 1;
+        [&logins, &after_logins(&logouts, count)].map(|lines| {
+            Round::timed(copies * lines.len(), || {
+                servers.iter_mut().for_each(|server| desk.ask(server, lines));
+            })
+        })
+    }
 }
 
-/// The logins are refused, as all are in; they only bring the copy into the
-/// cache.
+fn login_rounds<S: Subject>(hall: &Hall) -> impl FnMut() -> Round {
+    let mut sessions = session_rounds::<S>(hall);
+    move || {
+        let [logins, _] = sessions();
+        logins
+    }
+}
+
 fn logout_rounds<S: Subject>(hall: &Hall) -> impl FnMut() -> Round {
-    let state = attended::<S>(hall);
-    Desk::new().ask_accepted(&mut state.clone(), &hall.logouts);
-    on_copies(state, &hall.logins, &hall.logouts)
+    let mut sessions = session_rounds::<S>(hall);
+    move || {
+        let [_, logouts] = sessions();
+        logouts
+    }
 }
 
 fn new_push_rounds<S: Subject>(hall: &Hall) -> impl FnMut() -> Round {

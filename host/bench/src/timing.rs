@@ -45,19 +45,25 @@ impl Round {
 }
 
 /// Requests a second of both servers, and how many times as fast the proved
-/// one is: each the median of the measurements.
+/// one is: each the median of the measurements. The least and the most of those
+/// ratios say how far they can be trusted.
 pub struct Rates {
     pub proved: f64,
     pub other: f64,
     pub ratio: f64,
+    pub least: f64,
+    pub most: f64,
 }
 
 impl Rates {
     fn medians(rates: &[[f64; 2]]) -> Rates {
+        let ratios = sorted(rates.iter().map(|[proved, other]| proved / other));
         Rates {
-            proved: median(rates.iter().map(|[proved, _]| *proved)),
-            other: median(rates.iter().map(|[_, other]| *other)),
-            ratio: median(rates.iter().map(|[proved, other]| proved / other)),
+            proved: median(&sorted(rates.iter().map(|[proved, _]| *proved))),
+            other: median(&sorted(rates.iter().map(|[_, other]| *other))),
+            ratio: median(&ratios),
+            least: ratios[0],
+            most: ratios[ratios.len() - 1],
         }
     }
 
@@ -113,8 +119,12 @@ pub fn measure_long(mut contest: Contest) -> Rates {
     Rates::medians(&rates)
 }
 
-fn median(numbers: impl Iterator<Item = f64>) -> f64 {
+fn sorted(numbers: impl Iterator<Item = f64>) -> Vec<f64> {
     let mut numbers: Vec<f64> = numbers.collect();
     numbers.sort_by(f64::total_cmp);
-    numbers[numbers.len() / 2]
+    numbers
+}
+
+fn median(sorted: &[f64]) -> f64 {
+    sorted[sorted.len() / 2]
 }
