@@ -2,13 +2,13 @@
 ghost use Rattle.std.specs.Prelude.{◌≡◌, map, ◌+◌, ◌≤◌, ◌<◌, ◌^◌, length};
 ghost use Rattle.rows.specs.Rows.{Wrote};
 ghost use Rattle.model.specs.Base.{joined, keep};
-ghost use Rattle.model.specs.Limits.{maxUsers};
-ghost use Rattle.model.specs.Rights.{isFor};
-ghost use Rattle.model.specs.Serving.{ruleLine, bindingLine, copy_of};
-ghost use Rattle.steps.specs.Environments.{bindingsBytes, bindingsIn};
-ghost use Rattle.tables.specs.Memory.{userRow, ruleRow, policyBytes, userIn, ruleIn, policyIn};
-ghost use Rattle.writer.specs.Selected.{mostSaved, shownIn};
-ghost use Rattle.copies.specs.Heads.{ruleText, rulesText, headText, copyText, head_of};
+ghost use Rattle.model.specs.Limits.{max_users};
+ghost use Rattle.model.specs.Rights.{is_for};
+ghost use Rattle.model.specs.Serving.{rule_line, binding_line, copy_of};
+ghost use Rattle.steps.specs.Environments.{bindings_bytes, bindings_in};
+ghost use Rattle.tables.specs.Memory.{user_row, rule_row, policy_bytes, user_in, rule_in, policy_in};
+ghost use Rattle.writer.specs.Selected.{most_saved, shown_in};
+ghost use Rattle.copies.specs.Heads.{rule_text, rules_text, head_text, copy_text, head_of};
 
 use buffers::{put, put_byte};
 use layout::name::{KEY_ROW, NAME_ROW, name_from};
@@ -20,14 +20,14 @@ use steps::step::{BINDING, BINDINGS};
 use tables::memory::{ROLE, RULE, RULES, bindings, is_for, is_write, rule_path};
 use writer::saved::{Shown, put_saved};
 
-// A copy never exceeds this many bytes: `maxCopy` of Limits.
+// A copy never exceeds this many bytes: `max_copy` of Limits.
 pub const COPY: usize = MAX_COPY;
 
 // `role;access;path`, with the user's role put in.
 fn put_rule_line(out: &mut [u8], at: usize, user: &[u8], rule: &[u8]) -> usize
-    requires { (length user.now ≡ userRow) × (length rule.now ≡ ruleRow) × (at + ruleText < 2 ^ 64) }
-    ensures wrote { Wrote at (ruleLine (userIn user.now) (ruleIn rule.now)) out.old result out.new }
-    ensures upper_bound { result ≤ at + ruleText }
+    requires { (length user.now ≡ user_row) × (length rule.now ≡ rule_row) × (at + rule_text < 2 ^ 64) }
+    ensures wrote { Wrote at (rule_line (user_in user.now) (rule_in rule.now)) out.old result out.new }
+    ensures upper_bound { result ≤ at + rule_text }
 {
     let mut to = put(out, at, name_from(user, ROLE, NAME_ROW));
     if is_write(rule) {
@@ -41,9 +41,9 @@ fn put_rule_line(out: &mut [u8], at: usize, user: &[u8], rule: &[u8]) -> usize
 
 // The policy lines of the user's role and of every role.
 fn put_rules(out: &mut [u8], at: usize, user: &[u8], policy: &[u8]) -> usize
-    requires { (length user.now ≡ userRow) × (length policy.now ≡ policyBytes) × (at + rulesText < 2 ^ 64) }
-    ensures wrote { Wrote at (joined (map (ruleLine (userIn user.now)) (keep (isFor (userIn user.now)) (policyIn policy.now)))) out.old result out.new }
-    ensures upper_bound { result ≤ at + rulesText }
+    requires { (length user.now ≡ user_row) × (length policy.now ≡ policy_bytes) × (at + rules_text < 2 ^ 64) }
+    ensures wrote { Wrote at (joined (map (rule_line (user_in user.now)) (keep (is_for (user_in user.now)) (policy_in policy.now)))) out.old result out.new }
+    ensures upper_bound { result ≤ at + rules_text }
 {
     let n = row_count(policy, RULE, RULES);
     let mut to = at;
@@ -60,9 +60,9 @@ fn put_rules(out: &mut [u8], at: usize, user: &[u8], policy: &[u8]) -> usize
 
 // The environment lines.
 fn put_bindings(out: &mut [u8], at: usize, lines: &[u8]) -> usize
-    requires { (length lines.now ≡ bindingsBytes) × (at + bindingsBytes < 2 ^ 64) }
-    ensures wrote { Wrote at (joined (map bindingLine (bindingsIn lines.now))) out.old result out.new }
-    ensures upper_bound { result ≤ at + bindingsBytes }
+    requires { (length lines.now ≡ bindings_bytes) × (at + bindings_bytes < 2 ^ 64) }
+    ensures wrote { Wrote at (joined (map binding_line (bindings_in lines.now))) out.old result out.new }
+    ensures upper_bound { result ≤ at + bindings_bytes }
 {
     let n = row_count(lines, BINDING, BINDINGS);
     let mut to = at;
@@ -80,9 +80,9 @@ fn put_bindings(out: &mut [u8], at: usize, lines: &[u8]) -> usize
 
 // What stands before the fields in a copy: the policy lines and the environment lines, each under its head.
 pub fn put_head(out: &mut [u8], at: usize, policy: &[u8], user: &[u8]) -> usize
-    requires { (length policy.now ≡ policyBytes) × (length user.now ≡ userRow) × (at + headText < 2 ^ 64) }
-    ensures wrote { Wrote at (head_of (policyIn policy.now) (userIn user.now)) out.old result out.new }
-    ensures upper_bound { result ≤ at + headText }
+    requires { (length policy.now ≡ policy_bytes) × (length user.now ≡ user_row) × (at + head_text < 2 ^ 64) }
+    ensures wrote { Wrote at (head_of (policy_in policy.now) (user_in user.now)) out.old result out.new }
+    ensures upper_bound { result ≤ at + head_text }
 {
     let mut to = put(out, at, b"role;access;path\n");
     to = put_rules(out, to, user, policy);
@@ -99,9 +99,9 @@ pub fn put_copy(
     table: &[u8; RECORD],
     i: usize,
 ) -> usize
-    requires { (length policy.now ≡ policyBytes) × (length user.now ≡ userRow) × (at + copyText < 2 ^ 64) × (i < maxUsers) }
-    ensures wrote { Wrote at (copy_of (policyIn policy.now) (userIn user.now) (shownIn (Shown.To i) table.now)) out.old result out.new }
-    ensures upper_bound { result ≤ at + length (head_of (policyIn policy.now) (userIn user.now)) + mostSaved + 1 }
+    requires { (length policy.now ≡ policy_bytes) × (length user.now ≡ user_row) × (at + copy_text < 2 ^ 64) × (i < max_users) }
+    ensures wrote { Wrote at (copy_of (policy_in policy.now) (user_in user.now) (shown_in (Shown.To i) table.now)) out.old result out.new }
+    ensures upper_bound { result ≤ at + length (head_of (policy_in policy.now) (user_in user.now)) + most_saved + 1 }
 {
     let mut to = put_head(out, at, policy, user);
     to = put_saved(out, to, table, Shown::To(i));

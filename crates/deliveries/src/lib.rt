@@ -1,9 +1,9 @@
 // Whom a push reaches, and the lines that are sent.
 ghost use Rattle.std.specs.Prelude.{◌≡◌, ◌+◌, ◌≤◌, ◌<◌, ◌^◌, length};
 ghost use Rattle.rows.specs.Rows.{Wrote};
-ghost use Rattle.model.specs.Limits.{maxUsers, maxLine};
-ghost use Rattle.sessions.specs.Logins.{loginsIn};
-ghost use Rattle.deliveries.specs.Receivers.{receives, Listed, deliveryText, deliveryOf, deliveriesText, deliveriesOf};
+ghost use Rattle.model.specs.Limits.{max_users, max_line};
+ghost use Rattle.sessions.specs.Logins.{logins_in};
+ghost use Rattle.deliveries.specs.Receivers.{receives, Listed, delivery_text, delivery_of, deliveries_text, deliveries_of};
 
 use buffers::{put, put_byte, put_decimal};
 use lexical::limits::MAX_USERS;
@@ -12,8 +12,8 @@ use sessions::{LOGINS, number, state_at};
 
 // Whether a push by the user at i reaches the one at j. The mask is asked first: it is at hand, and a login state is then looked up only where it counts.
 fn receives(logins: &[u16; LOGINS], i: usize, mask: u32, j: usize) -> bool
-    requires { j < maxUsers }
-    ensures { result ≡ receives (loginsIn logins.now) i mask j }
+    requires { j < max_users }
+    ensures { result ≡ receives (logins_in logins.now) i mask j }
 {
     if !has_bit(mask, j) {
         return false;
@@ -26,7 +26,7 @@ fn receives(logins: &[u16; LOGINS], i: usize, mask: u32, j: usize) -> bool
 
 // The session numbers that a push by the user at i reaches, of the users whom the mask marks, ascending, at the start of the list; how many they are. Behind the mask's last bit nobody is asked.
 pub fn put_receivers(list: &mut [u32], logins: &[u16; LOGINS], i: usize, mask: u32) -> usize
-    requires { maxUsers ≤ length list.old }
+    requires { max_users ≤ length list.old }
     ensures { Listed logins.now i mask list.old result list.new }
 {
     let mut told: usize = 0;
@@ -46,9 +46,9 @@ pub fn put_receivers(list: &mut [u32], logins: &[u16; LOGINS], i: usize, mask: u
 
 // `TO;session;` and what was pushed: the path and the value as they stood in the line.
 fn put_delivery(out: &mut [u8], at: usize, n: u32, pushed: &[u8]) -> usize
-    requires { (length pushed.now ≤ maxLine) × (at + deliveryText < 2 ^ 64) }
-    ensures wrote { Wrote at (deliveryOf pushed.now n) out.old result out.new }
-    ensures upper_bound { result ≤ at + deliveryText }
+    requires { (length pushed.now ≤ max_line) × (at + delivery_text < 2 ^ 64) }
+    ensures wrote { Wrote at (delivery_of pushed.now n) out.old result out.new }
+    ensures upper_bound { result ≤ at + delivery_text }
 {
     let mut to = put(out, at, b"TO;");
     to = put_decimal(out, to, n as usize);
@@ -59,11 +59,11 @@ fn put_delivery(out: &mut [u8], at: usize, n: u32, pushed: &[u8]) -> usize
 
 // A line for each of the first `told` numbers of the list.
 pub fn put_deliveries(out: &mut [u8], at: usize, list: &[u32], told: usize, pushed: &[u8]) -> usize
-    requires { (told ≤ length list.now) × (told ≤ maxUsers)
-        × (length pushed.now ≤ maxLine) × (at + deliveriesText < 2 ^ 64) }
-    ensures wrote { Wrote at (deliveriesOf pushed.now list.now told)
+    requires { (told ≤ length list.now) × (told ≤ max_users)
+        × (length pushed.now ≤ max_line) × (at + deliveries_text < 2 ^ 64) }
+    ensures wrote { Wrote at (deliveries_of pushed.now list.now told)
         out.old result out.new }
-    ensures upper_bound { result ≤ at + deliveriesText }
+    ensures upper_bound { result ≤ at + deliveries_text }
 {
     let mut to = at;
     let mut k: usize = 0;

@@ -1,13 +1,13 @@
 // The three operations for callers in C and Rust. Slices go as a pointer and a length, arrays as a pointer.
 ghost use Rattle.std.specs.Prelude.{◌≡◌};
-ghost use Rattle.model.specs.Limits.{maxCopy, listRoom};
+ghost use Rattle.model.specs.Limits.{max_copy, list_room};
 ghost use Rattle.model.specs.Serving as serving;
-ghost use Rattle.opening.specs.Answers.{textsOf};
+ghost use Rattle.opening.specs.Answers.{texts_of};
 ghost use Rattle.opening.specs.Memory.{arrays};
-ghost use Rattle.record.specs.Slots.{recordBytes};
-ghost use Rattle.sessions.specs.Logins.{loginNumbers};
-ghost use Rattle.server.specs.Replies.{answer_in, toldIn};
-ghost use Rattle.tables.specs.Memory.{tablesBytes};
+ghost use Rattle.record.specs.Slots.{record_bytes};
+ghost use Rattle.sessions.specs.Logins.{login_numbers};
+ghost use Rattle.server.specs.Replies.{answer_in, told_in};
+ghost use Rattle.tables.specs.Memory.{tables_bytes};
 ghost use Rattle.exports.specs.Numbers.{kind_of, number_of, OpensAs, ServesByMasks, ServesByPolicy, SavesAs};
 
 use copies::COPY;
@@ -21,21 +21,21 @@ use server::save::save;
 // How large the arrays are that a caller lends: bytes of the tables, numbers of the login states, bytes of the fields.
 #[unsafe(no_mangle)]
 pub extern "C" fn jesovanga_tables() -> usize
-    ensures { result ≡ tablesBytes }
+    ensures { result ≡ tables_bytes }
 {
     TABLES
 }
 
 #[unsafe(no_mangle)]
 pub extern "C" fn jesovanga_logins() -> usize
-    ensures { result ≡ loginNumbers }
+    ensures { result ≡ login_numbers }
 {
     LOGINS
 }
 
 #[unsafe(no_mangle)]
 pub extern "C" fn jesovanga_record() -> usize
-    ensures { result ≡ recordBytes }
+    ensures { result ≡ record_bytes }
 {
     RECORD
 }
@@ -43,14 +43,14 @@ pub extern "C" fn jesovanga_record() -> usize
 // How long a buffer and a list are that are always long enough.
 #[unsafe(no_mangle)]
 pub extern "C" fn jesovanga_copy() -> usize
-    ensures { result ≡ maxCopy }
+    ensures { result ≡ max_copy }
 {
     COPY
 }
 
 #[unsafe(no_mangle)]
 pub extern "C" fn jesovanga_list() -> usize
-    ensures { result ≡ listRoom }
+    ensures { result ≡ list_room }
 {
     LIST_ROOM
 }
@@ -67,7 +67,7 @@ fn kind_of(reply: Reply) -> u32
 }
 
 fn number_of(reply: Reply) -> usize
-    ensures { result ≡ number_of (answer_in reply) (toldIn reply) }
+    ensures { result ≡ number_of (answer_in reply) (told_in reply) }
 {
     match reply {
         Reply::Refused(e) => e,
@@ -92,7 +92,7 @@ pub extern "C" fn jesovanga_open(
 ) -> usize
     ensures { OpensAs
         (arrays tables.old logins.old fields.old)
-        (textsOf users.now environments.now policy.now text.now)
+        (texts_of users.now environments.now policy.now text.now)
         result source.new line.new
         (arrays tables.new logins.new fields.new) }
 {

@@ -11,15 +11,15 @@ use Rattle.model.specs.Base.{Bytes}
 use Rattle.rows.specs.Rows.{rows, replaced}
 use Rattle.rows.proofs.Rows.{length-rows, row-at, rows-set, rows_take, drop-take, map-take, get_d_map}
 use Rattle.rows.proofs.Positions.{here, over}
-use Rattle.layout.specs.Layout.{countedRows, counted}
+use Rattle.layout.specs.Layout.{counted_rows, counted}
 
 module _ (k m : ℕ) where
-  pub length-rows-counted : (s : Bytes) → length (countedRows k m s) ≡ min (get_or s 0 0) m
+  pub length-rows-counted : (s : Bytes) → length (counted_rows k m s) ≡ min (get_or s 0 0) m
   length-rows-counted s = simp (length-take, length-rows) (omega arith)
 
   -- where n are there, the row behind them was written, and then n + 1 into the first byte: one more
   pub rows_pushed : (s row : Bytes) (n : ℕ) → n ≡ min (get_or s 0 0) m → n < m → n * k < length s → length row ≡ k
-      → countedRows k m (set (replaced (n * k + 1) k row s) 0 (n + 1)) ≡ take m (countedRows k m s ++ row ∷ [])
+      → counted_rows k m (set (replaced (n * k + 1) k row s) 0 (n + 1)) ≡ take m (counted_rows k m s ++ row ∷ [])
   rows_pushed [] row n c b h r = absurd (omega arith)
   rows_pushed (x ∷ xs) row n c b h r =
       let t = take n (rows k m xs) in
@@ -31,8 +31,8 @@ module _ (k m : ℕ) where
 
   -- where m are there, no more has room
   pub rows-filled : (s row : Bytes) (n : ℕ) → n ≡ min (get_or s 0 0) m → m ≤ n
-      → countedRows k m s ≡ take m (countedRows k m s ++ row ∷ [])
-  rows-filled s row n c h = sym (take_at (countedRows k m s) (row ∷ []) m (rw length-rows-counted (omega arith)))
+      → counted_rows k m s ≡ take m (counted_rows k m s ++ row ∷ [])
+  rows-filled s row n c h = sym (take_at (counted_rows k m s) (row ∷ []) m (rw length-rows-counted (omega arith)))
 
 module _ {A : Type 0} (decode : Bytes → A) (k m : ℕ) where
   -- there are as many as the byte says, at most m
@@ -74,7 +74,7 @@ module _ {A : Type 0} (decode : Bytes → A) (k m : ℕ) where
   counted-all s i h = take_all i (counted decode k m s) (rw length-counted h)
 
   -- one row more, and what it means
-  pub counted-pushed : (s t row : Bytes) → countedRows k m t ≡ take m (countedRows k m s ++ row ∷ [])
+  pub counted-pushed : (s t row : Bytes) → counted_rows k m t ≡ take m (counted_rows k m s ++ row ∷ [])
       → counted decode k m t ≡ take m (counted decode k m s ++ decode row ∷ [])
   unfolding counted
   counted-pushed s t row e = rw (e, map-take, map-append)

@@ -10,12 +10,12 @@ use lib.Dec.{ltb}
 use borrow.Author.Tests.{ltb-true, ltb-false}
 use lib.ListN.{length, get_or, take, drop, set, replicate, length-set, length-take, length-drop, length-append, length-replicate, replicate-append-replicate, take-append-drop, drop_of_length-le}
 use lib.Seq.{take-add, take_all, take_at, drop_at, drop-drop, drop-append-le, length-take-le}
-use Rattle.rows.specs.Rows.{rows, insertAt, replaced, written}
-use Rattle.rows.proofs.Rows.{drop-take, take-rows, upTo-prefix}
+use Rattle.rows.specs.Rows.{rows, insert_at, replaced, written}
+use Rattle.rows.proofs.Rows.{drop-take, take-rows, up_to-prefix}
 use Rattle.rows.proofs.Parts.{tail-part, tail-replaced, after-replaced, length-replaced}
 use Rattle.model.specs.Base.{Bytes, joined}
 use Rattle.model.proofs.Lists.{by_cases, joined-append}
-use Rattle.layout.specs.Layout.{is_empty, inUse, countedRows, Holds, insertedRow, padded, Tight, TightCounted}
+use Rattle.layout.specs.Layout.{is_empty, in_use, counted_rows, Holds, inserted_row, padded, Tight, TightCounted}
 use Rattle.layout.proofs.Counts.{length-rows-counted, rows_pushed}
 use Rattle.layout.proofs.Used.{used-fit, used-none}
 use Rattle.layout.proofs.Changed.{next_row, room-behind, row_inside, used-pushed, used-set}
@@ -64,15 +64,15 @@ places a e f k w b p q r h = (omega arith, omega arith, omega arith, omega arith
 module _ (k n : ℕ) where
   -- where the rows in use end
   abbrev end : Bytes → ℕ
-  end s = length (inUse k n s) * k
+  end s = length (in_use k n s) * k
 
   end-inside : (s : Bytes) → end s ≤ n * k
   end-inside s = mul-le-mul_right k (used-fit k n s)
 
-  joined-used : (s : Bytes) → joined (inUse k n s) ≡ take (end s) s
+  joined-used : (s : Bytes) → joined (in_use k n s) ≡ take (end s) s
   joined-used s =
-      ap joined (upTo-prefix is_empty (rows k n s) ∙ take-rows k (length (inUse k n s)) n s (used-fit k n s))
-      ∙ joined-rows k (length (inUse k n s)) s
+      ap joined (up_to-prefix is_empty (rows k n s) ∙ take-rows k (length (in_use k n s)) n s (used-fit k n s))
+      ∙ joined-rows k (length (in_use k n s)) s
 
   zeros-tight : (s : Bytes) → length s ≡ n * k → drop (end s) s ≡ zeros (n * k - end s) → Tight k n s
   zeros-tight s l z =
@@ -80,7 +80,7 @@ module _ (k n : ℕ) where
       sym (take-append-drop (end s) s) ∙ rw (z, joined-used s, long)
 
   module _ (s : Bytes) (fits : Holds k n s) (tight : Tight k n s) where
-    used-long : length (joined (inUse k n s)) ≡ end s
+    used-long : length (joined (in_use k n s)) ≡ end s
     used-long = rw (joined-used s) (length-take-le (end s) s (omega (arith, end-inside s, fits.1)))
 
     pub tight-long : length s ≡ n * k
@@ -89,16 +89,16 @@ module _ (k n : ℕ) where
 
     zeros-from : (i : ℕ) → end s ≤ i → drop i s ≡ zeros (n * k - i)
     zeros-from i h =
-        let rest = zeros (n * k - length (joined (inUse k n s))) in
+        let rest = zeros (n * k - length (joined (in_use k n s))) in
         let e : drop (end s) s ≡ zeros (n * k - end s) =
-        ap (drop (end s)) tight ∙ drop_at (joined (inUse k n s)) rest (end s) used-long ∙ ap (λ (m : ℕ). zeros (n * k - m)) used-long in
+        ap (drop (end s)) tight ∙ drop_at (joined (in_use k n s)) rest (end s) used-long ∙ ap (λ (m : ℕ). zeros (n * k - m)) used-long in
         let j : end s + (i - end s) ≡ i = omega arith in
         let w : n * k - end s - (i - end s) ≡ n * k - i = omega arith in
         ap (λ (m : ℕ). drop m s) (sym j) ∙ sym (drop-drop (i - end s) (end s) s) ∙ ap (drop (i - end s)) e
         ∙ drop-zeros (i - end s) (n * k - end s) ∙ ap zeros w
 
     -- the rows were copied into another table, and then the rest of it was wiped
-    pub copied-whole : {m : ℕ} → m ≡ length (inUse k n s) → (to mid ys : Bytes) → length to ≡ n * k
+    pub copied-whole : {m : ℕ} → m ≡ length (in_use k n s) → (to mid ys : Bytes) → length to ≡ n * k
         → mid ≡ take (m * k) s ++ drop (length (take (m * k) s)) to
         → ys ≡ zeros (length (take (length mid - m * k) (drop (m * k) mid)))
         → replaced (m * k) (length mid - m * k) ys mid ≡ s
@@ -120,7 +120,7 @@ module _ (k n : ℕ) where
         ∙ drop-drop (e - (i * k + k)) (i * k + k) s ∙ ap (λ (m : ℕ). drop m s) j
 
     -- a row was written there, and the rows in use end at e then
-    row-tight : (i m : ℕ) (row : Bytes) → length row ≡ k → i < n → length (inUse k n (replaced (i * k) k row s)) ≡ m
+    row-tight : (i m : ℕ) (row : Bytes) → length row ≡ k → i < n → length (in_use k n (replaced (i * k) k row s)) ≡ m
         → i * k + k ≤ m * k → end s ≤ m * k → Tight k n (replaced (i * k) k row s)
     row-tight i m row long below counted behind more =
         let t = replaced (i * k) k row s in
@@ -129,22 +129,22 @@ module _ (k n : ℕ) where
         zeros-tight t (length-replaced (i * k) k s (row_inside k n s fits i below) row long ∙ tight-long) (rw e same)
 
     -- over one in use
-    pub tight-set : (i : ℕ) (row : Bytes) → length row ≡ k → is_empty row ≡ false → i < length (inUse k n s) → Tight k n (replaced (i * k) k row s)
+    pub tight-set : (i : ℕ) (row : Bytes) → length row ≡ k → is_empty row ≡ false → i < length (in_use k n s) → Tight k n (replaced (i * k) k row s)
     tight-set i row long kept below =
         let used = used-set k n i row s fits long kept below in
-        let more : i + 1 ≤ length (inUse k n s) = omega arith in
-        row-tight i (length (inUse k n s)) row long (omega (arith, used-fit k n s)) (ap length used ∙ simp length-set)
+        let more : i + 1 ≤ length (in_use k n s) = omega arith in
+        row-tight i (length (in_use k n s)) row long (omega (arith, used-fit k n s)) (ap length used ∙ simp length-set)
         (omega (arith, next_row i k, mul-le-mul_right k more)) (omega arith)
 
     -- behind the last
-    pub tight-pushed : (i : ℕ) (row : Bytes) {ys : Bytes} → i ≡ length (inUse k n s) → i < n → ys ≡ written (i * k + k) (0 ∷ []) s
+    pub tight-pushed : (i : ℕ) (row : Bytes) {ys : Bytes} → i ≡ length (in_use k n s) → i < n → ys ≡ written (i * k + k) (0 ∷ []) s
         → length row ≡ k → is_empty row ≡ false → Tight k n (replaced (i * k) k row ys)
     unfolding written
     tight-pushed i row {ys} is below e long kept =
         let same : ys ≡ s = e ∙ zero-over s (i * k + k) (n * k - (i * k + k)) (zeros-from (i * k + k) (rw is (omega arith))) in
         let used = used-pushed k n i s row is fits below e long kept in
-        let counted : length (inUse k n (replaced (i * k) k row s)) ≡ i + 1 =
-        ap (λ (y : Bytes). length (inUse k n (replaced (i * k) k row y))) (sym same) ∙ ap length used ∙ simp (length-take, length-append) (omega arith) in
+        let counted : length (in_use k n (replaced (i * k) k row s)) ≡ i + 1 =
+        ap (λ (y : Bytes). length (in_use k n (replaced (i * k) k row y))) (sym same) ∙ ap length used ∙ simp (length-take, length-append) (omega arith) in
         rw same (row-tight i (i + 1) row long below counted (omega (arith, next_row i k)) (rw is (omega (arith, next_row i k))))
 
     -- what stands between the places a and f - k is moved by a row, which is put at a: zeros from e on, where the rows then end
@@ -165,16 +165,16 @@ module _ (k n : ℕ) where
         (rw w₄ (replicate-append-replicate (f - e) (n * k - f) 0 ∙ ap zeros w₃))
 
     -- before another: only rows in use move, and the empty one behind them
-    module _ (i : ℕ) (row : Bytes) (long : length row ≡ k) (below : i < n) (within : i ≤ length (inUse k n s))
-        (used : inUse k n (insertedRow k n i row s) ≡ take n (insertAt i row (inUse k n s))) where
+    module _ (i : ℕ) (row : Bytes) (long : length row ≡ k) (below : i < n) (within : i ≤ length (in_use k n s))
+        (used : in_use k n (inserted_row k n i row s) ≡ take n (insert_at i row (in_use k n s))) where
       -- how many are in use then, and how many rows have moved
       abbrev now : ℕ
-      now = min n (length (inUse k n s) + 1)
+      now = min n (length (in_use k n s) + 1)
 
       abbrev moved : ℕ
-      moved = min (length (inUse k n s) + 2) n
+      moved = min (length (in_use k n s) + 2) n
 
-      counted : length (inUse k n (insertedRow k n i row s)) ≡ now
+      counted : length (in_use k n (inserted_row k n i row s)) ≡ now
       counted = ap length used ∙ simp (length-append, length-take, length-drop) (omega arith)
 
       abbrev behind : Bytes
@@ -183,8 +183,8 @@ module _ (k n : ℕ) where
       abbrev before : Bytes
       before = take (i * k) s ++ row
 
-      bytes : insertedRow k n i row s ≡ before ++ behind
-      unfolding insertedRow
+      bytes : inserted_row k n i row s ≡ before ++ behind
+      unfolding inserted_row
       bytes = simp append_assoc
 
       inside : (i * k + k ≤ now * k) × (now * k ≤ moved * k) × (moved * k ≤ n * k)
@@ -194,22 +194,22 @@ module _ (k n : ℕ) where
           let c : moved ≤ n = omega arith in
           (omega (arith, next_row i k, mul-le-mul_right k a), mul-le-mul_right k b, mul-le-mul_right k c)
 
-      inserted-long : length (insertedRow k n i row s) ≡ n * k
+      inserted-long : length (inserted_row k n i row s) ≡ n * k
       inserted-long = ap length bytes ∙ simp (length-append, length-take, length-drop) (omega (arith, inside, tight-long))
 
-      pub tight-inserted : Tight k n (insertedRow k n i row s)
+      pub tight-inserted : Tight k n (inserted_row k n i row s)
       tight-inserted =
-          let e : end (insertedRow k n i row s) ≡ now * k = ap (λ (j : ℕ). j * k) counted in
-          zeros-tight (insertedRow k n i row s) inserted-long (rw e (by_cases (ltb (length (inUse k n s)) n)
+          let e : end (inserted_row k n i row s) ≡ now * k = ap (λ (j : ℕ). j * k) counted in
+          zeros-tight (inserted_row k n i row s) inserted-long (rw e (by_cases (ltb (length (in_use k n s)) n)
           (λ t.
-          let room = ltb-true (length (inUse k n s)) n t in
-          let one : length (inUse k n s) + 1 ≡ now = omega arith in
-          let more = next_row (length (inUse k n s)) k ∙ ap (λ (c : ℕ). c * k) one in
+          let room = ltb-true (length (in_use k n s)) n t in
+          let one : length (in_use k n s) + 1 ≡ now = omega arith in
+          let more = next_row (length (in_use k n s)) k ∙ ap (λ (c : ℕ). c * k) one in
           rw bytes (zeros-behind (i * k) (now * k) (moved * k) row long inside.0 inside.1 inside.2 more))
           (λ f.
           let all : now ≡ n = omega (arith, ltb-false _ n f) in
           let none : n * k - n * k ≡ 0 = omega arith in
-          rw (all, none) (drop_of_length-le (insertedRow k n i row s) {i = n * k} (omega (arith, inserted-long))))))
+          rw (all, none) (drop_of_length-le (inserted_row k n i row s) {i = n * k} (omega (arith, inserted-long))))))
 
   -- none in use
   pub tight-none : 0 < k → Tight k n (zeros (n * k))
@@ -218,7 +218,7 @@ module _ (k n : ℕ) where
 
 -- ── Rows behind a count: zeros behind them ──
 module _ (k n : ℕ) (s : Bytes) where
-  counted-joined : joined (countedRows k n s) ≡ take (min (get_or s 0 0) n * k) (drop 1 s)
+  counted-joined : joined (counted_rows k n s) ≡ take (min (get_or s 0 0) n * k) (drop 1 s)
   counted-joined = ap joined (take-rows k (min (get_or s 0 0) n) n (drop 1 s) (omega arith)) ∙ joined-rows k (min (get_or s 0 0) n) (drop 1 s)
 
   -- the bytes where a row is written behind m, which are counted as m + 1 then
@@ -231,7 +231,7 @@ module _ (k n : ℕ) (s : Bytes) where
       → TightCounted k n s → TightCounted k n (set (replaced (m * k + 1) k row s) 0 (m + 1))
   unfolding joined
   tight-counted row m is below fits long tight =
-      let rs = countedRows k n s in
+      let rs = counted_rows k n s in
       let inside = room-behind k n m below in
       let size : length (joined rs) ≡ m * k = rw (counted-joined, ← is) (length-take-le (m * k) (drop 1 s) (rw length-drop (omega (arith, inside)))) in
       let many : length rs ≡ m = length-rows-counted k n s ∙ sym is in
@@ -240,7 +240,7 @@ module _ (k n : ℕ) (s : Bytes) where
       let now : set (replaced (m * k + 1) k row s) 0 (m + 1) ≡ (m + 1) ∷ (joined rs ++ (row ++ zeros (n * k - (m * k + k)))) =
       let w : n * k - m * k - k ≡ n * k - (m * k + k) = omega arith in
       ap (λ (l : Bytes). set (replaced (m * k + 1) k row l) 0 (m + 1)) bytes ∙ row-behind m (joined rs) row rest size ∙ rw (drop-zeros k (n * k - m * k), w) in
-      let used : countedRows k n (set (replaced (m * k + 1) k row s) 0 (m + 1)) ≡ rs ++ row ∷ [] =
+      let used : counted_rows k n (set (replaced (m * k + 1) k row s) 0 (m + 1)) ≡ rs ++ row ∷ [] =
       rows_pushed k n s row m is below (omega (arith, inside)) long ∙ take_all n (rs ++ row ∷ []) (rw (length-append, many) (omega arith)) in
       let all : padded (1 + n * k) (length (rs ++ row ∷ []) ∷ joined (rs ++ row ∷ [])) ≡ (m + 1) ∷ (joined rs ++ (row ++ zeros (n * k - (m * k + k)))) =
       let w : 1 + n * k - suc (m * k + k) ≡ n * k - (m * k + k) = omega arith in

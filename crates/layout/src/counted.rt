@@ -1,6 +1,6 @@
 // Rows of `size` bytes behind a byte that says how many they are.
 ghost use Rattle.std.specs.Prelude.{◌≡◌, [], ◌∷◌, ◌++◌, ◌+◌, ◌*◌, ◌≤◌, ◌<◌, length, take, drop};
-ghost use Rattle.layout.specs.Layout.{slotCount, countedRows, TightCounted, Keeps};
+ghost use Rattle.layout.specs.Layout.{slot_count, counted_rows, TightCounted, Keeps};
 
 use buffers::copy;
 use lexical::bounds::least;
@@ -8,7 +8,7 @@ use lexical::bounds::least;
 // How many rows a slot says it has, at most `most`.
 pub fn count(slot: &[u8], most: usize) -> usize
     requires { 0 < length slot.now }
-    ensures { result ≡ slotCount most slot.now }
+    ensures { result ≡ slot_count most slot.now }
 {
     least(slot[0] as usize, most)
 }
@@ -26,7 +26,7 @@ pub fn row_at(slot: &[u8], size: usize, i: usize) -> &[u8]
 // One row more, where there is room for it among `most`.
 pub fn push_row(slot: &mut [u8], size: usize, most: usize, row: &[u8])
     requires { (most * size + 1 ≤ length slot.old) × (most < 256) × (0 < size) × (length row.now ≡ size) }
-    ensures slot_after { countedRows size most slot.new ≡ take most (countedRows size most slot.old ++ row.now ∷ []) }
+    ensures slot_after { counted_rows size most slot.new ≡ take most (counted_rows size most slot.old ++ row.now ∷ []) }
     ensures keeps { Keeps (TightCounted size most) slot.old slot.new }
 {
     let n = count(slot, most);

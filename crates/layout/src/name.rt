@@ -1,7 +1,7 @@
 // A name in a row: how many bytes it has, and room for the longest.
 ghost use Rattle.std.specs.Prelude.{◌≡◌, ◌∷◌, ◌+◌, ◌-◌, ◌≤◌, ◌<◌, min, length, take, drop};
 ghost use Rattle.rows.specs.Rows.{written};
-ghost use Rattle.layout.specs.Layout.{nameIn};
+ghost use Rattle.layout.specs.Layout.{name_in};
 
 use buffers::put;
 use lexical::bounds::least;
@@ -15,7 +15,7 @@ pub const KEY_ROW: usize = 1 + MAX_KEY;
 // The name in a row.
 pub fn name(row: &[u8]) -> &[u8]
     requires { 0 < length row.now }
-    ensures { result.now ≡ nameIn row.now }
+    ensures { result.now ≡ name_in row.now }
 {
     let end = 1 + least(row[0] as usize, row.len() - 1);
     &row[1..end]
@@ -24,7 +24,7 @@ pub fn name(row: &[u8]) -> &[u8]
 // The name in the row of `size` bytes that stands at a position.
 pub fn name_from(s: &[u8], at: usize, size: usize) -> &[u8]
     requires { (at + size ≤ length s.now) × (0 < size) }
-    ensures { result.now ≡ nameIn (take size (drop at s.now)) }
+    ensures { result.now ≡ name_in (take size (drop at s.now)) }
 {
     let end = at + size;
     name(&s[at..end])

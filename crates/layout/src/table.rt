@@ -1,6 +1,6 @@
 // Rows of `size` bytes, at most `most`: those before the first empty one are in use. A row is empty where its first byte is 0.
 ghost use Rattle.std.specs.Prelude.{◌≡◌, false, [], ◌∷◌, ◌++◌, ◌+◌, ◌*◌, ◌≤◌, ◌<◌, length, take, drop, set};
-ghost use Rattle.layout.specs.Layout.{is_empty, inUse, Holds, overRow, movedEnd, Tight, Keeps};
+ghost use Rattle.layout.specs.Layout.{is_empty, in_use, Holds, over_row, moved_end, Tight, Keeps};
 
 use buffers::{copy, put_byte, wipe};
 use lexical::bounds::least;
@@ -25,8 +25,8 @@ pub fn row_at(t: &[u8], size: usize, i: usize) -> &[u8]
 
 // How many rows are in use, of which the first `from` are known to be.
 fn count_from(t: &[u8], size: usize, most: usize, from: usize) -> usize
-    requires { Holds size most t.now × (from ≤ length (inUse size most t.now)) }
-    ensures { result ≡ length (inUse size most t.now) }
+    requires { Holds size most t.now × (from ≤ length (in_use size most t.now)) }
+    ensures { result ≡ length (in_use size most t.now) }
 {
     let mut i = from;
     while i < most {
@@ -41,7 +41,7 @@ fn count_from(t: &[u8], size: usize, most: usize, from: usize) -> usize
 // How many rows are in use.
 pub fn row_count(t: &[u8], size: usize, most: usize) -> usize
     requires { Holds size most t.now }
-    ensures { result ≡ length (inUse size most t.now) }
+    ensures { result ≡ length (in_use size most t.now) }
 {
     count_from(t, size, most, 0)
 }
@@ -49,7 +49,7 @@ pub fn row_count(t: &[u8], size: usize, most: usize) -> usize
 // One row more behind those in use, where there is room for it: the row behind it is made empty.
 pub fn push_row(t: &mut [u8], size: usize, most: usize, row: &[u8])
     requires { Holds size most t.old × (length row.now ≡ size) × (is_empty row.now ≡ false) }
-    ensures t_after { inUse size most t.new ≡ take most (inUse size most t.old ++ row.now ∷ []) }
+    ensures t_after { in_use size most t.new ≡ take most (in_use size most t.old ++ row.now ∷ []) }
     ensures keeps { Keeps (Tight size most) t.old t.new }
 {
     let n = row_count(t, size, most);
@@ -64,9 +64,9 @@ pub fn push_row(t: &mut [u8], size: usize, most: usize, row: &[u8])
 // A row in the place of the i-th, which is in use.
 pub fn replace_row(t: &mut [u8], size: usize, most: usize, i: usize, row: &[u8])
     requires holds { Holds size most t.old × (length row.now ≡ size) × (is_empty row.now ≡ false) }
-    requires i_in_bounds { i < length (inUse size most t.old) }
-    ensures t_after { inUse size most t.new ≡ set (inUse size most t.old) i row.now }
-    ensures t_after_2 { t.new ≡ overRow size i row.now t.old }
+    requires i_in_bounds { i < length (in_use size most t.old) }
+    ensures t_after { in_use size most t.new ≡ set (in_use size most t.old) i row.now }
+    ensures t_after_2 { t.new ≡ over_row size i row.now t.old }
 {
     let start = i * size;
     copy(&mut t[start..], row);
@@ -74,8 +74,8 @@ pub fn replace_row(t: &mut [u8], size: usize, most: usize, i: usize, row: &[u8])
 
 // Where what a new row moves ends: behind the rows in use, of which the first `from` are known to be, one more for it, and the empty one; at most behind all rows.
 pub fn moved_end(t: &[u8], size: usize, most: usize, from: usize) -> usize
-    requires { Holds size most t.now × (from ≤ length (inUse size most t.now)) }
-    ensures { result ≡ movedEnd size most t.now }
+    requires { Holds size most t.now × (from ≤ length (in_use size most t.now)) }
+    ensures { result ≡ moved_end size most t.now }
 {
     least(count_from(t, size, most, from) + 2, most) * size
 }

@@ -7,9 +7,9 @@ use mathlib.Core.List.{◌++◌}
 use native.Mathlib.Omega.{arith}
 use lib.ListN.{length, take, drop, length-append, length-drop}
 use lib.Seq.{drop-drop}
-use Rattle.rows.specs.Positions.{Reader, behind, placed, runEnd, LeavesEnd}
+use Rattle.rows.specs.Positions.{Reader, behind, placed, run_end, LeavesEnd}
 use Rattle.rows.proofs.Positions.{run-within, placed-reads, placed-none}
-use Rattle.model.specs.Base.{Bytes, is_some, ◌>>=◌, ◌>>◌, ◌<|>◌, check, after, ifAfter, span}
+use Rattle.model.specs.Base.{Bytes, is_some, ◌>>=◌, ◌>>◌, ◌<|>◌, check, after, if_after, span}
 use Rattle.model.proofs.Reading.{bind-some, check-some, after-cases, either-some, some_same, after-some, span-joins}
 use Rattle.lexical.proofs.Runs.{span-at, rest_of}
 use Rattle.lexical.proofs.Slices.{after-at, after-no}
@@ -54,7 +54,7 @@ module _ {A : Type 0} (w : Bytes) (f : Reader ℕ A) where
       omega (arith, ap length v.2, length-drop v.0 r, ap length (after-some w s r i), length-append w r)
 
   -- a word, or else another reader
-  pub leaves-if-word : (g : Reader ℕ A) → LeavesEnd f → LeavesEnd g → LeavesEnd (λ x. ifAfter (after w x) f (g x))
+  pub leaves-if-word : (g : Reader ℕ A) → LeavesEnd f → LeavesEnd g → LeavesEnd (λ x. if_after (after w x) f (g x))
   unfolding ◌>>=◌
   leaves-if-word g p q s t h = after-cases _ _ _ _ h (λ i j. q s t j) (λ r i j. leaves_word p s t (rw i j))
 
@@ -71,7 +71,7 @@ module _ {A : Type 0} (p : ℕ → Bool) (fits : Bytes → Bool) (make : Bytes �
   unfoldable pub scanned : Reader ℕ A
   scanned x = check (fits (span p x).0) >> some (make (span p x).0, (span p x).1)
 
-  module _ (s : Bytes) (at to : ℕ) (is : to ≡ runEnd p s at) where
+  module _ (s : Bytes) (at to : ℕ) (is : to ≡ run_end p s at) where
     pub scanned-not : fits (take (to - at) (drop at s)) ≡ false → none ≡ placed scanned s at
     unfolding scanned check ◌>>◌
     scanned-not h = sym (placed-none _ s at (rw (span-at p s at to is, h)))

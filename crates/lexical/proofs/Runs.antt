@@ -10,11 +10,11 @@ use lib.ListN.{length, get_or, take, drop, length-append}
 use lib.Seq.{drop_at}
 use borrow.Author.Tests.{eq-eqb, ne_eqb, eqb-true, eqb-false, ltb-true, ltb-false, lt-leb}
 use Rattle.rows.specs.Rows.{up_to}
-use Rattle.rows.specs.Positions.{run, runEnd}
+use Rattle.rows.specs.Positions.{run, run_end}
 use Rattle.rows.proofs.Positions.{here, over, run-part, run-rest}
-use Rattle.model.specs.Base.{Bytes, all, is_some, ◌>>=◌, ◌>>◌, check, after, span, inFront, within}
+use Rattle.model.specs.Base.{Bytes, all, is_some, ◌>>=◌, ◌>>◌, check, after, span, in_front, within}
 use Rattle.model.proofs.Lists.{by_cases, never}
-use Rattle.lexical.specs.Classes.{isNot}
+use Rattle.lexical.specs.Classes.{is_not}
 
 -- ── Numbers outside of two bounds ──
 pub within-below : (a b x : ℕ) → x < a → within a b x ≡ false
@@ -26,23 +26,23 @@ unfolding within
 within-above a b x h = rw (lt-leb x b h) (by_cases (leb a x) (λ e. rw e) (λ e. rw e))
 
 -- ── A byte that is told apart ──
-pub is-it : (b x : ℕ) → x ≡ b → isNot b x ≡ false
-unfolding isNot
+pub is-it : (b x : ℕ) → x ≡ b → is_not b x ≡ false
+unfolding is_not
 is-it b x h = rw (eq-eqb x b h)
 
-pub is-other : (b x : ℕ) → (x ≡ b → ⊥) → isNot b x ≡ true
-unfolding isNot
+pub is-other : (b x : ℕ) → (x ≡ b → ⊥) → is_not b x ≡ true
+unfolding is_not
 is-other b x h = rw (ne_eqb x b h)
 
 -- ── Scanning ──
 module _ (p : ℕ → Bool) where
   pub span_run : (s : Bytes) → span p s ≡ (run p s, drop (length (run p s)) s)
-  unfolding span inFront up_to
+  unfolding span in_front up_to
   span_run [] = refl
   span_run (x ∷ s) = by_cases (p x) (λ e. rw (e, span_run s)) (λ e. rw e)
 
   -- the scan of the rest, where the run from there ends at e
-  pub span-at : (s : Bytes) (at e : ℕ) → e ≡ runEnd p s at → span p (drop at s) ≡ (take (e - at) (drop at s), drop e s)
+  pub span-at : (s : Bytes) (at e : ℕ) → e ≡ run_end p s at → span p (drop at s) ≡ (take (e - at) (drop at s), drop e s)
   span-at s at e is =
       span_run (drop at s) ∙ ap₂ (λ (a r : Bytes). (a, r)) (run-part p s at e is) (run-rest p s at e is)
 
@@ -52,8 +52,8 @@ module _ (p : ℕ → Bool) where
   all-run (x ∷ s) = by_cases (p x) (λ e. rw (e, eqb-suc-suc) (all-run s)) (λ e. rw (e, eqb-zero-suc))
 
   -- all bytes pass where the run from the start ends at the end
-  pub all-ends : (s : Bytes) (e : ℕ) → e ≡ runEnd p s 0 → eqb e (length s) ≡ all p s
-  unfolding runEnd
+  pub all-ends : (s : Bytes) (e : ℕ) → e ≡ run_end p s 0 → eqb e (length s) ≡ all p s
+  unfolding run_end
   all-ends s e is = let n : e ≡ length (run p s) = omega arith in rw n (sym (all-run s))
 
 -- ── One given byte at a position ──

@@ -16,7 +16,7 @@ use Rattle.model.specs.Fields.{and_then, lex, by_order}
 use Rattle.model.proofs.Lists.{by_cases, never, bytes_eq, bytes-refl}
 use Rattle.model.proofs.Order.{by_three, compare-orders}
 use Rattle.model.proofs.Reading.{after-some}
-use Rattle.lexical.specs.Orders.{order_of, isGreater}
+use Rattle.lexical.specs.Orders.{order_of, is_greater}
 use Rattle.lexical.specs.declared.slice.Order.{Order}
 use Rattle.lexical.specs.declared.slice.Order.TheVariants.{Less, Equal, Greater}
 
@@ -104,10 +104,10 @@ order-told o h e = told o ∙ ap order_in (sym h ∙ e)
     told Ordering.gt = refl
 
 -- so what it tells of whether the first is behind is so
-pub behind-told : (o : Ordering) {r v : Order} → r ≡ order_of o → r ≡ v → {b : Bool} → isGreater (order_in v) ≡ b → b ≡ isGreater o
-behind-told o h e b = sym b ∙ ap isGreater (sym (order-told o h e))
+pub behind-told : (o : Ordering) {r v : Order} → r ≡ order_of o → r ≡ v → {b : Bool} → is_greater (order_in v) ≡ b → b ≡ is_greater o
+behind-told o h e b = sym b ∙ ap is_greater (sym (order-told o h e))
 
-pub behind-order : (o : Ordering) → isGreater o ≡ true → o ≡ Ordering.gt
+pub behind-order : (o : Ordering) → is_greater o ≡ true → o ≡ Ordering.gt
 unfolding by_order
 behind-order Ordering.lt h = never (sym h)
 behind-order Ordering.eq h = never (sym h)

@@ -10,10 +10,10 @@ use lib.Dec.{leb, ltb, eqb}
 use lib.ListN.{length, get_or, drop, length-drop}
 use lib.Seq.{get_or-drop, drop-drop}
 use Rattle.model.specs.Base.{Bytes, ◌==◌}
-use Rattle.model.specs.Fields.{and_then, lex, orderKey, by_order}
+use Rattle.model.specs.Fields.{and_then, lex, order_key, by_order}
 use Rattle.model.proofs.Lists.{by_cases, and_both, bytes-refl}
 use Rattle.model.proofs.Order.{key-orders}
-use Rattle.lexical.specs.Orders.{isGreater, word_bytes, bigEndian, AreBytes, first_word, beginsBefore}
+use Rattle.lexical.specs.Orders.{is_greater, word_bytes, big_endian, AreBytes, first_word, begins_before}
 use Rattle.lexical.proofs.Slices.{same_not, lex-end, compare-less, compare_same, compare-more}
 
 -- what holds in each of the three orders of two numbers
@@ -43,8 +43,8 @@ scaled-same p x y m n h k e = by-order x y
 later-bytes : (k : ℕ) (s : Bytes) → AreBytes s → AreBytes (drop k s)
 later-bytes k s h i = rw get_or-drop (h (k + i))
 
-word_small : (n : ℕ) (s : Bytes) → AreBytes s → bigEndian n s < 256 ^ n
-unfolding bigEndian
+word_small : (n : ℕ) (s : Bytes) → AreBytes s → big_endian n s < 256 ^ n
+unfolding big_endian
 word_small zero s h = rw pow-zero (omega arith)
 word_small (suc n) s h =
     let first : 256 ^ n * get_or s 0 0 ≤ 256 ^ n * 255 = mul-le-mul_left (256 ^ n) (omega (arith, h 0)) in
@@ -58,68 +58,68 @@ and-then Ordering.gt p q = refl
 
 -- the first n bytes decide, or what stands behind them
 pub order-words : (n : ℕ) (s t : Bytes) → n ≤ length s → n ≤ length t → AreBytes s → AreBytes t
-    → lex compare s t ≡ and_then (compare (bigEndian n s) (bigEndian n t)) (lex compare (drop n s) (drop n t))
-unfolding bigEndian and_then lex
+    → lex compare s t ≡ and_then (compare (big_endian n s) (big_endian n t)) (lex compare (drop n s) (drop n t))
+unfolding big_endian and_then lex
 order-words zero s t p q b c = refl
 order-words (suc n) [] t p q b c = absurd (omega arith)
 order-words (suc n) (x ∷ s) [] p q b c = absurd (omega arith)
 order-words (suc n) (x ∷ s) (y ∷ t) p q b c =
     let later = order-words n s t (le_of_suc-le-suc p) (le_of_suc-le-suc q) (λ i. b (suc i)) (λ i. c (suc i)) in
-    let scaled = compare-scaled (256 ^ n) x y (bigEndian n s) (bigEndian n t) (word_small n s (λ i. b (suc i))) (word_small n t (λ i. c (suc i))) in
-    rw (later, scaled) (and-then (compare x y) (compare (bigEndian n s) (bigEndian n t)) (lex compare (drop n s) (drop n t)))
+    let scaled = compare-scaled (256 ^ n) x y (big_endian n s) (big_endian n t) (word_small n s (λ i. b (suc i))) (word_small n t (λ i. c (suc i))) in
+    rw (later, scaled) (and-then (compare x y) (compare (big_endian n s) (big_endian n t)) (lex compare (drop n s) (drop n t)))
 
 -- equal words begin with equal words
-front_same : (j n : ℕ) (s t : Bytes) → j ≤ n → AreBytes s → AreBytes t → bigEndian n s ≡ bigEndian n t → bigEndian j s ≡ bigEndian j t
-unfolding bigEndian
+front_same : (j n : ℕ) (s t : Bytes) → j ≤ n → AreBytes s → AreBytes t → big_endian n s ≡ big_endian n t → big_endian j s ≡ big_endian j t
+unfolding big_endian
 front_same zero n s t h b c e = refl
 front_same (suc j) zero s t h b c e = absurd (omega arith)
 front_same (suc j) (suc n) s t h b c e =
-    let (first, later) = scaled-same (256 ^ n) (get_or s 0 0) (get_or t 0 0) (bigEndian n (drop 1 s)) (bigEndian n (drop 1 t))
+    let (first, later) = scaled-same (256 ^ n) (get_or s 0 0) (get_or t 0 0) (big_endian n (drop 1 s)) (big_endian n (drop 1 t))
     (word_small n (drop 1 s) (later-bytes 1 s b)) (word_small n (drop 1 t) (later-bytes 1 t c)) e in
     rw (first, front_same j n (drop 1 s) (drop 1 t) (le_of_suc-le-suc h) (later-bytes 1 s b) (later-bytes 1 t c) later)
 
 module _ (n : ℕ) (s t : Bytes) (p : n ≤ length s) (q : n ≤ length t) (b : AreBytes s) (c : AreBytes t) where
   -- where the words of n bytes are equal, what stands from within them on decides
-  pub order-within : (at : ℕ) → at ≤ n → bigEndian n s ≡ bigEndian n t → lex compare s t ≡ lex compare (drop at s) (drop at t)
+  pub order-within : (at : ℕ) → at ≤ n → big_endian n s ≡ big_endian n t → lex compare s t ≡ lex compare (drop at s) (drop at t)
   unfolding and_then
-  order-within at h e = order-words at s t (omega arith) (omega arith) b c ∙ rw (compare_same (bigEndian at s) (bigEndian at t) (front_same at n s t h b c e))
+  order-within at h e = order-words at s t (omega arith) (omega arith) b c ∙ rw (compare_same (big_endian at s) (big_endian at t) (front_same at n s t h b c e))
 
   -- where they differ, they decide
-  pub word-behind : (bigEndian n s ≡ bigEndian n t → ⊥) → ltb (bigEndian n t) (bigEndian n s) ≡ isGreater (lex compare s t)
+  pub word-behind : (big_endian n s ≡ big_endian n t → ⊥) → ltb (big_endian n t) (big_endian n s) ≡ is_greater (lex compare s t)
   unfolding and_then by_order
-  word-behind d = rw (order-words n s t p q b c) (by-order (bigEndian n s) (bigEndian n t)
-      (λ l. rw (compare-less (bigEndian n s) (bigEndian n t) l, le-ltb (bigEndian n t) (bigEndian n s) (omega arith)))
+  word-behind d = rw (order-words n s t p q b c) (by-order (big_endian n s) (big_endian n t)
+      (λ l. rw (compare-less (big_endian n s) (big_endian n t) l, le-ltb (big_endian n t) (big_endian n s) (omega arith)))
       (λ e. absurd (d e))
-      (λ l. rw (compare-more (bigEndian n s) (bigEndian n t) l, lt-ltb (bigEndian n t) (bigEndian n s) l)))
+      (λ l. rw (compare-more (big_endian n s) (big_endian n t) l, lt-ltb (big_endian n t) (big_endian n s) l)))
 
 module _ (n : ℕ) (s t : Bytes) (p : n ≤ length s) (q : n ≤ length t) (b : AreBytes s) (c : AreBytes t) where
   -- where they are equal, the words from `at` within them on decide
-  module _ (at : ℕ) (h : at ≤ n) (e : bigEndian n s ≡ bigEndian n t) (p2 : at + n ≤ length s) (q2 : at + n ≤ length t) where
-    pub second-behind : (bigEndian n (drop at s) ≡ bigEndian n (drop at t) → ⊥)
-        → ltb (bigEndian n (drop at t)) (bigEndian n (drop at s)) ≡ isGreater (lex compare s t)
+  module _ (at : ℕ) (h : at ≤ n) (e : big_endian n s ≡ big_endian n t) (p2 : at + n ≤ length s) (q2 : at + n ≤ length t) where
+    pub second-behind : (big_endian n (drop at s) ≡ big_endian n (drop at t) → ⊥)
+        → ltb (big_endian n (drop at t)) (big_endian n (drop at s)) ≡ is_greater (lex compare s t)
     second-behind d = rw (order-within n s t p q b c at h e) (word-behind n (drop at s) (drop at t) (rw length-drop (omega arith)) (rw length-drop (omega arith)) (later-bytes at s b) (later-bytes at t c) d)
 
-    pub second-same : bigEndian n (drop at s) ≡ bigEndian n (drop at t) → lex compare s t ≡ lex compare (drop (at + n) s) (drop (at + n) t)
+    pub second-same : big_endian n (drop at s) ≡ big_endian n (drop at t) → lex compare s t ≡ lex compare (drop (at + n) s) (drop (at + n) t)
     second-same f = order-within n s t p q b c at h e
         ∙ rw (order-within n (drop at s) (drop at t) (rw length-drop (omega arith)) (rw length-drop (omega arith)) (later-bytes at s b) (later-bytes at t c) n (omega arith) f, drop-drop n at s, drop-drop n at t)
 
   -- where both end with equal words from within the first ones on, these decide whether they are the same
-  pub words_same : (at : ℕ) → at ≤ n → length s ≡ at + n → length t ≡ at + n → bigEndian n (drop at s) ≡ bigEndian n (drop at t)
-      → eqb (bigEndian n s) (bigEndian n t) ≡ (s == t)
-  unfolding orderKey
-  words_same at h l m f = by_cases (eqb (bigEndian n s) (bigEndian n t))
+  pub words_same : (at : ℕ) → at ≤ n → length s ≡ at + n → length t ≡ at + n → big_endian n (drop at s) ≡ big_endian n (drop at t)
+      → eqb (big_endian n s) (big_endian n t) ≡ (s == t)
+  unfolding order_key
+  words_same at h l m f = by_cases (eqb (big_endian n s) (big_endian n t))
       (λ e.
-      let o = second-same at h (eqb-true (bigEndian n s) (bigEndian n t) e) (omega arith) (omega arith) f ∙ lex-end compare 0 s t (at + n) (omega arith) (omega arith) in
+      let o = second-same at h (eqb-true (big_endian n s) (big_endian n t) e) (omega arith) (omega arith) f ∙ lex-end compare 0 s t (at + n) (omega arith) (omega arith) in
       rw (e, key-orders.same s t o, bytes-refl t))
-      (λ e. rw (e, same_not s t (bigEndian n) (eqb-false (bigEndian n s) (bigEndian n t) e)))
+      (λ e. rw (e, same_not s t (big_endian n) (eqb-false (big_endian n s) (big_endian n t) e)))
 
 -- what begins with a lesser word than the first of s stands before s
-pub begins-behind : (s t : Bytes) → AreBytes s → AreBytes t → beginsBefore t (first_word s) ≡ true → isGreater (orderKey s t) ≡ true
-unfolding orderKey beginsBefore first_word
+pub begins-behind : (s t : Bytes) → AreBytes s → AreBytes t → begins_before t (first_word s) ≡ true → is_greater (order_key s t) ≡ true
+unfolding order_key begins_before first_word
 begins-behind s t b c h = by_cases (leb word_bytes (length s))
     (λ e.
     let (q, l) = and_both (leb word_bytes (length t)) _ h in
-    let less = ltb-true (bigEndian word_bytes t) (bigEndian word_bytes s) (rw e at l) in
+    let less = ltb-true (big_endian word_bytes t) (big_endian word_bytes s) (rw e at l) in
     sym (word-behind word_bytes s t (leb-true word_bytes (length s) e) (leb-true word_bytes (length t) q) b c (λ f. omega arith))
-    ∙ lt-ltb (bigEndian word_bytes t) (bigEndian word_bytes s) less)
-    (λ e. absurd (omega (arith, ltb-true (bigEndian word_bytes t) 0 (rw e at (and_both (leb word_bytes (length t)) _ h).1))))
+    ∙ lt-ltb (big_endian word_bytes t) (big_endian word_bytes s) less)
+    (λ e. absurd (omega (arith, ltb-true (big_endian word_bytes t) 0 (rw e at (and_both (leb word_bytes (length t)) _ h).1))))

@@ -4,6 +4,6 @@ use Rattle.std.proofs.Math.Option.{Option, none, some}
 use Rattle.lexical.specs.declared.number.Natural.{Natural}
 use Rattle.lexical.specs.declared.number.Natural.TheVariants.{Is, Bad}
 
-abbrev pub numberAnswer : Natural → Option ℕ
-numberAnswer (Is n) = some n
-numberAnswer Bad = none
+abbrev pub number_answer : Natural → Option ℕ
+number_answer (Is n) = some n
+number_answer Bad = none

@@ -1,12 +1,12 @@
 // Byte classes, how far bytes of a class run, and names.
 ghost use Rattle.std.specs.Prelude.{◌≡◌, ◌≤◌, length};
-ghost use Rattle.rows.specs.Positions.{runEnd, placed};
-ghost use Rattle.model.specs.Base.{isDigit};
-ghost use Rattle.model.specs.Names.{nameByte, plain_byte, isNameOf, isName, is_key, is_plain};
-ghost use Rattle.model.specs.Values.{stringByte};
-ghost use Rattle.model.specs.Paths.{identifierByte};
-ghost use Rattle.model.specs.RecordText.{isBlank};
-ghost use Rattle.lexical.specs.Classes.{inClass, scanEnd, readBetween, textAnswer};
+ghost use Rattle.rows.specs.Positions.{run_end, placed};
+ghost use Rattle.model.specs.Base.{is_digit};
+ghost use Rattle.model.specs.Names.{name_byte, plain_byte, is_name_of, is_name, is_key, is_plain};
+ghost use Rattle.model.specs.Values.{string_byte};
+ghost use Rattle.model.specs.Paths.{identifier_byte};
+ghost use Rattle.model.specs.RecordText.{is_blank};
+ghost use Rattle.lexical.specs.Classes.{in_class, scan_end, read_between, text_answer};
 
 use crate::limits::{MAX_KEY, MAX_NAME};
 use crate::slice::is_at;
@@ -29,7 +29,7 @@ pub enum End {
 }
 
 pub fn is_name_byte(b: u8) -> bool
-    ensures { result ≡ nameByte b }
+    ensures { result ≡ name_byte b }
 {
     match b {
         b'"' | b'\'' | b';' | b'\\' => false,
@@ -49,7 +49,7 @@ pub fn is_plain_byte(b: u8) -> bool
 }
 
 pub fn is_text_byte(b: u8) -> bool
-    ensures { result ≡ stringByte b }
+    ensures { result ≡ string_byte b }
 {
     match b {
         b'"' | b'\\' => false,
@@ -59,7 +59,7 @@ pub fn is_text_byte(b: u8) -> bool
 }
 
 pub fn is_digit(b: u8) -> bool
-    ensures { result ≡ isDigit b }
+    ensures { result ≡ is_digit b }
 {
     match b {
         b'0'..=b'9' => true,
@@ -68,7 +68,7 @@ pub fn is_digit(b: u8) -> bool
 }
 
 pub fn is_identifier_byte(b: u8) -> bool
-    ensures { result ≡ identifierByte b }
+    ensures { result ≡ identifier_byte b }
 {
     match b {
         b'_' => true,
@@ -78,7 +78,7 @@ pub fn is_identifier_byte(b: u8) -> bool
 }
 
 pub fn is_blank(b: u8) -> bool
-    ensures { result ≡ isBlank b }
+    ensures { result ≡ is_blank b }
 {
     match b {
         b' ' | b'\t' | b'\n' | b'\r' => true,
@@ -87,7 +87,7 @@ pub fn is_blank(b: u8) -> bool
 }
 
 pub fn passes(class: Class, b: u8) -> bool
-    ensures { result ≡ inClass class b }
+    ensures { result ≡ in_class class b }
 {
     match class {
         Class::Name => is_name_byte(b),
@@ -102,7 +102,7 @@ pub fn passes(class: Class, b: u8) -> bool
 // Where the bytes of a class end, from `at` on.
 pub fn run(s: &[u8], at: usize, class: Class) -> usize
     requires { at ≤ length s.now }
-    ensures { result ≡ runEnd (inClass class) s.now at }
+    ensures { result ≡ run_end (in_class class) s.now at }
 {
     let mut i = at;
     while i < s.len() {
@@ -118,7 +118,7 @@ pub fn run(s: &[u8], at: usize, class: Class) -> usize
 // From `least` to `most` bytes of a class, from `at` on: where they end.
 pub fn scan(s: &[u8], at: usize, class: Class, least: usize, most: usize) -> End
     requires { at ≤ length s.now }
-    ensures { result ≡ scanEnd class least most s.now at }
+    ensures { result ≡ scan_end class least most s.now at }
 {
     let to = run(s, at, class);
     if to - at < least {
@@ -132,7 +132,7 @@ pub fn scan(s: &[u8], at: usize, class: Class, least: usize, most: usize) -> End
 
 // Whether a text is a name of at most `most` bytes.
 fn is_name_of(s: &[u8], most: usize) -> bool
-    ensures { result ≡ isNameOf most s.now }
+    ensures { result ≡ is_name_of most s.now }
 {
     if s.len() < 1 {
         return false;
@@ -144,7 +144,7 @@ fn is_name_of(s: &[u8], most: usize) -> bool
 }
 
 pub fn is_name(s: &[u8]) -> bool
-    ensures { result ≡ isName s.now }
+    ensures { result ≡ is_name s.now }
 {
     is_name_of(s, MAX_NAME)
 }
@@ -167,7 +167,7 @@ pub fn is_plain(s: &[u8]) -> bool
 // From `least` to `most` bytes of a class between two quotes: where the closing one ends.
 pub fn between(s: &[u8], at: usize, quote: u8, class: Class, least: usize, most: usize) -> End
     requires { at ≤ length s.now }
-    ensures { textAnswer s.now at result ≡ placed (readBetween class quote least most) s.now at }
+    ensures { text_answer s.now at result ≡ placed (read_between class quote least most) s.now at }
 {
     if !is_at(s, at, quote) {
         return End::Bad;

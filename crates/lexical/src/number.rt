@@ -1,8 +1,8 @@
 // Decimal numbers.
 ghost use Rattle.std.specs.Prelude.{◌≡◌, ◌≤◌};
-ghost use Rattle.model.specs.Limits.{maxSession};
+ghost use Rattle.model.specs.Limits.{max_session};
 ghost use Rattle.model.specs.Base.{number};
-ghost use Rattle.lexical.specs.Numbers.{numberAnswer};
+ghost use Rattle.lexical.specs.Numbers.{number_answer};
 
 use crate::class::is_digit;
 
@@ -14,8 +14,8 @@ pub enum Natural {
 
 // A whole text that is a number of at most `most`, with no leading zero but in `0` itself.
 pub fn number(s: &[u8], most: u64) -> Natural
-    requires { most ≤ maxSession }
-    ensures { numberAnswer result ≡ number most s.now }
+    requires { most ≤ max_session }
+    ensures { number_answer result ≡ number most s.now }
 {
     if s.len() == 0 {
         return Natural::Bad;

@@ -1,11 +1,11 @@
 // Comparing slices.
 ghost use Rattle.std.specs.Prelude.{◌≡◌, true, [], ◌∷◌, length, drop};
 ghost use Prim.Native.Nat.{◌+◌, ◌≤◌, compare};
-ghost use Rattle.rows.specs.Positions.{runEnd};
+ghost use Rattle.rows.specs.Positions.{run_end};
 ghost use Rattle.model.specs.Base.{Bytes, ◌==◌, after, is_some};
-ghost use Rattle.model.specs.Fields.{lex, orderKey};
-ghost use Rattle.lexical.specs.Classes.{isNot};
-ghost use Rattle.lexical.specs.Orders.{order_of, isGreater, word_bytes, bigEndian, AreBytes, first_word, beginsBefore};
+ghost use Rattle.model.specs.Fields.{lex, order_key};
+ghost use Rattle.lexical.specs.Classes.{is_not};
+ghost use Rattle.lexical.specs.Orders.{order_of, is_greater, word_bytes, big_endian, AreBytes, first_word, begins_before};
 
 use crate::bounds::least;
 
@@ -22,7 +22,7 @@ pub enum Order {
 // The first bytes, a word of them, as one number, in which the first counts most: sums of products, which the compiler turns into one load.
 fn word(a: &[u8]) -> u64
     requires { word_bytes ≤ length a.now }
-    ensures { result ≡ bigEndian word_bytes a.now }
+    ensures { result ≡ big_endian word_bytes a.now }
 {
     let p = 72057594037927936 * (a[0] as u64) + 281474976710656 * (a[1] as u64);
     let q = 1099511627776 * (a[2] as u64) + 4294967296 * (a[3] as u64);
@@ -106,7 +106,7 @@ fn compare_from(a: &[u8], b: &[u8], from: usize) -> Order
 
 // By byte value, a shorter slice before a longer one that it begins. Where both have a word, the first ones are compared as two numbers.
 pub fn compare(a: &[u8], b: &[u8]) -> Order
-    ensures { result ≡ order_of (orderKey a.now b.now) }
+    ensures { result ≡ order_of (order_key a.now b.now) }
 {
     if least(a.len(), b.len()) < WORD {
         return compare_from(a, b, 0);
@@ -125,7 +125,7 @@ pub fn compare(a: &[u8], b: &[u8]) -> Order
 // Whether what stands from a position on puts a behind b.
 fn is_behind_from(a: &[u8], b: &[u8], from: usize) -> bool
     requires { (from ≤ length a.now) × (from ≤ length b.now) }
-    ensures { result ≡ isGreater (lex compare (drop from a.now) (drop from b.now)) }
+    ensures { result ≡ is_greater (lex compare (drop from a.now) (drop from b.now)) }
 {
     match compare_from(a, b, from) {
         Order::Less => false,
@@ -137,7 +137,7 @@ fn is_behind_from(a: &[u8], b: &[u8], from: usize) -> bool
 // Whether a stands behind b in this order: `compare` for a search, short enough to stand in its loop.
 // The second words end with the shorter slice, so that names of one to two words take two comparisons.
 pub fn is_behind(a: &[u8], b: &[u8]) -> bool
-    ensures { result ≡ isGreater (orderKey a.now b.now) }
+    ensures { result ≡ is_greater (order_key a.now b.now) }
 {
     let n = least(a.len(), b.len());
     if n < WORD {
@@ -169,8 +169,8 @@ pub fn first_word(a: &[u8]) -> u64
 
 // Whether b begins with a word that is less than x: then every slice with the first word x stands behind it.
 pub fn begins_before(b: &[u8], x: u64) -> bool
-    ensures value { result ≡ beginsBefore b.now x }
-    ensures b_value { (a : Bytes) → AreBytes a → x ≡ first_word a → result ≡ true → isGreater (orderKey a b.now) ≡ true }
+    ensures value { result ≡ begins_before b.now x }
+    ensures b_value { (a : Bytes) → AreBytes a → x ≡ first_word a → result ≡ true → is_greater (order_key a b.now) ≡ true }
 {
     if b.len() < WORD {
         return false;
@@ -209,7 +209,7 @@ pub fn is_at(s: &[u8], at: usize, b: u8) -> bool
 // Where the byte b next stands, from `at` on, or where the text ends.
 pub fn until(s: &[u8], at: usize, b: u8) -> usize
     requires { at ≤ length s.now }
-    ensures { result ≡ runEnd (isNot b) s.now at }
+    ensures { result ≡ run_end (is_not b) s.now at }
 {
     let mut i = at;
     while i < s.len() {

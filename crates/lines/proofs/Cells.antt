@@ -8,12 +8,12 @@ use lib.Dec.{eqb}
 use lib.ListN.{length, get_or, take, drop}
 use borrow.Author.Tests.{eq-eqb, ne_eqb}
 use Rattle.rows.specs.Rows.{up_to}
-use Rattle.rows.specs.Positions.{run, runEnd}
+use Rattle.rows.specs.Positions.{run, run_end}
 use Rattle.rows.proofs.Positions.{here, over, run-part, run-rest}
 use Rattle.model.specs.Base.{Bytes, any, among, ◌==◌}
-use Rattle.model.specs.Table.{onFirst, split, under}
+use Rattle.model.specs.Table.{on_first, split, under}
 use Rattle.model.proofs.Lists.{by_cases}
-use Rattle.lexical.specs.Classes.{isNot}
+use Rattle.lexical.specs.Classes.{is_not}
 
 -- ── Values ──
 -- the values behind a value: there are none at the line's end, and else what the `;` is followed by
@@ -21,17 +21,17 @@ further : Bytes → List Bytes
 further [] = []
 further (x ∷ s) = split s
 
-split-run : (s : Bytes) → split s ≡ run (isNot 0x3B) s ∷ further (drop (length (run (isNot 0x3B) s)) s)
-unfolding split onFirst up_to isNot further
+split-run : (s : Bytes) → split s ≡ run (is_not 0x3B) s ∷ further (drop (length (run (is_not 0x3B) s)) s)
+unfolding split on_first up_to is_not further
 split-run [] = refl
 split-run (x ∷ s) = by_cases (eqb x 0x3B) (λ e. rw e) (λ e. rw (e, split-run s))
 
 -- the first value from the position `at` on ends at e: at the line's end, or before it
-module _ (s : Bytes) (at e : ℕ) (is : e ≡ runEnd (isNot 0x3B) s at) where
+module _ (s : Bytes) (at e : ℕ) (is : e ≡ run_end (is_not 0x3B) s at) where
   split_at : split (drop at s) ≡ take (e - at) (drop at s) ∷ further (drop e s)
   split_at =
       split-run (drop at s)
-      ∙ ap₂ (λ (a r : Bytes). a ∷ further r) (run-part (isNot 0x3B) s at e is) (run-rest (isNot 0x3B) s at e is)
+      ∙ ap₂ (λ (a r : Bytes). a ∷ further r) (run-part (is_not 0x3B) s at e is) (run-rest (is_not 0x3B) s at e is)
 
   pub split-last : length s ≤ e → split (drop at s) ≡ take (e - at) (drop at s) ∷ []
   unfolding further
@@ -53,8 +53,8 @@ module _ (s : Bytes) (at e : ℕ) (is : e ≡ runEnd (isNot 0x3B) s at) where
     value-next h = let n : j - k ≡ suc (j - (k + 1)) = omega arith in rw (split-more h, n)
 
 -- ── How many ──
-length-first : (x : ℕ) (s : Bytes) → length (onFirst x (split s)) ≡ length (split s)
-unfolding onFirst
+length-first : (x : ℕ) (s : Bytes) → length (on_first x (split s)) ≡ length (split s)
+unfolding on_first
 length-first x s = rw (split-run s)
 
 module _ (s : Bytes) (i : ℕ) where
@@ -71,7 +71,7 @@ module _ (s : Bytes) (i : ℕ) where
   count-over h = rw (over s i h)
 
 -- ── A name among a head's columns, of which the first from the position `at` on ends at e ──
-module _ (n s : Bytes) (at e : ℕ) (is : e ≡ runEnd (isNot 0x3B) s at) where
+module _ (n s : Bytes) (at e : ℕ) (is : e ≡ run_end (is_not 0x3B) s at) where
   pub among-here : (n == take (e - at) (drop at s)) ≡ true → among n (split (drop at s)) ≡ true
   unfolding among any
   among-here h = rw (split_at s at e is, h)
@@ -91,7 +91,7 @@ unfolding under
 under_none [] n = refl
 under_none (h ∷ hs) n = refl
 
-module _ (n s : Bytes) (at e : ℕ) (is : e ≡ runEnd (isNot 0x3B) s at) (t : Bytes) (from k : ℕ) (is₁ : k ≡ runEnd (isNot 0x3B) t from) where
+module _ (n s : Bytes) (at e : ℕ) (is : e ≡ run_end (is_not 0x3B) s at) (t : Bytes) (from k : ℕ) (is₁ : k ≡ run_end (is_not 0x3B) t from) where
   pub under-here : (take (e - at) (drop at s) == n) ≡ true → under (split (drop at s)) (split (drop from t)) n ≡ take (k - from) (drop from t)
   unfolding under
   under-here h = rw (split_at s at e is, split_at t from k is₁, h)

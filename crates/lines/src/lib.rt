@@ -1,14 +1,14 @@
 // The text of a table taken apart: lines, and the values in a line.
 ghost use Rattle.std.specs.Prelude.{◌≡◌, [], ◌≤◌, length, get_or};
 ghost use Rattle.model.specs.Base.{among};
-ghost use Rattle.model.specs.Limits.{maxText};
+ghost use Rattle.model.specs.Limits.{max_text};
 ghost use Rattle.model.specs.Table.{split, under};
 
 use lexical::slice::{same, until};
 
 // How many values a line has.
 pub fn count(line: &[u8]) -> usize
-    requires { length line.now ≤ maxText }
+    requires { length line.now ≤ max_text }
     ensures { result ≡ length (split line.now) }
 {
     let mut n: usize = 1;
@@ -42,7 +42,7 @@ pub fn value(line: &[u8], j: usize) -> &[u8]
 
 // Whether a head has a column of the name.
 pub fn has_column(head: &[u8], name: &[u8]) -> bool
-    requires { length head.now ≤ maxText }
+    requires { length head.now ≤ max_text }
     ensures { result ≡ among name.now (split head.now) }
 {
     let mut at: usize = 0;
@@ -60,7 +60,7 @@ pub fn has_column(head: &[u8], name: &[u8]) -> bool
 
 // The value of a line under the column of the name: head and line are gone through side by side.
 pub fn value_under<'a>(head: &[u8], line: &'a [u8], name: &[u8]) -> &'a [u8]
-    requires { length head.now ≤ maxText }
+    requires { length head.now ≤ max_text }
     ensures { result.now ≡ under (split head.now) (split line.now) name.now }
 {
     let mut at: usize = 0;

@@ -12,14 +12,14 @@ use borrow.Author.Tests.{ne_eqb, le-leb, lt-leb}
 use lib.ListN.{length, get_or, take, drop, set, length-append}
 use lib.Seq.{set-get_or}
 use Rattle.rows.specs.Rows.{rows, up_to}
-use Rattle.layout.specs.Layout.{table, nameIn, is_empty, keyRow}
-use Rattle.rows.specs.Positions.{Reads, behind, placed, runEnd}
+use Rattle.layout.specs.Layout.{table, name_in, is_empty, key_row}
+use Rattle.rows.specs.Positions.{Reads, behind, placed, run_end}
 use Rattle.model.specs.Base.{Bytes, ◌>>=◌, ◌>>◌, check}
-use Rattle.model.specs.Limits.{maxKey, maxFields, maxDepth}
+use Rattle.model.specs.Limits.{max_key, max_fields, max_depth}
 use Rattle.model.specs.Refusals.{refused, done, Opened}
-use Rattle.model.specs.Values.{Value, validValue}
+use Rattle.model.specs.Values.{Value, valid_value}
 use Rattle.model.specs.Fields.{Keys, Fields}
-use Rattle.model.specs.RecordText.{Node, Members, leaf, noMembers, member, isBlank, skip, tree_of, twice, count, storeNode, storeMembers, readObject}
+use Rattle.model.specs.RecordText.{Node, Members, leaf, no_members, member, is_blank, skip, tree_of, twice, count, store_node, store_members, read_object}
 use Rattle.model.proofs.Lists.{by_cases, none-some, refused-done, done-same, if-done, or-done}
 use Rattle.model.proofs.Reading.{bind-some, check-some, some_same}
 use Rattle.model.proofs.Spelling.{key-named, value-valid}
@@ -29,18 +29,18 @@ use Rattle.lexical.specs.declared.class.End.TheVariants.{At, Bad}
 use Rattle.values.specs.declared.value.Scalar.{Scalar}
 use Rattle.values.specs.declared.value.ValueAt.{ValueAt}
 use Rattle.values.specs.declared.value.ValueAt.TheVariants as value-at
-use Rattle.values.specs.Scalars.{valueIn, valueAnswer}
-use Rattle.paths.specs.Layout.{pathIn}
+use Rattle.values.specs.Scalars.{value_in, value_answer}
+use Rattle.paths.specs.Layout.{path_in}
 use Rattle.layout.proofs.Counts.{length-counted}
 use Rattle.layout.proofs.Named.{push-whole}
 use Rattle.layout.proofs.Tight.{zeros, zero-at}
-use Rattle.record.specs.Slots.{recordBytes, fieldsIn, CanonicalFields}
+use Rattle.record.specs.Slots.{record_bytes, fields_in, CanonicalFields}
 use Rattle.record.specs.Search.{stored_at}
 use Rattle.record.proofs.Slots.{held-valid}
 use Rattle.record.proofs.Canonical.{none-canonical}
-use Rattle.reader.specs.Tokens.{readScalar, readMember, mapped, readTop}
-use Rattle.loader.specs.Loaded.{loaded, loadAnswer, fields_of}
-use Rattle.reader.specs.Summaries.{reading_of, readAnswer}
+use Rattle.reader.specs.Tokens.{read_scalar, read_member, mapped, read_top}
+use Rattle.loader.specs.Loaded.{loaded, load_answer, fields_of}
+use Rattle.reader.specs.Summaries.{reading_of, read_answer}
 use Rattle.reader.specs.declared.grammar.RecordRead.{RecordRead}
 use Rattle.reader.specs.declared.grammar.RecordRead.TheVariants as record-read
 use Rattle.reader.specs.contracts.grammar.RecordRead.{the_type}
@@ -49,77 +49,77 @@ use Rattle.reader.proofs.Mapped.{mapped-is}
 use Rattle.reader.proofs.Objects.{read_node, node-leaf, node-mapped}
 
 -- ── What is read is within its limits ──
-member-key : (s k r : Bytes) → readMember s ≡ some (k, r) → length k ≤ maxKey
-unfolding readMember
+member-key : (s k r : Bytes) → read_member s ≡ some (k, r) → length k ≤ max_key
+unfolding read_member
 member-key s k r h =
     bind-some _ _ _ h λ t key h₁.
     bind-some _ _ _ h₁ λ u colon h₂.
     let e = ap (λ (t : Bytes × Bytes). t.0) (some_same h₂) in
     rw e at (key-named t.0 (key-read s t key)).high
 
-scalar-valid : (s r : Bytes) (v : Value) → readScalar s ≡ some (v, r) → validValue v ≡ true
-unfolding readScalar
+scalar-valid : (s r : Bytes) (v : Value) → read_scalar s ≡ some (v, r) → valid_value v ≡ true
+unfolding read_scalar
 scalar-valid s r v h =
     bind-some _ _ _ h λ t value h₁.
     let e = ap (λ (t : Value × Bytes). t.0) (some_same h₁) in
     rw e at (value-valid s t.1 t.0 value)
 
 -- a value that was read at v
-pub leaf-valid : (s : Bytes) (v : ℕ) (x : ValueAt) → valueAnswer s x ≡ placed readScalar s v → v ≤ length s → (w : Scalar) (e : ℕ) → x ≡ value-at.At w e
-    → validValue (valueIn s w) ≡ true
+pub leaf-valid : (s : Bytes) (v : ℕ) (x : ValueAt) → value_answer s x ≡ placed read_scalar s v → v ≤ length s → (w : Scalar) (e : ℕ) → x ≡ value-at.At w e
+    → valid_value (value_in s w) ≡ true
 leaf-valid s v x answer h w e i = scalar-valid _ _ _ (scalar-reads s v x answer h w e i).is
 
 -- ── A slot with the path p and the key k behind it ──
 pub record Child (p : Keys) (k slot : Bytes) : Type 0 where
-  pub is : pathIn slot ≡ p ++ k ∷ []
+  pub is : path_in slot ≡ p ++ k ∷ []
 
 -- a key that was read, behind a path that leaves room for depth keys
-pub child-path : {s : Bytes} {i : ℕ} {p : Keys} {k slot : Bytes} {v depth : ℕ} → Reads readMember s i k v → length p + depth ≤ 6 → (depth ≡ 0 → ⊥)
-    → pathIn slot ≡ take maxDepth (p ++ take maxKey k ∷ []) → Child p k slot
-child-path {p = p} {k = k} r h d e = record { is = e ∙ push-whole maxKey maxDepth p k (omega (arith, d)) (member-key _ _ _ r.is) }
+pub child-path : {s : Bytes} {i : ℕ} {p : Keys} {k slot : Bytes} {v depth : ℕ} → Reads read_member s i k v → length p + depth ≤ 6 → (depth ≡ 0 → ⊥)
+    → path_in slot ≡ take max_depth (p ++ take max_key k ∷ []) → Child p k slot
+child-path {p = p} {k = k} r h d e = record { is = e ∙ push-whole max_key max_depth p k (omega (arith, d)) (member-key _ _ _ r.is) }
 
 -- ── What a key holds, put into fields ──
-abbrev pub nodeLoaded : Keys → Fields → Node → Fields
-nodeLoaded p fs a = storeNode p a fs
+abbrev pub node_loaded : Keys → Fields → Node → Fields
+node_loaded p fs a = store_node p a fs
 
 module _ {p : Keys} {k slot : Bytes} (child : Child p k slot) where
-  pub child-length : length (pathIn slot) ≡ length p + 1
+  pub child-length : length (path_in slot) ≡ length p + 1
   child-length = ap length child.is ∙ length-append p (k ∷ [])
 
   has_key : is_empty slot ≡ false
-  unfolding is_empty pathIn
-  has_key = ne_eqb (get_or slot 0 0) 0 (λ z. omega (arith, z, child-length, length-counted nameIn keyRow maxDepth slot))
+  unfolding is_empty path_in
+  has_key = ne_eqb (get_or slot 0 0) 0 (λ z. omega (arith, z, child-length, length-counted name_in key_row max_depth slot))
 
   module _ (fs : Fields) where
     -- a value that is stored there is the field of a leaf
-    leaf-stored : (v : Value) → validValue v ≡ true → stored_at slot v fs ≡ nodeLoaded (p ++ k ∷ []) fs (leaf v)
-    unfolding stored_at storeNode
+    leaf-stored : (v : Value) → valid_value v ≡ true → stored_at slot v fs ≡ node_loaded (p ++ k ∷ []) fs (leaf v)
+    unfolding stored_at store_node
     leaf-stored v h = rw (has_key, child.is, held-valid v h)
 
-    module _ (d : ℕ) (s : Bytes) (v : ℕ) (x : ValueAt) (answer : valueAnswer s x ≡ placed readScalar s v) where
+    module _ (d : ℕ) (s : Bytes) (v : ℕ) (x : ValueAt) (answer : value_answer s x ≡ placed read_scalar s v) where
       pub leaf-loaded : v ≤ length s → (w : Scalar) (e : ℕ) → x ≡ value-at.At w e
-          → some (stored_at slot (valueIn s w) fs, e) ≡ placed (mapped (nodeLoaded (p ++ k ∷ []) fs) (read_node d)) s v
+          → some (stored_at slot (value_in s w) fs, e) ≡ placed (mapped (node_loaded (p ++ k ∷ []) fs) (read_node d)) s v
       leaf-loaded h w e i =
-          rw (leaf-stored (valueIn s w) (leaf-valid s v x answer h w e i)) (mapped-is _ (read_node d) s v _ e (node-leaf d s v x answer h w e i))
+          rw (leaf-stored (value_in s w) (leaf-valid s v x answer h w e i)) (mapped-is _ (read_node d) s v _ e (node-leaf d s v x answer h w e i))
 
       pub object-loaded : x ≡ value-at.Bad
-          → placed (mapped (loaded (pathIn slot) fs) (readObject d)) s v ≡ placed (mapped (nodeLoaded (p ++ k ∷ []) fs) (read_node d)) s v
-      unfolding loaded storeNode
-      object-loaded i = rw child.is (node-mapped d s v x answer i (nodeLoaded (p ++ k ∷ []) fs))
+          → placed (mapped (loaded (path_in slot) fs) (read_object d)) s v ≡ placed (mapped (node_loaded (p ++ k ∷ []) fs) (read_node d)) s v
+      unfolding loaded store_node
+      object-loaded i = rw child.is (node-mapped d s v x answer i (node_loaded (p ++ k ∷ []) fs))
 
 -- ── The members of an object at the path p, put into fields ──
 module _ (p : Keys) (fs : Fields) where
-  pub none-loaded : fs ≡ loaded p fs noMembers
-  unfolding loaded storeMembers
+  pub none-loaded : fs ≡ loaded p fs no_members
+  unfolding loaded store_members
   none-loaded = refl
 
-  pub member-loaded : (m : Members) (k : Bytes) (a : Node) (gs hs : Fields) → gs ≡ loaded p fs m → nodeLoaded (p ++ k ∷ []) gs a ≡ hs → hs ≡ loaded p fs (member m k a)
-  unfolding loaded storeMembers
-  member-loaded m k a gs hs e n = sym n ∙ ap (λ (l : Fields). nodeLoaded (p ++ k ∷ []) l a) e
+  pub member-loaded : (m : Members) (k : Bytes) (a : Node) (gs hs : Fields) → gs ≡ loaded p fs m → node_loaded (p ++ k ∷ []) gs a ≡ hs → hs ≡ loaded p fs (member m k a)
+  unfolding loaded store_members
+  member-loaded m k a gs hs e n = sym n ∙ ap (λ (l : Fields). node_loaded (p ++ k ∷ []) l a) e
 
 -- ── A table without fields ──
-pub emptied : (xs : Bytes) → fieldsIn (set xs 0 0) ≡ []
-unfolding fieldsIn table rows up_to is_empty
+pub emptied : (xs : Bytes) → fields_in (set xs 0 0) ≡ []
+unfolding fields_in table rows up_to is_empty
 emptied [] = refl
 emptied (x ∷ xs) = refl
 
@@ -127,18 +127,18 @@ emptied (x ∷ xs) = refl
 first-zero : (n : ℕ) → set (zeros n) 0 0 ≡ zeros n
 first-zero n = ap (set (zeros n) 0) (sym (zero-at n 0)) ∙ set-get_or (zeros n) 0 0
 
-pub emptied-zeros : (xs : Bytes) → xs ≡ zeros recordBytes → CanonicalFields (set xs 0 0)
-emptied-zeros xs e = rw (e, first-zero recordBytes) none-canonical
+pub emptied-zeros : (xs : Bytes) → xs ≡ zeros record_bytes → CanonicalFields (set xs 0 0)
+emptied-zeros xs e = rw (e, first-zero record_bytes) none-canonical
 
 -- ── The whole text ──
-tree-top : (s : Bytes) (m : Members) → tree_of s ≡ some m → (r : Bytes) × (readTop (skip s) ≡ some (m, r))
-unfolding tree_of readTop
+tree-top : (s : Bytes) (m : Members) → tree_of s ≡ some m → (r : Bytes) × (read_top (skip s) ≡ some (m, r))
+unfolding tree_of read_top
 tree-top s m h =
     bind-some _ _ m h λ t read h₁.
     check-some _ _ m h₁ λ rest h₂.
     (t.1, read ∙ ap (λ (o : Members). some (o, t.1)) (some_same h₂))
 
-loaded-same : (fs gs : Fields) (e : ℕ) (x : End) → loadAnswer fs x ≡ some (gs, e) → fs ≡ gs
+loaded-same : (fs gs : Fields) (e : ℕ) (x : End) → load_answer fs x ≡ some (gs, e) → fs ≡ gs
 loaded-same fs gs e (At n) h = ap (λ (t : Fields × ℕ). t.0) (some_same h)
 loaded-same fs gs e Bad h = none-some h
 
@@ -156,7 +156,7 @@ module _ (s : Bytes) where
       go none i = rw i
       go (some m) i = by_cases (twice m) (λ t. rw (i, t)) (λ t. let d : reading_of s ≡ done (count m) = rw (i, t) in refused-done (h ∙ d))
 
-  pub refused-fields : (r : RecordRead) → readAnswer r ≡ reading_of s → NoFields r → fields_of s ≡ none
+  pub refused-fields : (r : RecordRead) → read_answer r ≡ reading_of s → NoFields r → fields_of s ≡ none
   refused-fields record-read.NotRecord h o = unread 8 h
   refused-fields record-read.KeyTwice h o = unread 6 h
   refused-fields (record-read.Fields n) h (inl e) = absurd (omega arith)
@@ -171,16 +171,16 @@ module _ (s : Bytes) where
         let (once, d) = if-done 6 (twice m) _ n r in
         (m, t, once, done-same d)
 
-    pub many-fields : maxFields < n → fields_of s ≡ none
+    pub many-fields : max_fields < n → fields_of s ≡ none
     unfolding fields_of check ◌>>=◌ ◌>>◌
-    many-fields k = let (m, t, once, c) = tree in rw (t, once, c, lt-leb n maxFields k)
+    many-fields k = let (m, t, once, c) = tree in rw (t, once, c, lt-leb n max_fields k)
 
-    pub few-fields : n ≤ maxFields → (at : ℕ) → at ≡ runEnd isBlank s 0 → (fs : Fields) (x : End)
-        → loadAnswer fs x ≡ placed (mapped (loaded [] []) readTop) s at → fields_of s ≡ some fs
+    pub few-fields : n ≤ max_fields → (at : ℕ) → at ≡ run_end is_blank s 0 → (fs : Fields) (x : End)
+        → load_answer fs x ≡ placed (mapped (loaded [] []) read_top) s at → fields_of s ≡ some fs
     unfolding fields_of check placed behind mapped loaded ◌>>=◌ ◌>>◌
     few-fields k at is fs x answer =
         let (m, t, once, c) = tree in
         let (r, top) = tree-top s m t in
-        let read : readTop (drop at s) ≡ some (m, r) = rw (← skip_at s 0 at is) top in
-        let same = loaded-same fs (storeMembers [] m []) (length s - length r) x (answer ∙ rw read) in
-        rw (t, once, c, le-leb n maxFields k, same)
+        let read : read_top (drop at s) ≡ some (m, r) = rw (← skip_at s 0 at is) top in
+        let same = loaded-same fs (store_members [] m []) (length s - length r) x (answer ∙ rw read) in
+        rw (t, once, c, le-leb n max_fields k, same)

@@ -1,14 +1,14 @@
 // The fields of a record's text, put into a table.
 ghost use Rattle.std.specs.Prelude.{◌≡◌, [], ◌∷◌, ◌++◌, ◌+◌, ◌≤◌, length, take, replicate};
 ghost use Rattle.rows.specs.Positions.{placed};
-ghost use Rattle.model.specs.RecordText.{readObject};
-ghost use Rattle.paths.specs.Layout.{pathSlot, pathIn};
+ghost use Rattle.model.specs.RecordText.{read_object};
+ghost use Rattle.paths.specs.Layout.{path_slot, path_in};
 ghost use Rattle.layout.specs.Layout.{Keeps, CanonicalKeys};
-ghost use Rattle.record.specs.Slots.{recordBytes, fieldsIn, CanonicalFields};
-ghost use Rattle.reader.specs.Tokens.{mapped, readTop};
-ghost use Rattle.reader.specs.Summaries.{reading_of, readAnswer};
-ghost use Rattle.loader.specs.Loaded.{loaded, loadAnswer, fields_of, HoldsOrKeeps};
-ghost use Rattle.model.specs.Limits.{maxKey, maxDepth, maxText};
+ghost use Rattle.record.specs.Slots.{record_bytes, fields_in, CanonicalFields};
+ghost use Rattle.reader.specs.Tokens.{mapped, read_top};
+ghost use Rattle.reader.specs.Summaries.{reading_of, read_answer};
+ghost use Rattle.loader.specs.Loaded.{loaded, load_answer, fields_of, HoldsOrKeeps};
+ghost use Rattle.model.specs.Limits.{max_key, max_depth, max_text};
 
 use buffers::copy;
 use lexical::class::{Class, End, run};
@@ -23,9 +23,9 @@ use values::value::ValueAt;
 
 // The path of a key in the object at a path.
 fn put_child(child: &mut [u8; PATH], path: &[u8; PATH], key: &[u8])
-    ensures child_after { pathIn child.new ≡ take maxDepth (pathIn path.now ++ (take maxKey key.now ∷ [])) }
-    ensures child_len { length child.new ≡ pathSlot }
-    ensures keeps { Keeps (CanonicalKeys maxDepth) path.now child.new }
+    ensures child_after { path_in child.new ≡ take max_depth (path_in path.now ++ (take max_key key.now ∷ [])) }
+    ensures child_len { length child.new ≡ path_slot }
+    ensures keeps { Keeps (CanonicalKeys max_depth) path.now child.new }
 {
     copy(child, path);
     push_key(child, key, MAX_DEPTH);
@@ -39,9 +39,9 @@ fn load_object(
     depth: usize,
     path: &[u8; PATH],
 ) -> End
-    requires { (at ≤ length s.now) × (length s.now ≤ maxText) × (length (pathIn path.now) + depth ≤ maxDepth) }
-    ensures result_after { loadAnswer (fieldsIn table.new) result ≡ placed (mapped (loaded (pathIn path.now) (fieldsIn table.old)) (readObject depth)) s.now at }
-    ensures keeps { CanonicalKeys maxDepth path.now → Keeps CanonicalFields table.old table.new }
+    requires { (at ≤ length s.now) × (length s.now ≤ max_text) × (length (path_in path.now) + depth ≤ max_depth) }
+    ensures result_after { load_answer (fields_in table.new) result ≡ placed (mapped (loaded (path_in path.now) (fields_in table.old)) (read_object depth)) s.now at }
+    ensures keeps { CanonicalKeys max_depth path.now → Keeps CanonicalFields table.old table.new }
 {
     if depth == 0 {
         return End::Bad;
@@ -80,9 +80,9 @@ fn load_object(
 
 // The fields of a record's object, which may be empty, into a table that holds none.
 fn load_top(table: &mut [u8; RECORD], s: &[u8], at: usize) -> End
-    requires { (at ≤ length s.now) × (length s.now ≤ maxText) }
-    ensures result_after { loadAnswer (fieldsIn table.new) result ≡ placed (mapped (loaded [] []) readTop) s.now at }
-    ensures canonical_fields { table.old ≡ replicate recordBytes 0 → CanonicalFields table.new }
+    requires { (at ≤ length s.now) × (length s.now ≤ max_text) }
+    ensures result_after { load_answer (fields_in table.new) result ≡ placed (mapped (loaded [] []) read_top) s.now at }
+    ensures canonical_fields { table.old ≡ replicate record_bytes 0 → CanonicalFields table.new }
 {
     table[0] = 0;
     let TokenAt::Open(open) = token_at(s, at) else {
@@ -97,10 +97,10 @@ fn load_top(table: &mut [u8; RECORD], s: &[u8], at: usize) -> End
 
 // A record's text: refused, or how many fields it has; where a table has room for them it then holds them, else it keeps its bytes.
 pub fn read_record(table: &mut [u8; RECORD], s: &[u8]) -> RecordRead
-    requires { length s.now ≤ maxText }
-    ensures result_value { readAnswer result ≡ reading_of s.now }
+    requires { length s.now ≤ max_text }
+    ensures result_value { read_answer result ≡ reading_of s.now }
     ensures holds_or_keeps { HoldsOrKeeps (fields_of s.now) table.old table.new }
-    ensures canonical_fields { table.old ≡ replicate recordBytes 0 → CanonicalFields table.new }
+    ensures canonical_fields { table.old ≡ replicate record_bytes 0 → CanonicalFields table.new }
 {
     let read = read_summary(s);
     if let RecordRead::Fields(n) = read {

@@ -13,9 +13,9 @@ use lib.Pow.{pow-add, pow-lt, pow_pos, shl-shr, shr-shr, shr_lt, shl_exact}
 use mathlib.Core.List.{◌++◌}
 use lib.ListN.{length}
 use Rattle.model.specs.Base.{Bytes, if◌then◌else◌}
-use Rattle.model.specs.Limits.{maxUsers}
+use Rattle.model.specs.Limits.{max_users}
 use Rattle.model.proofs.Lists.{by_cases}
-use Rattle.masks.specs.Bits.{bit_at, mask_of, byteBits, maskBytes, littleEndian, bytes_of, decodeMask, encodeMask}
+use Rattle.masks.specs.Bits.{bit_at, mask_of, byte_bits, mask_bytes, little_endian, bytes_of, decode_mask, encode_mask}
 
 -- the number has no more than n bits
 mask_below : (f : ℕ → Bool) (n : ℕ) → mask_of f n < 2 ^ n
@@ -26,24 +26,24 @@ mask_below f (suc n) =
     by_cases (f n) (λ e. rw (e, two) (omega (arith, mask_below f n))) (λ e. rw (e, two) (omega (arith, mask_below f n)))
 
 -- ── `a & b`, `a | b`, `a ^ b`: an operation that goes digit by digit, by f, has the bits that t makes of the two numbers' bits ──
-abbrev digitOf : Bool → ℕ
-digitOf b = if b then 1 else 0
+abbrev digit_of : Bool → ℕ
+digit_of b = if b then 1 else 0
 
-digit : (m : ℕ) → m % 2 ≡ digitOf (eqb (m % 2) 1)
+digit : (m : ℕ) → m % 2 ≡ digit_of (eqb (m % 2) 1)
 digit m = by_cases (eqb (m % 2) 1)
     (λ e. rw e (eqb-true (m % 2) 1 e))
     (λ e. let d = eqb-false (m % 2) 1 e in rw e (omega arith))
 
-digit-back : (n : ℕ) (b : Bool) → eqb ((n * 2 + digitOf b) % 2) 1 ≡ b
+digit-back : (n : ℕ) (b : Bool) → eqb ((n * 2 + digit_of b) % 2) 1 ≡ b
 digit-back n true = eq-eqb ((n * 2 + 1) % 2) 1 (omega arith)
 digit-back n false = ne_eqb ((n * 2 + 0) % 2) 1 (λ e. omega arith)
 
 module _ (op f : ℕ → ℕ → ℕ) (t : Bool → Bool → Bool)
     (shr : (a b k : ℕ) → op a b / 2 ^ k ≡ op (a / 2 ^ k) (b / 2 ^ k))
     (step : (a b : ℕ) → op a b ≡ op (a / 2) (b / 2) * 2 + f (a % 2) (b % 2))
-    (e₀₀ : f 0 0 ≡ digitOf (t false false)) (e₀₁ : f 0 1 ≡ digitOf (t false true))
-    (e₁₀ : f 1 0 ≡ digitOf (t true false)) (e₁₁ : f 1 1 ≡ digitOf (t true true)) where
-  digits : (x y : Bool) → f (digitOf x) (digitOf y) ≡ digitOf (t x y)
+    (e₀₀ : f 0 0 ≡ digit_of (t false false)) (e₀₁ : f 0 1 ≡ digit_of (t false true))
+    (e₁₀ : f 1 0 ≡ digit_of (t true false)) (e₁₁ : f 1 1 ≡ digit_of (t true true)) where
+  digits : (x y : Bool) → f (digit_of x) (digit_of y) ≡ digit_of (t x y)
   digits false false = e₀₀
   digits false true = e₀₁
   digits true false = e₁₀
@@ -54,7 +54,7 @@ module _ (op f : ℕ → ℕ → ℕ) (t : Bool → Bool → Bool)
   op-bit a b j =
       let x = a / 2 ^ j in
       let y = b / 2 ^ j in
-      let low : f (x % 2) (y % 2) ≡ digitOf (t (bit_at a j) (bit_at b j)) = ap₂ f (digit x) (digit y) ∙ digits _ _ in
+      let low : f (x % 2) (y % 2) ≡ digit_of (t (bit_at a j) (bit_at b j)) = ap₂ f (digit x) (digit y) ∙ digits _ _ in
       rw (shr a b j, step x y, low) (digit-back (op (x / 2) (y / 2)) (t (bit_at a j) (bit_at b j)))
 
 pub and-bit : (a b j : ℕ) → bit_at (bit_and a b) j ≡ (bit_at a j && bit_at b j)
@@ -123,7 +123,7 @@ bits-same zero m n h l e = omega arith
 bits-same (suc k) m n h l e =
     let two : 2 ^ suc k ≡ 2 ^ k * 2 = pow-suc 2 k in
     let halves = bits-same k (m / 2) (n / 2) (omega arith) (omega arith) (λ j. bit-half m j ∙ e (suc j) ∙ sym (bit-half n j)) in
-    let first = digit m ∙ ap digitOf (sym (bit-first m) ∙ e 0 ∙ bit-first n) ∙ sym (digit n) in
+    let first = digit m ∙ ap digit_of (sym (bit-first m) ∙ e 0 ∙ bit-first n) ∙ sym (digit n) in
     omega arith
 
 -- where nothing is left of a number that is shifted down, it has no bit from there on
@@ -246,20 +246,20 @@ module _ (g : ℕ → Bool) (m₀ : ℕ) where
 bytes-long : (n m : ℕ) → length (bytes_of n m) ≡ n
 unfolding bytes_of
 bytes-long zero m = refl
-bytes-long (suc n) m = ap suc (bytes-long n (m / 2 ^ byteBits))
+bytes-long (suc n) m = ap suc (bytes-long n (m / 2 ^ byte_bits))
 
-pub mask-long : (m : ℕ) → length (encodeMask m) ≡ maskBytes
-unfolding encodeMask
-mask-long m = bytes-long maskBytes m
+pub mask-long : (m : ℕ) → length (encode_mask m) ≡ mask_bytes
+unfolding encode_mask
+mask-long m = bytes-long mask_bytes m
 
-bytes_back : (n m : ℕ) (rest : Bytes) → m < 2 ^ (n * byteBits) → littleEndian n (bytes_of n m ++ rest) ≡ m
-unfolding littleEndian bytes_of
+bytes_back : (n m : ℕ) (rest : Bytes) → m < 2 ^ (n * byte_bits) → little_endian n (bytes_of n m ++ rest) ≡ m
+unfolding little_endian bytes_of
 bytes_back zero m rest h = omega arith
 bytes_back (suc n) m rest h =
-    let less = shr_lt (n * byteBits) byteBits (rw suc-mul at h) in
-    rw (bytes_back n (m / 2 ^ byteBits) rest less) (omega arith)
+    let less = shr_lt (n * byte_bits) byte_bits (rw suc-mul at h) in
+    rw (bytes_back n (m / 2 ^ byte_bits) rest less) (omega arith)
 
 -- a mask in its bytes is read back, whatever stands behind them
-pub mask-back : (m : ℕ) (rest : Bytes) → m < 2 ^ maxUsers → decodeMask (encodeMask m ++ rest) ≡ m
-unfolding decodeMask encodeMask
-mask-back m rest h = bytes_back maskBytes m rest h
+pub mask-back : (m : ℕ) (rest : Bytes) → m < 2 ^ max_users → decode_mask (encode_mask m ++ rest) ≡ m
+unfolding decode_mask encode_mask
+mask-back m rest h = bytes_back mask_bytes m rest h

@@ -1,7 +1,7 @@
 // A mask in a u32, a bit for each user place, and the four bytes that it is kept in: bits are set and tested by shifts, and bytes put together and taken apart by them.
 ghost use Rattle.std.specs.Prelude.{◌≡◌, true, false, not, ◌&&◌, ◌||◌, ℕ, ◌+◌, ◌-◌, ◌*◌, ◌%◌, ◌≤◌, ◌<◌, ◌^◌, eqb, ltb, length};
-ghost use Rattle.model.specs.Limits.{maxUsers};
-ghost use Rattle.masks.specs.Bits.{bit_at, noneFrom, byteBits, maskBytes, decodeMask, encodeMask};
+ghost use Rattle.model.specs.Limits.{max_users};
+ghost use Rattle.masks.specs.Bits.{bit_at, none_from, byte_bits, mask_bytes, decode_mask, encode_mask};
 
 use lexical::limits::MAX_USERS;
 
@@ -15,7 +15,7 @@ pub const MASK: usize = MAX_USERS / BYTE_BITS as usize;
 
 // A mask with the bit of the place j set.
 pub fn with_bit(mask: u32, j: usize) -> u32
-    requires { j < maxUsers }
+    requires { j < max_users }
     ensures { (k : ℕ) → bit_at result k ≡ (eqb k j || bit_at mask k) }
 {
     mask | (1 << j)
@@ -23,7 +23,7 @@ pub fn with_bit(mask: u32, j: usize) -> u32
 
 // Whether the bit of the place j is set.
 pub fn has_bit(mask: u32, j: usize) -> bool
-    requires { j < maxUsers }
+    requires { j < max_users }
     ensures { result ≡ bit_at mask j }
 {
     (mask >> j) & 1 == 1
@@ -31,8 +31,8 @@ pub fn has_bit(mask: u32, j: usize) -> bool
 
 // Whether no bit is set from the place j on.
 pub fn none_from(mask: u32, j: usize) -> bool
-    requires { j < maxUsers }
-    ensures { result ≡ noneFrom mask j }
+    requires { j < max_users }
+    ensures { result ≡ none_from mask j }
 {
     mask >> j == 0
 }
@@ -40,14 +40,14 @@ pub fn none_from(mask: u32, j: usize) -> bool
 // The lowest place whose bit is set.
 pub fn first_bit(mask: u32) -> usize
     requires { 0 < mask }
-    ensures { (result < maxUsers) × (bit_at mask result ≡ true) × ((k : ℕ) → k < result → bit_at mask k ≡ false) }
+    ensures { (result < max_users) × (bit_at mask result ≡ true) × ((k : ℕ) → k < result → bit_at mask k ≡ false) }
 {
     u32::trailing_zeros(mask) as usize
 }
 
 // A mask without the bit of the place j, which is set in it.
 pub fn without_bit(mask: u32, j: usize) -> u32
-    requires { (j < maxUsers) × (bit_at mask j ≡ true) }
+    requires { (j < max_users) × (bit_at mask j ≡ true) }
     ensures { (result < mask) × ((k : ℕ) → bit_at result k ≡ (not (eqb k j) && bit_at mask k)) }
 {
     mask ^ (1 << j)
@@ -55,7 +55,7 @@ pub fn without_bit(mask: u32, j: usize) -> u32
 
 // The mask of the first n places, formed in 64 bits, as n may be all of them.
 pub fn first_places(n: usize) -> u32
-    requires { n ≤ maxUsers }
+    requires { n ≤ max_users }
     ensures { (k : ℕ) → bit_at result k ≡ ltb k n }
 {
     let one: u64 = 1;
@@ -78,30 +78,30 @@ pub fn difference(a: u32, b: u32) -> u32
 
 // A byte more at the end where it counts least.
 fn with_byte(high: u32, low: u8) -> u32
-    requires { high < 2 ^ (maxUsers - byteBits) }
-    ensures { (result ≡ low + 2 ^ byteBits * high) × (result < 2 ^ byteBits * (high + 1)) }
+    requires { high < 2 ^ (max_users - byte_bits) }
+    ensures { (result ≡ low + 2 ^ byte_bits * high) × (result < 2 ^ byte_bits * (high + 1)) }
 {
     (high << BYTE_BITS) | (low as u32)
 }
 
 // The mask in the first four bytes.
 pub fn decode_mask(s: &[u8]) -> u32
-    requires { maskBytes ≤ length s.now }
-    ensures { result ≡ decodeMask s.now }
+    requires { mask_bytes ≤ length s.now }
+    ensures { result ≡ decode_mask s.now }
 {
     with_byte(with_byte(with_byte(with_byte(0, s[3]), s[2]), s[1]), s[0])
 }
 
 // The byte that counts least.
 fn low_byte(mask: u32) -> u8
-    ensures { result ≡ mask % 2 ^ byteBits }
+    ensures { result ≡ mask % 2 ^ byte_bits }
 {
     (mask & FULL) as u8
 }
 
 // The bytes of a mask.
 pub fn encode_mask(mask: u32) -> [u8; MASK]
-    ensures { result ≡ encodeMask mask }
+    ensures { result ≡ encode_mask mask }
 {
     let second = mask >> BYTE_BITS;
     let third = second >> BYTE_BITS;

@@ -1,12 +1,12 @@
 // Paths in conflict: one is shorter, and each of its steps overlaps the other's step there.
 ghost use Rattle.std.specs.Prelude.{◌≡◌, ◌≤◌, ◌<◌, length};
 ghost use Rattle.model.specs.Base.{any, among};
-ghost use Rattle.model.specs.Limits.{maxDepth};
-ghost use Rattle.model.specs.Paths.{asSteps};
-ghost use Rattle.model.specs.Rights.{overlap, isAbove, conflict};
-ghost use Rattle.layout.specs.Layout.{slotCount};
-ghost use Rattle.paths.specs.Layout.{pathSlot, pathIn};
-ghost use Rattle.steps.specs.Steps.{namesSlot, stepRow, stepsSlot, namesIn, stepIn, stepsIn};
+ghost use Rattle.model.specs.Limits.{max_depth};
+ghost use Rattle.model.specs.Paths.{as_steps};
+ghost use Rattle.model.specs.Rights.{overlap, is_above, conflict};
+ghost use Rattle.layout.specs.Layout.{slot_count};
+ghost use Rattle.paths.specs.Layout.{path_slot, path_in};
+ghost use Rattle.steps.specs.Steps.{names_slot, step_row, steps_slot, names_in, step_in, steps_in};
 
 use crate::path::has_name;
 use layout::counted::{count, row_at};
@@ -17,8 +17,8 @@ use steps::step::{Kind, Step, one_name};
 
 // Whether two slots of names share one.
 fn share(a: &[u8], b: &[u8]) -> bool
-    requires { (namesSlot ≤ length a.now) × (namesSlot ≤ length b.now) }
-    ensures { result ≡ any (λ n. among n (namesIn b.now)) (namesIn a.now) }
+    requires { (names_slot ≤ length a.now) × (names_slot ≤ length b.now) }
+    ensures { result ≡ any (λ n. among n (names_in b.now)) (names_in a.now) }
 {
     let n = count(a, MAX_LISTED);
     let mut i = 0;
@@ -33,8 +33,8 @@ fn share(a: &[u8], b: &[u8]) -> bool
 
 // Whether the steps of two rows overlap.
 fn overlap(a: &[u8], b: &[u8]) -> bool
-    requires { (length a.now ≡ stepRow) × (length b.now ≡ stepRow) }
-    ensures { result ≡ overlap (stepIn a.now) (stepIn b.now) }
+    requires { (length a.now ≡ step_row) × (length b.now ≡ step_row) }
+    ensures { result ≡ overlap (step_in a.now) (step_in b.now) }
 {
     let Kind::Names = kind_of(a[0]) else {
         return true;
@@ -47,9 +47,9 @@ fn overlap(a: &[u8], b: &[u8]) -> bool
 
 // Whether the steps of a path, m of them, overlap those of a longer one.
 fn is_above(a: &[u8], m: usize, b: &[u8]) -> bool
-    requires steps_slot_in_bounds { (stepsSlot ≤ length a.now) × (stepsSlot ≤ length b.now) }
-    requires m_value { (m ≡ slotCount maxDepth a.now) × (m < slotCount maxDepth b.now) }
-    ensures { result ≡ isAbove (stepsIn a.now) (stepsIn b.now) }
+    requires steps_slot_in_bounds { (steps_slot ≤ length a.now) × (steps_slot ≤ length b.now) }
+    requires m_value { (m ≡ slot_count max_depth a.now) × (m < slot_count max_depth b.now) }
+    ensures { result ≡ is_above (steps_in a.now) (steps_in b.now) }
 {
     let mut i = 0;
     while i < m {
@@ -63,8 +63,8 @@ fn is_above(a: &[u8], m: usize, b: &[u8]) -> bool
 
 // Whether the paths are in conflict. Only the shorter can be above the other: paths of equal length never conflict, so most lines need no look at their steps.
 pub fn conflict(a: &[u8], b: &[u8]) -> bool
-    requires { (stepsSlot ≤ length a.now) × (stepsSlot ≤ length b.now) }
-    ensures { result ≡ conflict (stepsIn a.now) (stepsIn b.now) }
+    requires { (steps_slot ≤ length a.now) × (steps_slot ≤ length b.now) }
+    ensures { result ≡ conflict (steps_in a.now) (steps_in b.now) }
 {
     let m = count(a, MAX_DEPTH);
     let n = count(b, MAX_DEPTH);
@@ -79,8 +79,8 @@ pub fn conflict(a: &[u8], b: &[u8]) -> bool
 
 // A field's path as steps: each key counts as a list of one.
 pub fn steps_of(slot: &[u8]) -> [u8; STEPS]
-    requires { pathSlot ≤ length slot.now }
-    ensures { stepsIn result ≡ asSteps (pathIn slot.now) }
+    requires { path_slot ≤ length slot.now }
+    ensures { steps_in result ≡ as_steps (path_in slot.now) }
 {
     let n = count(slot, MAX_DEPTH);
     let mut steps = [0u8; STEPS];

@@ -2,11 +2,11 @@
 ghost use Rattle.std.specs.Prelude.{◌≡◌, true, ◌≤◌, length};
 ghost use Rattle.model.specs.Paths.{environment};
 ghost use Rattle.model.specs.Base.{any, among};
-ghost use Rattle.model.specs.Rights.{listed, isOnly, admits, matches};
-ghost use Rattle.paths.specs.Layout.{pathSlot, pathIn};
-ghost use Rattle.steps.specs.Steps.{namesSlot, stepRow, stepsSlot, operatorOf, namesIn, stepIn, stepsIn};
-ghost use Rattle.steps.specs.Environments.{bindingsBytes, bindingsIn};
-ghost use Rattle.matching.specs.Parts.{bindingCount, NamedFrom, mayAdmit, isMet, asks, has_value, mayMatch};
+ghost use Rattle.model.specs.Rights.{listed, is_only, admits, matches};
+ghost use Rattle.paths.specs.Layout.{path_slot, path_in};
+ghost use Rattle.steps.specs.Steps.{names_slot, step_row, steps_slot, operator_of, names_in, step_in, steps_in};
+ghost use Rattle.steps.specs.Environments.{bindings_bytes, bindings_in};
+ghost use Rattle.matching.specs.Parts.{binding_count, NamedFrom, may_admit, is_met, asks, has_value, may_match};
 
 use layout::counted::{count, row_at};
 use layout::name::{KEY_ROW, NAME_ROW, name_from};
@@ -18,8 +18,8 @@ use steps::step::{BINDING, BINDINGS, Kind, Operator};
 
 // Whether the key is one of the names.
 pub fn has_name(names: &[u8], key: &[u8]) -> bool
-    requires { namesSlot ≤ length names.now }
-    ensures { result ≡ among key.now (namesIn names.now) }
+    requires { names_slot ≤ length names.now }
+    ensures { result ≡ among key.now (names_in names.now) }
 {
     let n = count(names, MAX_LISTED);
     let mut i = 0;
@@ -34,8 +34,8 @@ pub fn has_name(names: &[u8], key: &[u8]) -> bool
 
 // Whether a line of the name n has the key as its value. The value is compared first: where it is another, the name need not be.
 fn has_line(lines: &[u8], n: &[u8], key: &[u8]) -> bool
-    requires { bindingsBytes ≤ length lines.now }
-    ensures { result ≡ among key.now (listed (bindingsIn lines.now) n.now) }
+    requires { bindings_bytes ≤ length lines.now }
+    ensures { result ≡ among key.now (listed (bindings_in lines.now) n.now) }
 {
     let mut i = 0;
     while i < BINDINGS {
@@ -56,7 +56,7 @@ fn has_line(lines: &[u8], n: &[u8], key: &[u8]) -> bool
 
 // The first row from `from` on whose line has the name n, or BINDINGS where there is none.
 fn line_named(lines: &[u8], from: usize, n: &[u8]) -> usize
-    requires { (bindingsBytes ≤ length lines.now) × (from ≤ bindingCount lines.now) }
+    requires { (bindings_bytes ≤ length lines.now) × (from ≤ binding_count lines.now) }
     ensures { NamedFrom lines.now n.now from result }
 {
     let mut i = from;
@@ -76,8 +76,8 @@ fn line_named(lines: &[u8], from: usize, n: &[u8]) -> usize
 
 // Whether there is exactly one line of the name n, and the key is its value.
 fn is_only(lines: &[u8], n: &[u8], key: &[u8]) -> bool
-    requires { bindingsBytes ≤ length lines.now }
-    ensures { result ≡ isOnly key.now (listed (bindingsIn lines.now) n.now) }
+    requires { bindings_bytes ≤ length lines.now }
+    ensures { result ≡ is_only key.now (listed (bindings_in lines.now) n.now) }
 {
     let first = line_named(lines, 0, n);
     if first == BINDINGS {
@@ -91,8 +91,8 @@ fn is_only(lines: &[u8], n: &[u8], key: &[u8]) -> bool
 
 // Whether the environment lines let `=~n` or `in~n`, as the operator says, admit the key.
 fn is_listed(lines: &[u8], operator: Operator, n: &[u8], key: &[u8]) -> bool
-    requires { bindingsBytes ≤ length lines.now }
-    ensures { result ≡ admits (bindingsIn lines.now) (environment (operatorOf operator) n.now) key.now }
+    requires { bindings_bytes ≤ length lines.now }
+    ensures { result ≡ admits (bindings_in lines.now) (environment (operator_of operator) n.now) key.now }
 {
     match operator {
         Operator::Equals => is_only(lines, n, key),
@@ -102,8 +102,8 @@ fn is_listed(lines: &[u8], operator: Operator, n: &[u8], key: &[u8]) -> bool
 
 // Whether some line has the key as its value: where none has, no environment step admits it.
 pub fn has_value(lines: &[u8], key: &[u8]) -> bool
-    requires { bindingsBytes ≤ length lines.now }
-    ensures { result ≡ has_value (bindingsIn lines.now) key.now }
+    requires { bindings_bytes ≤ length lines.now }
+    ensures { result ≡ has_value (bindings_in lines.now) key.now }
 {
     let mut i = 0;
     while i < BINDINGS {
@@ -121,8 +121,8 @@ pub fn has_value(lines: &[u8], key: &[u8]) -> bool
 
 // Whether the step in a row admits the key, given the right environment lines.
 fn may_admit(step: &[u8], key: &[u8]) -> bool
-    requires { length step.now ≡ stepRow }
-    ensures { result ≡ mayAdmit (stepIn step.now) key.now }
+    requires { length step.now ≡ step_row }
+    ensures { result ≡ may_admit (step_in step.now) key.now }
 {
     match kind_of(step[0]) {
         Kind::Names => has_name(&step[1..], key),
@@ -133,8 +133,8 @@ fn may_admit(step: &[u8], key: &[u8]) -> bool
 
 // Whether the step in a row asks the environment lines.
 pub fn asks(step: &[u8]) -> bool
-    requires { length step.now ≡ stepRow }
-    ensures { result ≡ asks (stepIn step.now) }
+    requires { length step.now ≡ step_row }
+    ensures { result ≡ asks (step_in step.now) }
 {
     match kind_of(step[0]) {
         Kind::Names => false,
@@ -145,8 +145,8 @@ pub fn asks(step: &[u8]) -> bool
 
 // Whether the environment lines let the step in a row admit the key: only an environment step asks them.
 fn is_met(lines: &[u8], step: &[u8], key: &[u8]) -> bool
-    requires { (bindingsBytes ≤ length lines.now) × (length step.now ≡ stepRow) }
-    ensures { result ≡ isMet (bindingsIn lines.now) (stepIn step.now) key.now }
+    requires { (bindings_bytes ≤ length lines.now) × (length step.now ≡ step_row) }
+    ensures { result ≡ is_met (bindings_in lines.now) (step_in step.now) key.now }
 {
     match kind_of(step[0]) {
         Kind::Names => true,
@@ -157,8 +157,8 @@ fn is_met(lines: &[u8], step: &[u8], key: &[u8]) -> bool
 
 // Whether the policy path in one slot matches the field's path in the other, given the right environment lines.
 pub fn may_match(steps: &[u8], slot: &[u8]) -> bool
-    requires { (stepsSlot ≤ length steps.now) × (pathSlot ≤ length slot.now) }
-    ensures { result ≡ mayMatch (stepsIn steps.now) (pathIn slot.now) }
+    requires { (steps_slot ≤ length steps.now) × (path_slot ≤ length slot.now) }
+    ensures { result ≡ may_match (steps_in steps.now) (path_in slot.now) }
 {
     let n = count(steps, MAX_DEPTH);
     if count(slot, MAX_DEPTH) != n {
@@ -176,8 +176,8 @@ pub fn may_match(steps: &[u8], slot: &[u8]) -> bool
 
 // Whether any step of the policy path asks the environment lines.
 pub fn asks_lines(steps: &[u8]) -> bool
-    requires { stepsSlot ≤ length steps.now }
-    ensures { result ≡ any asks (stepsIn steps.now) }
+    requires { steps_slot ≤ length steps.now }
+    ensures { result ≡ any asks (steps_in steps.now) }
 {
     let depth = count(steps, MAX_DEPTH);
     let mut i = 0;
@@ -192,9 +192,9 @@ pub fn asks_lines(steps: &[u8]) -> bool
 
 // Whether a policy path that may match does so with these environment lines.
 pub fn lines_match(lines: &[u8], steps: &[u8], slot: &[u8]) -> bool
-    requires bindings_bytes_in_bounds { (bindingsBytes ≤ length lines.now) × (stepsSlot ≤ length steps.now) × (pathSlot ≤ length slot.now) }
-    requires slot_value { mayMatch (stepsIn steps.now) (pathIn slot.now) ≡ true }
-    ensures { result ≡ matches (bindingsIn lines.now) (stepsIn steps.now) (pathIn slot.now) }
+    requires bindings_bytes_in_bounds { (bindings_bytes ≤ length lines.now) × (steps_slot ≤ length steps.now) × (path_slot ≤ length slot.now) }
+    requires slot_value { may_match (steps_in steps.now) (path_in slot.now) ≡ true }
+    ensures { result ≡ matches (bindings_in lines.now) (steps_in steps.now) (path_in slot.now) }
 {
     let n = count(steps, MAX_DEPTH);
     let mut i = 0;
@@ -209,8 +209,8 @@ pub fn lines_match(lines: &[u8], steps: &[u8], slot: &[u8]) -> bool
 
 // Whether the policy path in one slot matches the field's path in the other. The lines are asked only where a step asks them.
 pub fn matches(lines: &[u8], steps: &[u8], slot: &[u8]) -> bool
-    requires { (bindingsBytes ≤ length lines.now) × (stepsSlot ≤ length steps.now) × (pathSlot ≤ length slot.now) }
-    ensures { result ≡ matches (bindingsIn lines.now) (stepsIn steps.now) (pathIn slot.now) }
+    requires { (bindings_bytes ≤ length lines.now) × (steps_slot ≤ length steps.now) × (path_slot ≤ length slot.now) }
+    ensures { result ≡ matches (bindings_in lines.now) (steps_in steps.now) (path_in slot.now) }
 {
     if !may_match(steps, slot) {
         return false;

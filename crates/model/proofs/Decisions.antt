@@ -8,118 +8,118 @@ use mathlib.Core.Bool.{Bool, true, false, not}
 use native.Mathlib.Omega.{arith}
 use borrow.Author.Tests.{not-false, ltb-false, leb-false, eqb-true}
 use lib.ListN.{length}
-use Rattle.model.specs.Base.{Bytes, if◌then◌else◌, firstFrom, is_some, ◌>>=◌}
-use Rattle.model.specs.Limits.{listRoom, maxLogins}
+use Rattle.model.specs.Base.{Bytes, if◌then◌else◌, first_from, is_some, ◌>>=◌}
+use Rattle.model.specs.Limits.{list_room, max_logins}
 use Rattle.model.specs.Values.{Value}
 use Rattle.model.specs.Fields.{Keys, Field, holds}
 use Rattle.model.specs.Refusals.{Result, refused, done}
-use Rattle.model.specs.Tables.{User, Tables, userAt, userNamed}
+use Rattle.model.specs.Tables.{User, Tables, user_at, user_named}
 use Rattle.model.specs.Rights.{may_write}
 use Rattle.model.specs.Opening.{LoginState, State}
-use Rattle.model.specs.Requests.{Ask, Request, login, inSession, get, push, logout, requestOf, pushOf, logoutOf}
-use Rattle.model.specs.Serving.{sessionNumber, indexIn, isSession, loginAt, Change, setsLogin, shows, stores, Asker, asker, decideShow, entered, closed, decideLogin, decideGet, creating, decidePush, decideLogout, room_for, decide, decideSave, shown, answer_of, session, length-is, Act, line, save, bufferOf, list_of, decideLine, decision, Outcome, conclude, outcome}
-use Rattle.model.specs.Runs.{requestOfAct, index_of, ifUser, owner, in_set, sessionIn}
+use Rattle.model.specs.Requests.{Ask, Request, login, in_session, get, push, logout, request_of, push_of, logout_of}
+use Rattle.model.specs.Serving.{session_number, index_in, is_session, login_at, Change, sets_login, shows, stores, Asker, asker, decide_show, entered, closed, decide_login, decide_get, creating, decide_push, decide_logout, room_for, decide, decide_save, shown, answer_of, session, length_is, Act, line, save, buffer_of, list_of, decide_line, decision, Outcome, conclude, outcome}
+use Rattle.model.specs.Runs.{request_of_act, index_of, if_user, owner, in_set, session_in}
 use Rattle.model.proofs.Lists.{by_cases, never, refused-done, none-some, if-done, past-if, past-or, past, done-same, and_both, elem_below}
 use Rattle.model.proofs.Reading.{some_same}
 use Rattle.model.proofs.Order.{one}
 
 -- ── Whose a request is ──
-pub user-owner : (t : Tables) (i : ℕ) (u : User) → userAt t.users i ≡ some u → ifUser t i ≡ some i
-unfolding ifUser is_some
+pub user-owner : (t : Tables) (i : ℕ) (u : User) → user_at t.users i ≡ some u → if_user t i ≡ some i
+unfolding if_user is_some
 user-owner t i u e = rw e
 
 -- whose a session's request is, its number says
-pub owner-index : (t : Tables) (n : ℕ) (a : Ask) (i : ℕ) → owner t (inSession n a) ≡ some i → indexIn n ≡ i
-unfolding owner ifUser
-owner-index t n a i h = by_cases (is_some (userAt t.users (indexIn n))) (λ e. some_same (rw e at h)) (λ e. none-some (rw e at h))
+pub owner-index : (t : Tables) (n : ℕ) (a : Ask) (i : ℕ) → owner t (in_session n a) ≡ some i → index_in n ≡ i
+unfolding owner if_user
+owner-index t n a i h = by_cases (is_some (user_at t.users (index_in n))) (λ e. some_same (rw e at h)) (λ e. none-some (rw e at h))
 
 -- an index that is a user's and of the set is of the set
-pub owner-in : (set : ℕ → Bool) (t : Tables) (i : ℕ) → in_set set (ifUser t i) ≡ true → set i ≡ true
-unfolding ifUser in_set
-owner-in set t i h = by_cases (is_some (userAt t.users i)) (λ e. rw e at h) (λ e. never (sym (rw e at h)))
+pub owner-in : (set : ℕ → Bool) (t : Tables) (i : ℕ) → in_set set (if_user t i) ≡ true → set i ≡ true
+unfolding if_user in_set
+owner-in set t i h = by_cases (is_some (user_at t.users i)) (λ e. rw e at h) (λ e. never (sym (rw e at h)))
 
 -- and a session number says the index that it was made from
-pub index-of : (i : ℕ) (a : LoginState) → a.logins ≤ maxLogins → indexIn (sessionNumber i a) ≡ i
-unfolding indexIn sessionNumber
+pub index-of : (i : ℕ) (a : LoginState) → a.logins ≤ max_logins → index_in (session_number i a) ≡ i
+unfolding index_in session_number
 index-of i a h = omega arith
 
 -- a session number is answered where one is opened, and nowhere else
-pub answers-session : {C : Type 0} (i : ℕ) (a : LoginState) (n : ℕ) → answer_of (setsLogin i a) ≡ session n → (a.isOpen ≡ true → sessionNumber i a ≡ n → C) → C
-unfolding answer_of sessionIn sessionNumber
-answers-session i a n h f = by_cases a.isOpen (λ e. f e (some_same (ap sessionIn (rw e at h)))) (λ e. none-some (ap sessionIn (rw e at h)))
+pub answers-session : {C : Type 0} (i : ℕ) (a : LoginState) (n : ℕ) → answer_of (sets_login i a) ≡ session n → (a.is_open ≡ true → session_number i a ≡ n → C) → C
+unfolding answer_of session_in session_number
+answers-session i a n h f = by_cases a.is_open (λ e. f e (some_same (ap session_in (rw e at h)))) (λ e. none-some (ap session_in (rw e at h)))
 
 -- and a length nowhere
-pub answers-length : {C : Type 0} (i : ℕ) (a : LoginState) (n : ℕ) → answer_of (setsLogin i a) ≡ length-is n → C
+pub answers-length : {C : Type 0} (i : ℕ) (a : LoginState) (n : ℕ) → answer_of (sets_login i a) ≡ length_is n → C
 unfolding answer_of
-answers-length i a n h = by_cases a.isOpen
+answers-length i a n h = by_cases a.is_open
     (λ e. let k = rw e at h in let z : ◌≡◌ {A = ℕ} 0 1 = cc in absurd (omega arith))
     (λ e. let k = rw e at h in let z : ◌≡◌ {A = ℕ} 0 1 = cc in absurd (omega arith))
 
 -- the first that passes is found below the end
-first_below : {A : Type 0} (k : ℕ) (f : A → Bool) (xs : List A) (t : ℕ × A) → firstFrom k f xs ≡ some t → t.0 < k + length xs
-unfolding firstFrom
+first_below : {A : Type 0} (k : ℕ) (f : A → Bool) (xs : List A) (t : ℕ × A) → first_from k f xs ≡ some t → t.0 < k + length xs
+unfolding first_from
 first_below k f [] t h = none-some h
 first_below k f (x ∷ xs) t h = by_cases (f x)
     (λ e. omega (arith, ap (λ (u : ℕ × _). u.0) (some_same (rw e at h))))
     (λ e. omega (arith, first_below (suc k) f xs t (rw e at h)))
 
-named-below : (t : Tables) (n : Bytes) (w : ℕ × User) → userNamed n t.users ≡ some w → w.0 < length t.users
-unfolding userNamed
+named-below : (t : Tables) (n : Bytes) (w : ℕ × User) → user_named n t.users ≡ some w → w.0 < length t.users
+unfolding user_named
 named-below t n w h = omega (arith, first_below 0 _ t.users w h)
 
-user-below : (t : Tables) (i : ℕ) (u : User) → userAt t.users i ≡ some u → i < length t.users
-unfolding userAt
+user-below : (t : Tables) (i : ℕ) (u : User) → user_at t.users i ≡ some u → i < length t.users
+unfolding user_at
 user-below t i u h = elem_below t.users i u h
 
 -- ── What is known of a change, by the request that asks for it; a save asks for none ──
-abbrev pub ownerOf : State → Option Request → Option ℕ
-ownerOf s q = q >>= owner s.tables
+abbrev pub owner_of : State → Option Request → Option ℕ
+owner_of s q = q >>= owner s.tables
 
 -- the field that is to be stored
-abbrev pub fieldIn : Option Request → Option Field
-fieldIn q = q >>= pushOf
+abbrev pub field_in : Option Request → Option Field
+field_in q = q >>= push_of
 
 -- the number of the session that is to be closed
 abbrev pub number_in : Option Request → Option ℕ
-number_in q = q >>= logoutOf
+number_in q = q >>= logout_of
 
 -- a login state changes: a session is opened, which counts as a login, or the one that is to be is closed, and nothing is created
 pub record LoginSet (s : State) (q : Option Request) (i : ℕ) (a : LoginState) : Type 0 where
-  pub owned : ownerOf s q ≡ some i
-  pub quiet : fieldIn q ≡ none
-  pub closes : number_in q ≡ (if a.isOpen then none else some (sessionNumber i (loginAt s i)))
+  pub owned : owner_of s q ≡ some i
+  pub quiet : field_in q ≡ none
+  pub closes : number_in q ≡ (if a.is_open then none else some (session_number i (login_at s i)))
   pub below : i < length s.tables.users
-  pub turned : (loginAt s i).isOpen ≡ not a.isOpen
-  pub counted : a.logins ≡ (loginAt s i).logins + one a.isOpen
-  pub few : (loginAt s i).logins ≤ maxLogins → a.logins ≤ maxLogins
-  pub sameCreated : a.created ≡ (loginAt s i).created
+  pub turned : (login_at s i).is_open ≡ not a.is_open
+  pub counted : a.logins ≡ (login_at s i).logins + one a.is_open
+  pub few : (login_at s i).logins ≤ max_logins → a.logins ≤ max_logins
+  pub same_created : a.created ≡ (login_at s i).created
 
 -- a field is stored: by a user who may write its path, within the quota
 pub record Stored (s : State) (q : Option Request) (i : ℕ) (a : LoginState) (f : Field) : Type 0 where
-  pub owned : ownerOf s q ≡ some i
-  pub pushed : fieldIn q ≡ some f
-  pub closesNone : number_in q ≡ none
+  pub owned : owner_of s q ≡ some i
+  pub pushed : field_in q ≡ some f
+  pub closes_none : number_in q ≡ none
   pub user : User
-  pub isUser : userAt s.tables.users i ≡ some user
+  pub is_user : user_at s.tables.users i ≡ some user
   pub writes : may_write s.tables.policy user f.path ≡ true
-  pub after : a ≡ creating (loginAt s i) (holds f.path s.fields)
-  pub room : holds f.path s.fields ≡ false → (loginAt s i).created < user.quota
+  pub after : a ≡ creating (login_at s i) (holds f.path s.fields)
+  pub room : holds f.path s.fields ≡ false → (login_at s i).created < user.quota
 
 -- a text is shown
 pub record Shown (q : Option Request) : Type 0 where
-  pub quiet : fieldIn q ≡ none
-  pub closesNone : number_in q ≡ none
+  pub quiet : field_in q ≡ none
+  pub closes_none : number_in q ≡ none
 
 abbrev pub Decided : State → Option Request → Change → Type 0
-Decided s q (setsLogin i a) = LoginSet s q i a
+Decided s q (sets_login i a) = LoginSet s q i a
 Decided s q (shows t) = Shown q
 Decided s q (stores i a f) = Stored s q i a f
 
 -- what is written has room
 abbrev pub Fits : ℕ → Change → Type 0
-Fits room (setsLogin i a) = Unit {0}
+Fits room (sets_login i a) = Unit {0}
 Fits room (shows t) = length t ≤ room
-Fits room (stores i a f) = listRoom ≤ room
+Fits room (stores i a f) = list_room ≤ room
 
 abbrev Known : State → Request → ℕ → Change → Type 0
 Known s q room c = Decided s (some q) c × Fits room c
@@ -127,37 +127,37 @@ Known s q room c = Decided s (some q) c × Fits room c
 -- ── The grounds that words share ──
 -- 14: who asks is the user whom the number says, in an open session of that number
 pub record Asking (s : State) (n : ℕ) (a : Asker) : Type 0 where
-  pub index : a.index ≡ indexIn n
-  pub isUser : userAt s.tables.users (indexIn n) ≡ some a.user
-  pub login : a.login ≡ loginAt s (indexIn n)
-  pub isOpen : isSession (indexIn n) (loginAt s (indexIn n)) n ≡ true
+  pub index : a.index ≡ index_in n
+  pub is_user : user_at s.tables.users (index_in n) ≡ some a.user
+  pub login : a.login ≡ login_at s (index_in n)
+  pub is_open : is_session (index_in n) (login_at s (index_in n)) n ≡ true
 
 pub asking : (s : State) (n : ℕ) (a : Asker) → asker s n ≡ done a → Asking s n a
 unfolding asker
 asking s n a h =
-    past-or _ _ _ _ h λ u isUser h₁.
-    past-if _ _ _ _ h₁ λ isOpen h₂.
-    rw (← done-same h₂) (record { index = refl; isUser = isUser; login = refl; isOpen = not-false _ isOpen })
+    past-or _ _ _ _ h λ u is_user h₁.
+    past-if _ _ _ _ h₁ λ is_open h₂.
+    rw (← done-same h₂) (record { index = refl; is_user = is_user; login = refl; is_open = not-false _ is_open })
 
-asking-owner : (s : State) (n : ℕ) (a : Asker) (k : Ask) → Asking s n a → owner s.tables (inSession n k) ≡ some a.index
+asking-owner : (s : State) (n : ℕ) (a : Asker) (k : Ask) → Asking s n a → owner s.tables (in_session n k) ≡ some a.index
 unfolding owner
-asking-owner s n a k h = rw h.index (user-owner s.tables (indexIn n) a.user h.isUser)
+asking-owner s n a k h = rw h.index (user-owner s.tables (index_in n) a.user h.is_user)
 
 -- 15
-pub show-change : (t : Bytes) (room : ℕ) (c : Change) → decideShow t room ≡ done c → shows t ≡ c
-unfolding decideShow
+pub show-change : (t : Bytes) (room : ℕ) (c : Change) → decide_show t room ≡ done c → shows t ≡ c
+unfolding decide_show
 show-change t room c h = done-same (if-done _ _ _ _ h).1
 
-show-known : (s : State) (q : Request) → Shown (some q) → (t : Bytes) (room : ℕ) (c : Change) → decideShow t room ≡ done c → Known s q room c
-unfolding decideShow
+show-known : (s : State) (q : Request) → Shown (some q) → (t : Bytes) (room : ℕ) (c : Change) → decide_show t room ≡ done c → Known s q room c
+unfolding decide_show
 show-known s q quiet t room c h = past-if _ _ _ _ h λ fits h₁. rw (← done-same h₁) (quiet, ltb-false _ _ fits)
 
 -- ── Each word ──
 -- a login's change
-pub login-change : {C : Type 0} (s : State) (n k : Bytes) (c : Change) → decideLogin s n k ≡ done c →
-    ((i : ℕ) (u : User) → userNamed n s.tables.users ≡ some (i, u) → (loginAt s i).isOpen ≡ false → (loginAt s i).logins < maxLogins →
-    setsLogin i (entered (loginAt s i)) ≡ c → C) → C
-unfolding decideLogin
+pub login-change : {C : Type 0} (s : State) (n k : Bytes) (c : Change) → decide_login s n k ≡ done c →
+    ((i : ℕ) (u : User) → user_named n s.tables.users ≡ some (i, u) → (login_at s i).is_open ≡ false → (login_at s i).logins < max_logins →
+    sets_login i (entered (login_at s i)) ≡ c → C) → C
+unfolding decide_login
 login-change s n k c h f =
     past-or _ _ _ _ h λ t named h₁.
     past-if _ _ _ _ h₁ λ right h₂.
@@ -167,7 +167,7 @@ login-change s n k c h f =
 
 module _ (s : State) (room : ℕ) (c : Change) where
   login-known : (n k : Bytes) → decide s (login n k) room ≡ done c → Known s (login n k) room c
-  unfolding decide owner index_of pushOf logoutOf ◌>>=◌ one
+  unfolding decide owner index_of push_of logout_of ◌>>=◌ one
   login-known n k h =
       login-change s n k c h λ i u named shut few e.
       rw (← e) (
@@ -179,19 +179,19 @@ module _ (s : State) (room : ℕ) (c : Change) where
           turned = shut;
           counted = omega arith;
           few = λ h. omega arith;
-          sameCreated = refl;
+          same_created = refl;
         },
         tt,
       )
 
-  get-known : (n : ℕ) → decide s (inSession n get) room ≡ done c → Known s (inSession n get) room c
-  unfolding decide decideGet pushOf logoutOf ◌>>=◌
+  get-known : (n : ℕ) → decide s (in_session n get) room ≡ done c → Known s (in_session n get) room c
+  unfolding decide decide_get push_of logout_of ◌>>=◌
   get-known n h =
       past _ _ _ h λ a isAsker h₁.
-      show-known s _ (record { quiet = refl; closesNone = refl }) _ room c h₁
+      show-known s _ (record { quiet = refl; closes_none = refl }) _ room c h₁
 
-  push-known : (n : ℕ) (p : Keys) (v : Value) → decide s (inSession n (push p v)) room ≡ done c → Known s (inSession n (push p v)) room c
-  unfolding decide decidePush pushOf logoutOf ◌>>=◌
+  push-known : (n : ℕ) (p : Keys) (v : Value) → decide s (in_session n (push p v)) room ≡ done c → Known s (in_session n (push p v)) room c
+  unfolding decide decide_push push_of logout_of ◌>>=◌
   push-known n p v h =
       past-if _ _ _ _ h λ long h₁.
       past _ _ _ h₁ λ a isAsker h₂.
@@ -202,9 +202,9 @@ module _ (s : State) (room : ℕ) (c : Change) where
         record {
           owned = asking-owner s n a _ k;
           pushed = refl;
-          closesNone = refl;
+          closes_none = refl;
           user = a.user;
-          isUser = rw k.index k.isUser;
+          is_user = rw k.index k.is_user;
           writes = not-false _ may;
           after = rw (k.login, k.index);
           room = λ e. rw (k.index, ← k.login) (leb-false _ _ (rw e at free));
@@ -212,8 +212,8 @@ module _ (s : State) (room : ℕ) (c : Change) where
         ltb-false _ _ long,
       )
 
-  logout-known : (n : ℕ) → decide s (inSession n logout) room ≡ done c → Known s (inSession n logout) room c
-  unfolding decide decideLogout pushOf logoutOf isSession ◌>>=◌ one
+  logout-known : (n : ℕ) → decide s (in_session n logout) room ≡ done c → Known s (in_session n logout) room c
+  unfolding decide decide_logout push_of logout_of is_session ◌>>=◌ one
   logout-known n h =
       past _ _ _ h λ a isAsker h₁.
       let k = asking s n a isAsker in
@@ -221,47 +221,47 @@ module _ (s : State) (room : ℕ) (c : Change) where
         record {
           owned = asking-owner s n a _ k;
           quiet = refl;
-          closes = ap some (sym (rw k.index (eqb-true _ _ (and_both (loginAt s (indexIn n)).isOpen _ k.isOpen).1)));
-          below = rw k.index (user-below s.tables (indexIn n) a.user k.isUser);
-          turned = rw k.index (and_both (loginAt s (indexIn n)).isOpen _ k.isOpen).0;
+          closes = ap some (sym (rw k.index (eqb-true _ _ (and_both (login_at s (index_in n)).is_open _ k.is_open).1)));
+          below = rw k.index (user-below s.tables (index_in n) a.user k.is_user);
+          turned = rw k.index (and_both (login_at s (index_in n)).is_open _ k.is_open).0;
           counted = rw (k.login, k.index) (omega arith);
           few = λ e. rw (k.login, ← k.index) e;
-          sameCreated = rw (k.login, k.index);
+          same_created = rw (k.login, k.index);
         },
         tt,
       )
 
 known : (s : State) (q : Request) (room : ℕ) (c : Change) → decide s q room ≡ done c → Known s q room c
 known s (login n k) room c h = login-known s room c n k h
-known s (inSession n get) room c h = get-known s room c n h
-known s (inSession n (push p v)) room c h = push-known s room c n p v h
-known s (inSession n logout) room c h = logout-known s room c n h
+known s (in_session n get) room c h = get-known s room c n h
+known s (in_session n (push p v)) room c h = push-known s room c n p v h
+known s (in_session n logout) room c h = logout-known s room c n h
 
 pub decided : (s : State) (q : Request) (room : ℕ) (c : Change) → decide s q room ≡ done c → Decided s (some q) c
 decided s q room c h = (known s q room c h).0
 
 -- ── Each act ──
-decided-line : (s : State) (b : Bytes) (l : List ℕ) (q : Option Request) (c : Change) → decideLine s b l q ≡ done c → Decided s q c
-unfolding decideLine
+decided-line : (s : State) (b : Bytes) (l : List ℕ) (q : Option Request) (c : Change) → decide_line s b l q ≡ done c → Decided s q c
+unfolding decide_line
 decided-line s b l none c h = refused-done h
 decided-line s b l (some q) c h = decided s q _ c h
 
 abbrev pub DecidedBy : State → Act → Change → Type 0
-DecidedBy s a c = Decided s (requestOfAct a) c
+DecidedBy s a c = Decided s (request_of_act a) c
 
 decided-act : (s : State) (a : Act) (c : Change) → decision s a ≡ done c → DecidedBy s a c
-unfolding decision decideSave requestOfAct ◌>>=◌
-decided-act s (line t b l) c h = decided-line s b l (requestOf t) c h
-decided-act s (save b) c h = rw (← show-change _ _ c h) (record { quiet = refl; closesNone = refl })
+unfolding decision decide_save request_of_act ◌>>=◌
+decided-act s (line t b l) c h = decided-line s b l (request_of t) c h
+decided-act s (save b) c h = rw (← show-change _ _ c h) (record { quiet = refl; closes_none = refl })
 
 -- an act is refused, or something is decided
 pub by-decision : (P : Outcome → Type 0) (s : State) (a : Act) →
-    ((e : ℕ) → P (conclude s (bufferOf a) (list_of a) (refused e))) →
-    ((c : Change) → DecidedBy s a c → P (conclude s (bufferOf a) (list_of a) (done c))) → P (outcome s a)
+    ((e : ℕ) → P (conclude s (buffer_of a) (list_of a) (refused e))) →
+    ((c : Change) → DecidedBy s a c → P (conclude s (buffer_of a) (list_of a) (done c))) → P (outcome s a)
 unfolding outcome
 by-decision P s a f g = go (decision s a) refl
   where
-    go : (x : Result ℕ Change) → decision s a ≡ x → P (conclude s (bufferOf a) (list_of a) x)
+    go : (x : Result ℕ Change) → decision s a ≡ x → P (conclude s (buffer_of a) (list_of a) x)
     go (refused e) h = f e
     go (done c) h = g c (decided-act s a c h)
 
@@ -271,20 +271,20 @@ abbrev HasRoom : Option Field → ℕ → ℕ → ℕ → Type 0
 HasRoom none room buffer list = room ≤ buffer
 HasRoom (some f) room buffer list = room ≤ list
 
-has_room : (q : Request) (b : Bytes) (l : List ℕ) → HasRoom (pushOf q) (room_for q b l) (length b) (length l)
-unfolding room_for pushOf
+has_room : (q : Request) (b : Bytes) (l : List ℕ) → HasRoom (push_of q) (room_for q b l) (length b) (length l)
+unfolding room_for push_of
 has_room (login u k) b l = omega arith
-has_room (inSession n get) b l = omega arith
-has_room (inSession n (push p v)) b l = omega arith
-has_room (inSession n logout) b l = omega arith
+has_room (in_session n get) b l = omega arith
+has_room (in_session n (push p v)) b l = omega arith
+has_room (in_session n logout) b l = omega arith
 
 module _ (s : State) (q : Request) (b : Bytes) (l : List ℕ) where
   pub shown-fits : (c : Change) → decide s q (room_for q b l) ≡ done c → length (shown c) ≤ length b
   unfolding shown ◌>>=◌
-  shown-fits (setsLogin i a) h = omega arith
+  shown-fits (sets_login i a) h = omega arith
   shown-fits (shows t) h = let (text-shown, fits) = known s q _ _ h in omega (arith, rw text-shown.quiet at (has_room q b l))
   shown-fits (stores i a f) h = omega arith
 
-  pub told-fits : (i : ℕ) (a : LoginState) (f : Field) → decide s q (room_for q b l) ≡ done (stores i a f) → listRoom ≤ length l
+  pub told-fits : (i : ℕ) (a : LoginState) (f : Field) → decide s q (room_for q b l) ≡ done (stores i a f) → list_room ≤ length l
   unfolding ◌>>=◌
   told-fits i a f h = let (stored, fits) = known s q _ _ h in omega (arith, rw stored.pushed at (has_room q b l))

@@ -5,7 +5,7 @@ use mathlib.Core.List.{List, [], ◌∷◌, ◌++◌}
 use mathlib.Core.Bool.{Bool, true, false, not, ◌||◌}
 use lib.ListN.{take}
 use Rattle.model.specs.Base.{Bytes, ◌==◌, All}
-use Rattle.model.specs.Fields.{Keys, Field, Fields, orderPath, put}
+use Rattle.model.specs.Fields.{Keys, Field, Fields, order_path, put}
 use Rattle.model.proofs.Lists.{by_cases, never, or_right, bytes_eq, bytes-refl, bytes-ne, all_append, all_take}
 use Rattle.model.proofs.Order.{by_three, put-less, put_same, put-more, all-put}
 
@@ -83,7 +83,7 @@ Diverging fs = Pairs (λ f g. diverge f.path g.path ≡ true) fs
 
 pub diverging-put : (f : Field) (gs : Fields) → DivergesFrom f.path gs → Diverging gs → Diverging (put f gs)
 diverging-put f [] h d = unfold put in (tt, tt)
-diverging-put f (g ∷ gs) h d = by_three (orderPath f.path g.path)
+diverging-put f (g ∷ gs) h d = by_three (order_path f.path g.path)
     (λ e. rw (put-less f g gs e) (h, d))
     (λ e. rw (put_same f g gs e) (h.1, d.1))
     (λ e. rw (put-more f g gs e) (all-put _ f gs (diverge-flip _ _ ∙ h.0) d.0, diverging-put f gs h.1 d.1))

@@ -9,8 +9,8 @@ use lib.ListN.{length, take}
 use lib.Seq.{take_all}
 use native.Mathlib.Omega.{arith}
 use Rattle.model.specs.Base.{keep, is_some, All}
-use Rattle.model.specs.Limits.{maxFields}
-use Rattle.model.specs.Fields.{Keys, Field, Fields, and_then, lex, orderKey, orderPath, by_order, value_at, holds, put, store}
+use Rattle.model.specs.Limits.{max_fields}
+use Rattle.model.specs.Fields.{Keys, Field, Fields, and_then, lex, order_key, order_path, by_order, value_at, holds, put, store}
 use Rattle.model.proofs.Lists.{by_cases, never, all_keep, keep-yes, keep-no}
 
 -- ── An order ──
@@ -121,13 +121,13 @@ module _ {A : Type 0} (o : A → A → Ordering) (r : Orders o) where
   lex-orders : Orders (lex o)
   lex-orders = record { same = lex-same; self = lex-self; flip = lex-flip; trans = lex-trans }
 
-pub key-orders : Orders orderKey
-unfolding orderKey
+pub key-orders : Orders order_key
+unfolding order_key
 key-orders = lex-orders compare compare-orders
 
-pub path-orders : Orders orderPath
-unfolding orderPath
-path-orders = lex-orders orderKey key-orders
+pub path-orders : Orders order_path
+unfolding order_path
+path-orders = lex-orders order_key key-orders
 
 -- ── Three cases ──
 pub by_three : {C : Type 0} (o : Ordering) → (o ≡ Ordering.lt → C) → (o ≡ Ordering.eq → C) → (o ≡ Ordering.gt → C) → C
@@ -137,16 +137,16 @@ by_three Ordering.gt f g h = h refl
 
 -- p is before q
 abbrev pub Before : Keys → Keys → Type 0
-Before p q = orderPath p q ≡ Ordering.lt
+Before p q = order_path p q ≡ Ordering.lt
 
 pub before-trans : (p q r : Keys) → Before p q → Before q r → Before p r
 before-trans p q r h k = path-orders.trans p q r h k
 
-pub after-before : (p q : Keys) → orderPath p q ≡ Ordering.gt → Before q p
+pub after-before : (p q : Keys) → order_path p q ≡ Ordering.gt → Before q p
 unfolding swap
 after-before p q h = path-orders.flip p q ∙ ap swap h
 
-pub before-after : (p q : Keys) → Before q p → orderPath p q ≡ Ordering.gt
+pub before-after : (p q : Keys) → Before q p → order_path p q ≡ Ordering.gt
 unfolding swap
 before-after p q h = path-orders.flip q p ∙ ap swap h
 
@@ -178,18 +178,18 @@ module _ (f g : Field) (gs : Fields) where
   unfolding put by_order
   put-less e = rw e
 
-  pub put_same : orderPath f.path g.path ≡ Ordering.eq → put f (g ∷ gs) ≡ f ∷ gs
+  pub put_same : order_path f.path g.path ≡ Ordering.eq → put f (g ∷ gs) ≡ f ∷ gs
   unfolding put by_order
   put_same e = rw e
 
-  pub put-more : orderPath f.path g.path ≡ Ordering.gt → put f (g ∷ gs) ≡ g ∷ put f gs
+  pub put-more : order_path f.path g.path ≡ Ordering.gt → put f (g ∷ gs) ≡ g ∷ put f gs
   unfolding put by_order
   put-more e = rw e
 
 -- every field of the result is f or was there
 pub all-put : (P : Field → Type 0) (f : Field) (gs : Fields) → P f → All P gs → All P (put f gs)
 all-put P f [] p h = unfold put in (p, tt)
-all-put P f (g ∷ gs) p h = by_three (orderPath f.path g.path)
+all-put P f (g ∷ gs) p h = by_three (order_path f.path g.path)
     (λ e. rw (put-less f g gs e) (p, h))
     (λ e. rw (put_same f g gs e) (p, h.1))
     (λ e. rw (put-more f g gs e) (h.0, all-put P f gs p h.1))
@@ -200,7 +200,7 @@ put_front f (g ∷ gs) b = put-less f g gs b.0
 
 pub sorted-put : (f : Field) (gs : Fields) → Sorted gs → Sorted (put f gs)
 sorted-put f [] s = unfold put in (tt, tt)
-sorted-put f (g ∷ gs) s = by_three (orderPath f.path g.path)
+sorted-put f (g ∷ gs) s = by_three (order_path f.path g.path)
     (λ e. rw (put-less f g gs e) ((e, behind-trans _ _ gs e s.0), s))
     (λ e. rw (put_same f g gs e) (subst (λ (p : Keys). Behind p gs) (sym (path-orders.same _ _ e)) s.0, s.1))
     (λ e. rw (put-more f g gs e) (all-put _ f gs (after-before _ _ e) s.0, sorted-put f gs s.1))
@@ -211,15 +211,15 @@ module _ (p : Keys) (g : Field) (gs : Fields) where
   unfolding value_at by_order
   value-less e = rw e
 
-  pub value_same : orderPath p g.path ≡ Ordering.eq → value_at p (g ∷ gs) ≡ some g.value
+  pub value_same : order_path p g.path ≡ Ordering.eq → value_at p (g ∷ gs) ≡ some g.value
   unfolding value_at by_order
   value_same e = rw e
 
-  pub value-more : orderPath p g.path ≡ Ordering.gt → value_at p (g ∷ gs) ≡ value_at p gs
+  pub value-more : order_path p g.path ≡ Ordering.gt → value_at p (g ∷ gs) ≡ value_at p gs
   unfolding value_at by_order
   value-more e = rw e
 
-pub holds_more : (p : Keys) (g : Field) (gs : Fields) → orderPath p g.path ≡ Ordering.gt → holds p (g ∷ gs) ≡ holds p gs
+pub holds_more : (p : Keys) (g : Field) (gs : Fields) → order_path p g.path ≡ Ordering.gt → holds p (g ∷ gs) ≡ holds p gs
 unfolding holds
 holds_more p g gs e = ap is_some (value-more p g gs e)
 
@@ -230,14 +230,14 @@ value-behind p (g ∷ gs) b = value-less p g gs b.0
 -- the field put in holds its value
 pub value-put : (f : Field) (gs : Fields) → value_at f.path (put f gs) ≡ some f.value
 value-put f [] = unfold put in (value_same f.path f [] (path-orders.self _))
-value-put f (g ∷ gs) = by_three (orderPath f.path g.path)
+value-put f (g ∷ gs) = by_three (order_path f.path g.path)
     (λ e. rw (put-less f g gs e) (value_same f.path f (g ∷ gs) (path-orders.self _)))
     (λ e. rw (put_same f g gs e) (value_same f.path f gs (path-orders.self _)))
     (λ e. rw (put-more f g gs e) (value-more f.path g (put f gs) e ∙ value-put f gs))
 
 -- every other path keeps what it held
 pub value-other : (f : Field) (q : Keys) (gs : Fields) → Sorted gs → (q ≡ f.path → ⊥) → value_at q (put f gs) ≡ value_at q gs
-value-other f q gs s n = by_three (orderPath q f.path)
+value-other f q gs s n = by_three (order_path q f.path)
     (λ e. lower gs s e)
     (λ e. absurd (n (path-orders.same _ _ e)))
     (λ e. higher gs e)
@@ -245,21 +245,21 @@ value-other f q gs s n = by_three (orderPath q f.path)
     -- below f: what stands before f's place decides
     lower : (gs : Fields) → Sorted gs → Before q f.path → value_at q (put f gs) ≡ value_at q gs
     lower [] s e = unfold put in (value-less q f [] e ∙ sym (unfold value_at in refl))
-    lower (g ∷ gs) s e = by_three (orderPath f.path g.path)
+    lower (g ∷ gs) s e = by_three (order_path f.path g.path)
         (λ k. rw (put-less f g gs k) (value-less q f (g ∷ gs) e ∙ sym (value-less q g gs (before-trans _ _ _ e k))))
         (λ k. rw (put_same f g gs k) (value-less q f gs e ∙ sym (value-less q g gs (rw (path-orders.same _ _ k) at e))))
-        (λ k. rw (put-more f g gs k) (by_three (orderPath q g.path)
+        (λ k. rw (put-more f g gs k) (by_three (order_path q g.path)
         (λ h. value-less q g (put f gs) h ∙ sym (value-less q g gs h))
         (λ h. value_same q g (put f gs) h ∙ sym (value_same q g gs h))
         (λ h. value-more q g (put f gs) h ∙ lower gs s.1 e ∙ sym (value-more q g gs h))))
 
     -- above f: the search goes past f
-    higher : (gs : Fields) → orderPath q f.path ≡ Ordering.gt → value_at q (put f gs) ≡ value_at q gs
+    higher : (gs : Fields) → order_path q f.path ≡ Ordering.gt → value_at q (put f gs) ≡ value_at q gs
     higher [] e = unfold put in (value-more q f [] e)
-    higher (g ∷ gs) e = by_three (orderPath f.path g.path)
+    higher (g ∷ gs) e = by_three (order_path f.path g.path)
         (λ k. rw (put-less f g gs k) (value-more q f (g ∷ gs) e))
         (λ k. rw (put_same f g gs k) (value-more q f gs e ∙ sym (value-more q g gs (rw (path-orders.same _ _ k) at e))))
-        (λ k. rw (put-more f g gs k) (by_three (orderPath q g.path)
+        (λ k. rw (put-more f g gs k) (by_three (order_path q g.path)
         (λ h. value-less q g (put f gs) h ∙ sym (value-less q g gs h))
         (λ h. value_same q g (put f gs) h ∙ sym (value_same q g gs h))
         (λ h. value-more q g (put f gs) h ∙ higher gs e ∙ sym (value-more q g gs h))))
@@ -275,15 +275,15 @@ absent p gs = mathlib.Core.Bool.not (holds p gs)
 pub length-put : (f : Field) (gs : Fields) → length (put f gs) ≡ length gs + one (absent f.path gs)
 unfolding holds is_some absent one
 length-put f [] = unfold put value_at in refl
-length-put f (g ∷ gs) = by_three (orderPath f.path g.path)
+length-put f (g ∷ gs) = by_three (order_path f.path g.path)
     (λ e. rw (put-less f g gs e, value-less f.path g gs e) (omega arith))
     (λ e. rw (put_same f g gs e, value_same f.path g gs e) (omega arith))
     (λ e. rw (put-more f g gs e, value-more f.path g gs e, length-put f gs) (omega arith))
 
 -- where there is room nothing falls off
-pub store-fits : (f : Field) (gs : Fields) → length (put f gs) ≤ maxFields → store f gs ≡ put f gs
+pub store-fits : (f : Field) (gs : Fields) → length (put f gs) ≤ max_fields → store f gs ≡ put f gs
 unfolding store
-store-fits f gs h = take_all maxFields (put f gs) h
+store-fits f gs h = take_all max_fields (put f gs) h
 
 -- ── What a test q of the path keeps of fields ──
 module _ (q : Keys → Bool) where
@@ -293,7 +293,7 @@ module _ (q : Keys → Bool) where
   -- a path that does not pass leaves what is kept
   pub put-hidden : (f : Field) (gs : Fields) → q f.path ≡ false → keep at (put f gs) ≡ keep at gs
   put-hidden f [] e = unfold put in keep-no at f [] e
-  put-hidden f (g ∷ gs) e = by_three (orderPath f.path g.path)
+  put-hidden f (g ∷ gs) e = by_three (order_path f.path g.path)
       (λ h. rw (put-less f g gs h) (keep-no at f (g ∷ gs) e))
       (λ h. rw (put_same f g gs h) (keep-no at f gs e ∙ sym (keep-no at g gs (rw (path-orders.same _ _ h) at e))))
       (λ h. rw (put-more f g gs h) (by_cases (q g.path)
@@ -303,7 +303,7 @@ module _ (q : Keys → Bool) where
   -- a path that passes is put among those kept
   pub put-seen : (f : Field) (gs : Fields) → q f.path ≡ true → Sorted gs → keep at (put f gs) ≡ put f (keep at gs)
   put-seen f [] e s = unfold put keep in keep-yes at f [] e
-  put-seen f (g ∷ gs) e s = by_three (orderPath f.path g.path)
+  put-seen f (g ∷ gs) e s = by_three (order_path f.path g.path)
       (λ h. rw (put-less f g gs h, keep-yes at f (g ∷ gs) e) (sym (put_front f (keep at (g ∷ gs)) (all_keep _ at (g ∷ gs) (h, behind-trans _ _ gs h s.0)))))
       (λ h. let k : q g.path ≡ true = rw (path-orders.same _ _ h) at e in
       rw (put_same f g gs h, keep-yes at f gs e, keep-yes at g gs k) (sym (put_same f g (keep at gs) h)))
@@ -314,11 +314,11 @@ module _ (q : Keys → Bool) where
   pub value-seen : (p : Keys) (gs : Fields) → q p ≡ true → Sorted gs → value_at p (keep at gs) ≡ value_at p gs
   value-seen p [] e s = unfold value_at keep in refl
   value-seen p (g ∷ gs) e s = by_cases (q g.path)
-      (λ k. rw (keep-yes at g gs k) (by_three (orderPath p g.path)
+      (λ k. rw (keep-yes at g gs k) (by_three (order_path p g.path)
       (λ h. value-less p g (keep at gs) h ∙ sym (value-less p g gs h))
       (λ h. value_same p g (keep at gs) h ∙ sym (value_same p g gs h))
       (λ h. value-more p g (keep at gs) h ∙ value-seen p gs e s.1 ∙ sym (value-more p g gs h))))
-      (λ k. rw (keep-no at g gs k) (by_three (orderPath p g.path)
+      (λ k. rw (keep-no at g gs k) (by_three (order_path p g.path)
       (λ h. value-behind p (keep at gs) (all_keep _ at gs (behind-trans _ _ gs h s.0)) ∙ sym (value-less p g gs h))
       (λ h. never (sym e ∙ (ap q (path-orders.same _ _ h) ∙ k)))
       (λ h. value-seen p gs e s.1 ∙ sym (value-more p g gs h))))

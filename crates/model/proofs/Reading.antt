@@ -9,8 +9,8 @@ use lib.ListN.{length, length-append}
 use native.Mathlib.Omega.{arith}
 use native.Mathlib.Nat.{pow-suc}
 use borrow.Author.Tests.{eq-eqb, ne_eqb, eqb-true, leb-true, le-leb, ltb-true, ltb-false, lt-ltb, le-ltb}
-use Rattle.model.specs.Base.{Bytes, all, ◌>>=◌, ◌>>◌, ◌<|>◌, check, after, ifAfter, inFront, span, cut}
-use Rattle.model.specs.Base.{within, isDigit, worth, isDecimal, digits, decimal}
+use Rattle.model.specs.Base.{Bytes, all, ◌>>=◌, ◌>>◌, ◌<|>◌, check, after, if_after, in_front, span, cut}
+use Rattle.model.specs.Base.{within, is_digit, worth, is_decimal, digits, decimal}
 use Rattle.model.proofs.Lists.{by_cases, never, and_both, none-some}
 
 -- ── Numbers between two bounds ──
@@ -44,9 +44,9 @@ check-some true x a h k = k refl h
 check-some false x a h k = none-some h
 
 -- of several, the last one's case comes first
-pub after-cases : {A C : Type 0} (o : Option Bytes) (f : Bytes → Option A) (y : Option A) (a : A) → ifAfter o f y ≡ some a →
+pub after-cases : {A C : Type 0} (o : Option Bytes) (f : Bytes → Option A) (y : Option A) (a : A) → if_after o f y ≡ some a →
     (o ≡ none → y ≡ some a → C) → ((r : Bytes) → o ≡ some r → f r ≡ some a → C) → C
-unfolding ifAfter
+unfolding if_after
 after-cases none f y a h g k = g refl h
 after-cases (some r) f y a h g k = k r refl h
 
@@ -63,23 +63,23 @@ Stops p (x ∷ s) = p x ≡ false
 
 module _ (p : ℕ → Bool) where
   pub span-all : (a r : Bytes) → all p a ≡ true → Stops p r → span p (a ++ r) ≡ (a, r)
-  unfolding span all inFront
+  unfolding span all in_front
   span-all [] [] h k = refl
   span-all [] (x ∷ r) h k = rw k
   span-all (x ∷ a) r h k = let w = and_both (p x) (all p a) h in rw (w.0, span-all a r w.1 k)
 
   pub span-passes : (s : Bytes) → all p (span p s).0 ≡ true
-  unfolding span all inFront
+  unfolding span all in_front
   span-passes [] = refl
   span-passes (x ∷ s) = by_cases (p x) (λ e. rw e (rw e (span-passes s))) (λ e. rw e)
 
   pub span-stops : (s : Bytes) → Stops p (span p s).1
-  unfolding span inFront
+  unfolding span in_front
   span-stops [] = tt
   span-stops (x ∷ s) = by_cases (p x) (λ e. rw e (span-stops s)) (λ e. rw e e)
 
   pub span-joins : (s : Bytes) → (span p s).0 ++ (span p s).1 ≡ s
-  unfolding span inFront
+  unfolding span in_front
   span-joins [] = refl
   span-joins (x ∷ s) = by_cases (p x) (λ e. rw e (ap (x ∷◌) (span-joins s))) (λ e. rw e)
 
@@ -107,7 +107,7 @@ after-span p w s r h = sym (span-joins p s) ∙ ap ((span p s).0 ++◌) (after-s
 
 -- ── Before and behind the first byte c ──
 pub cut_at : (c : ℕ) (a r : Bytes) → all (λ x. not (eqb x c)) a ≡ true → cut c (a ++ c ∷ r) ≡ some (a, r)
-unfolding cut all ◌>>=◌ inFront
+unfolding cut all ◌>>=◌ in_front
 cut_at c [] r h = rw (eq-eqb c c refl)
 cut_at c (x ∷ a) r h =
     let w = and_both (not (eqb x c)) _ h in
@@ -115,20 +115,20 @@ cut_at c (x ∷ a) r h =
 
 pub cut-some : (c : ℕ) (s : Bytes) (q : Bytes × Bytes) → cut c s ≡ some q →
     (s ≡ q.0 ++ c ∷ q.1) × (all (λ x. not (eqb x c)) q.0 ≡ true)
-unfolding cut all inFront
+unfolding cut all in_front
 cut-some c [] q h = none-some h
 cut-some c (x ∷ s) q h = by_cases (eqb x c)
     (λ e. rw (← some_same (rw e at h)) (ap (◌∷ s) (eqb-true x c e), refl))
     (λ e. bind-some _ _ _ (rw e at h) λ p u v. let t = cut-some c s p u in rw (← some_same v, e) (ap (x ∷◌) t.0, t.1))
 
 -- ── Decimals ──
-pub digit-bounds : (d : ℕ) → isDigit d ≡ true → (48 ≤ d) × (d ≤ 57)
-unfolding isDigit
+pub digit-bounds : (d : ℕ) → is_digit d ≡ true → (48 ≤ d) × (d ≤ 57)
+unfolding is_digit
 digit-bounds d h = within-bounds 48 57 d h
 
-is_digit : (n : ℕ) → n < 10 → isDigit (48 + n) ≡ true
-unfolding isDigit
-is_digit n h = within-yes 48 57 (48 + n) (omega arith) (omega arith)
+is_digit_lem : (n : ℕ) → n < 10 → is_digit (48 + n) ≡ true
+unfolding is_digit
+is_digit_lem n h = within-yes 48 57 (48 + n) (omega arith) (omega arith)
 
 -- a number has one digit, or those of its tenth part and one more
 by_digits : {A : Type 0} (n : ℕ) → (n < 10 → A) → (10 ≤ n → A) → A
@@ -166,10 +166,10 @@ by-decimal P f g n = go (suc n) n (omega arith)
     go zero n h = absurd (omega arith)
     go (suc k) n h = by_digits n (f n) (λ e. g n e (go k (n / 10) (omega arith)))
 
-pub decimal-digits : (n : ℕ) → all isDigit (decimal n) ≡ true
-decimal-digits = by-decimal (λ n. all isDigit (decimal n) ≡ true)
-    (λ n h. rw (decimal-one n h) (all_snoc isDigit [] (48 + n) (unfold all in refl) (is_digit n h)))
-    (λ n h i. rw (decimal-more n h) (all_snoc isDigit _ _ i (is_digit (n % 10) (omega arith))))
+pub decimal-digits : (n : ℕ) → all is_digit (decimal n) ≡ true
+decimal-digits = by-decimal (λ n. all is_digit (decimal n) ≡ true)
+    (λ n h. rw (decimal-one n h) (all_snoc is_digit [] (48 + n) (unfold all in refl) (is_digit_lem n h)))
+    (λ n h i. rw (decimal-more n h) (all_snoc is_digit _ _ i (is_digit_lem (n % 10) (omega arith))))
 
 worth-snoc : (m : ℕ) (a : Bytes) (x : ℕ) → worth m (a ++ x ∷ []) ≡ worth m a * 10 + (x - 48)
 unfolding worth
@@ -207,35 +207,35 @@ decimal-leads = by-decimal (λ n. 0 < n → leads (decimal n) ≡ true)
     (λ n h p. rw (decimal-one n h) (unfold leads in within-yes 49 57 (48 + n) (omega arith) (omega arith)))
     (λ n h i p. rw (decimal-more n h) (leads-snoc _ _ (i (omega arith))))
 
-leads-decimal : (a : Bytes) → all isDigit a ≡ true → leads a ≡ true → isDecimal a ≡ true
-unfolding isDecimal leads all
+leads-decimal : (a : Bytes) → all is_digit a ≡ true → leads a ≡ true → is_decimal a ≡ true
+unfolding is_decimal leads all
 leads-decimal [] h k = k
-leads-decimal (d ∷ []) h k = (and_both (isDigit d) true h).0
-leads-decimal (d ∷ e ∷ ds) h k = rw k (and_both (isDigit d) _ h).1
+leads-decimal (d ∷ []) h k = (and_both (is_digit d) true h).0
+leads-decimal (d ∷ e ∷ ds) h k = rw k (and_both (is_digit d) _ h).1
 
-pub decimal-is : (n : ℕ) → isDecimal (decimal n) ≡ true
+pub decimal-is : (n : ℕ) → is_decimal (decimal n) ≡ true
 decimal-is n = by_cases (ltb 0 n)
     (λ e. leads-decimal _ (decimal-digits n) (decimal-leads n (ltb-true 0 n e)))
-    (λ e. let z : n ≡ 0 = omega (arith, ltb-false 0 n e) in rw z (unfold decimal digits isDecimal isDigit within in refl))
+    (λ e. let z : n ≡ 0 = omega (arith, ltb-false 0 n e) in rw z (unfold decimal digits is_decimal is_digit within in refl))
 
 -- a digit behind those of a number that is no zero
-decimal-next : (m d : ℕ) → 0 < m → isDigit d ≡ true → decimal (m * 10 + (d - 48)) ≡ decimal m ++ d ∷ []
+decimal-next : (m d : ℕ) → 0 < m → is_digit d ≡ true → decimal (m * 10 + (d - 48)) ≡ decimal m ++ d ∷ []
 decimal-next m d h k =
     let w = digit-bounds d k in
     let a : (m * 10 + (d - 48)) / 10 ≡ m = omega arith in
     let b : 48 + (m * 10 + (d - 48)) % 10 ≡ d = omega arith in
     rw (decimal-more (m * 10 + (d - 48)) (omega arith), a, b)
 
-decimal-behind : (m : ℕ) (a : Bytes) → 0 < m → all isDigit a ≡ true → decimal (worth m a) ≡ decimal m ++ a
+decimal-behind : (m : ℕ) (a : Bytes) → 0 < m → all is_digit a ≡ true → decimal (worth m a) ≡ decimal m ++ a
 unfolding worth all
 decimal-behind m [] h k = sym (append-nil (decimal m))
 decimal-behind m (d ∷ a) h k =
-    let w = and_both (isDigit d) _ k in
+    let w = and_both (is_digit d) _ k in
     decimal-behind (m * 10 + (d - 48)) a (omega arith) w.1 ∙ rw (decimal-next m d h w.0) (append_assoc (decimal m) (d ∷ []) a)
 
 -- a decimal is the one spelling of the number that it spells
-pub decimal-worth : (a : Bytes) → isDecimal a ≡ true → decimal (worth 0 a) ≡ a
-unfolding isDecimal worth
+pub decimal-worth : (a : Bytes) → is_decimal a ≡ true → decimal (worth 0 a) ≡ a
+unfolding is_decimal worth
 decimal-worth [] h = never (sym h)
 decimal-worth (d ∷ []) h =
     let w = digit-bounds d h in

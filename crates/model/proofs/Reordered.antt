@@ -8,11 +8,11 @@ use mathlib.Core.List.{List, [], ◌∷◌, ◌++◌, map, append_assoc, append-
 use mathlib.Core.Bool.{Bool, not}
 use lib.ListN.{set, get_elem?}
 use native.Mathlib.Omega.{arith}
-use Rattle.model.specs.Base.{Bytes, text, keep, firstFrom, ◌==◌}
+use Rattle.model.specs.Base.{Bytes, text, keep, first_from, ◌==◌}
 use Rattle.model.specs.Refusals.{done}
-use Rattle.model.specs.Table.{Line, ended, broken, lines, split, under, readRow, readRows, readLines, readTable}
-use Rattle.model.specs.Tables.{Binding, User, Tables, userAt, userNamed, usersTable, environmentsTable, bound, policyTable}
-use Rattle.model.specs.Opening.{Texts, openTables}
+use Rattle.model.specs.Table.{Line, ended, broken, lines, split, under, read_row, read_rows, read_lines, read_table}
+use Rattle.model.specs.Tables.{Binding, User, Tables, user_at, user_named, users_table, environments_table, bound, policy_table}
+use Rattle.model.specs.Opening.{Texts, open_tables}
 use Rattle.model.specs.Claims
 use Rattle.model.proofs.Lists.{by_cases, refused-done, done-same, none-some, if-done, or-done, bind_done, then-done, perm-keep, perm-map}
 use Rattle.model.proofs.Admitted.{order-decides-no-right}
@@ -20,59 +20,59 @@ use Rattle.model.proofs.TablesRead.{line-done, from-done, opened-inv}
 
 -- ── Users with their lines ──
 -- the column names or the values that a line holds
-abbrev fieldsIn : Line → List Bytes
-fieldsIn (ended l) = split l
-fieldsIn (broken l) = split l
+abbrev fields_in : Line → List Bytes
+fields_in (ended l) = split l
+fields_in (broken l) = split l
 
 module _ (head : Line) where
-  abbrev valueIn : Bytes → Line → Bytes
-  valueIn c l = under (fieldsIn head) (fieldsIn l) c
+  abbrev value_in : Bytes → Line → Bytes
+  value_in c l = under (fields_in head) (fields_in l) c
 
-  abbrev bindingIn : Line → Binding
-  bindingIn l = record { name = valueIn (text "name") l; value = valueIn (text "value") l }
+  abbrev binding_in : Line → Binding
+  binding_in l = record { name = value_in (text "name") l; value = value_in (text "value") l }
 
   abbrev is_of : User → Line → Bool
-  is_of u l = u.name == valueIn (text "user") l
+  is_of u l = u.name == value_in (text "user") l
 
   -- a user with those of the lines that are the user's
-  abbrev withLines : List Line → User → User
-  withLines ls u = record { name = u.name; role = u.role; key = u.key; quota = u.quota; environment = u.environment ++ map bindingIn (keep (is_of u) ls) }
+  abbrev with_lines : List Line → User → User
+  with_lines ls u = record { name = u.name; role = u.role; key = u.key; quota = u.quota; environment = u.environment ++ map binding_in (keep (is_of u) ls) }
 
   -- each user with the user's lines: a line is of the first user whom it names
-  eachWithLines : List Line → List User → List User
-  eachWithLines ls [] = []
-  eachWithLines ls (u ∷ us) = withLines ls u ∷ eachWithLines (keep (λ l. not (is_of u l)) ls) us
+  each_with_lines : List Line → List User → List User
+  each_with_lines ls [] = []
+  each_with_lines ls (u ∷ us) = with_lines ls u ∷ each_with_lines (keep (λ l. not (is_of u l)) ls) us
 
   -- ── Reading the lines one by one comes to that ──
-  without-lines : (us : List User) → eachWithLines [] us ≡ us
-  unfolding eachWithLines keep
+  without-lines : (us : List User) → each_with_lines [] us ≡ us
+  unfolding each_with_lines keep
   without-lines [] = refl
   without-lines (u ∷ us) = rw (append-nil u.environment, without-lines us)
 
   -- the first of the lines may join its user before the others do
-  first-joins : (l : Line) (k j : ℕ) (v : User) (us : List User) → firstFrom k (λ u. is_of u l) us ≡ some (j, v) →
-      (i : ℕ) × (j ≡ k + i) × ((ls : List Line) → eachWithLines (l ∷ ls) us ≡ eachWithLines ls (set us i (bound v (bindingIn l))))
-  unfolding eachWithLines keep firstFrom bound
+  first-joins : (l : Line) (k j : ℕ) (v : User) (us : List User) → first_from k (λ u. is_of u l) us ≡ some (j, v) →
+      (i : ℕ) × (j ≡ k + i) × ((ls : List Line) → each_with_lines (l ∷ ls) us ≡ each_with_lines ls (set us i (bound v (binding_in l))))
+  unfolding each_with_lines keep first_from bound
   first-joins l k j v [] h = none-some h
   first-joins l k j v (u ∷ us) h = by_cases (is_of u l)
       (λ e.
       let z : ◌≡◌ {A = ℕ × User} (k, u) (j, v) = cc (rw e at h) in
       let w : u ≡ v = ap (λ r. r.1) z in
       (zero, omega (arith, ap (λ r. r.0) z), λ ls. rw (e, ← w, append_assoc)))
-      (λ e. let (i, m, s) = first-joins l (suc k) j v us (rw e at h) in (suc i, omega arith, λ ls. rw e (ap (withLines ls u ∷◌) (s _))))
+      (λ e. let (i, m, s) = first-joins l (suc k) j v us (rw e at h) in (suc i, omega arith, λ ls. rw e (ap (with_lines ls u ∷◌) (s _))))
 
-  row-joins : (us us₁ : List User) (l : Line) → readRow environmentsTable (fieldsIn head) us l ≡ done us₁ →
-      (ls : List Line) → eachWithLines (l ∷ ls) us ≡ eachWithLines ls us₁
-  unfolding readRow environmentsTable userNamed
+  row-joins : (us us₁ : List User) (l : Line) → read_row environments_table (fields_in head) us l ≡ done us₁ →
+      (ls : List Line) → each_with_lines (l ∷ ls) us ≡ each_with_lines ls us₁
+  unfolding read_row environments_table user_named
   row-joins us us₁ (broken l) h ls = refused-done h
   row-joins us us₁ (ended l) h ls =
       let (f, found, h₁) = or-done _ _ _ us₁ (if-done _ _ _ us₁ (if-done _ _ _ us₁ h).1).1 in
       let (i, m, s) = first-joins (ended l) 0 f.0 f.1 us found in
       let e : i ≡ f.0 = omega arith in
-      s ls ∙ rw e (ap (eachWithLines ls) (done-same (if-done _ _ _ us₁ (if-done _ _ _ us₁ h₁).1).1))
+      s ls ∙ rw e (ap (each_with_lines ls) (done-same (if-done _ _ _ us₁ (if-done _ _ _ us₁ h₁).1).1))
 
-  rows_join : (n : ℕ) (us us₁ : List User) (ls : List Line) → readRows environmentsTable (fieldsIn head) n us ls ≡ done us₁ → eachWithLines ls us ≡ us₁
-  unfolding readRows
+  rows_join : (n : ℕ) (us us₁ : List User) (ls : List Line) → read_rows environments_table (fields_in head) n us ls ≡ done us₁ → each_with_lines ls us ≡ us₁
+  unfolding read_rows
   rows_join n us us₁ [] h = without-lines us ∙ done-same h
   rows_join n us us₁ (l ∷ ls) h =
       let (b, e, k) = bind_done _ _ us₁ h in
@@ -80,19 +80,19 @@ module _ (head : Line) where
 
   -- ── Any order ──
   lines-reordered : (us : List User) (i : ℕ) (u v : User) {ls ms : List Line} → Perm ls ms →
-      get_elem? (eachWithLines ls us) i ≡ some u → get_elem? (eachWithLines ms us) i ≡ some v →
+      get_elem? (each_with_lines ls us) i ≡ some u → get_elem? (each_with_lines ms us) i ≡ some v →
       (u.role ≡ v.role) × Perm u.environment v.environment
-  unfolding eachWithLines
+  unfolding each_with_lines
   lines-reordered [] i u v d h k = none-some h
   lines-reordered (x ∷ us) zero u v {ls} {ms} d h k =
-      let e : withLines ls x ≡ u = cc in
-      let g : withLines ms x ≡ v = cc in
-      rw (← e, ← g) (refl, ∥∥₁_map d (λ c. Permᴰ.append_left x.environment (perm-map bindingIn (perm-keep (is_of x) c))))
+      let e : with_lines ls x ≡ u = cc in
+      let g : with_lines ms x ≡ v = cc in
+      rw (← e, ← g) (refl, ∥∥₁_map d (λ c. Permᴰ.append_left x.environment (perm-map binding_in (perm-keep (is_of x) c))))
   lines-reordered (x ∷ us) (suc i) u v d h k = lines-reordered us i u v (∥∥₁_map d (perm-keep _)) h k
 
 table-joins : (head : Line) (us us₁ : List User) (ls : List Line) (s : Bytes) → lines s ≡ head ∷ ls →
-    readTable environmentsTable us s ≡ done us₁ → eachWithLines head ls us ≡ us₁
-unfolding readTable readLines
+    read_table environments_table us s ≡ done us₁ → each_with_lines head ls us ≡ us₁
+unfolding read_table read_lines
 table-joins (broken l) us us₁ ls s e h = refused-done (rw e at h)
 table-joins (ended l) us us₁ ls s e h = rows_join (ended l) 2 us us₁ ls (if-done _ _ _ us₁ (rw e at h)).1
 
@@ -100,12 +100,12 @@ table-joins (ended l) us us₁ ls s e h = rows_join (ended l) 2 us us₁ ls (if-
 -- where the tables of an opening come from, its environments text having these lines
 record ReadFrom (t : Texts) (ts : Tables) (head : Line) (ls : List Line) : Type 0 where
   named : List User
-  named-read : readTable usersTable [] t.usersText ≡ done named
-  users : eachWithLines head ls named ≡ ts.users
-  policy-read : readTable policyTable [] t.policyText ≡ done ts.policy
+  named-read : read_table users_table [] t.users_text ≡ done named
+  users : each_with_lines head ls named ≡ ts.users
+  policy-read : read_table policy_table [] t.policy_text ≡ done ts.policy
 
-read-from : (t : Texts) (ts : Tables) (head : Line) (ls : List Line) → openTables t ≡ done ts → lines t.environmentsText ≡ head ∷ ls → ReadFrom t ts head ls
-unfolding openTables
+read-from : (t : Texts) (ts : Tables) (head : Line) (ls : List Line) → open_tables t ≡ done ts → lines t.environments_text ≡ head ∷ ls → ReadFrom t ts head ls
+unfolding open_tables
 read-from t ts head ls h e =
     let (named, named-read, h₁) = bind_done _ _ ts h in
     let (users, users-read, h₂) = bind_done _ _ ts h₁ in
@@ -118,11 +118,11 @@ read-from t ts head ls h e =
     })
 
 pub text-order-decides-no-right : Claims.TextOrderDecidesNoRight
-unfolding userAt
+unfolding user_at
 text-order-decides-no-right t₁ t₂ s₁ s₂ r o₁ o₂ i u v h k p =
     let a = read-from t₁ s₁.tables r.head r.lines₁ (opened-inv t₁ s₁ o₁).tables r.text₁ in
     let b = read-from t₂ s₂.tables r.head r.lines₂ (opened-inv t₂ s₂ o₂).tables r.text₂ in
-    let named : a.named ≡ b.named = done-same (sym a.named-read ∙ rw r.sameUsers b.named-read) in
-    let policy : s₁.tables.policy ≡ s₂.tables.policy = done-same (sym a.policy-read ∙ rw r.samePolicy b.policy-read) in
+    let named : a.named ≡ b.named = done-same (sym a.named-read ∙ rw r.same_users b.named-read) in
+    let policy : s₁.tables.policy ≡ s₂.tables.policy = done-same (sym a.policy-read ∙ rw r.same_policy b.policy-read) in
     let (role, order) = lines-reordered r.head b.named i u v r.order (rw (← named, a.users) h) (rw b.users k) in
     rw policy (order-decides-no-right s₂.tables.policy u v role order p)

@@ -8,13 +8,13 @@ use mathlib.Core.Bool.{true, false}
 use lib.ListN.{length, length-append}
 use lib.Seq.{take_all}
 use native.Mathlib.Omega.{arith}
-use Rattle.model.specs.Base.{Bytes, text, among, ◌==◌, ◌>>=◌, within, isDigit, All}
-use Rattle.model.specs.Limits.{maxDepth, maxFields}
-use Rattle.model.specs.Values.{Value, validValue, valueText}
-use Rattle.model.specs.Fields.{Keys, Field, Fields, and_then, lex, orderKey, orderPath, put, store, field_of}
-use Rattle.model.specs.RecordText.{Node, leaf, object, Members, noMembers, isBlank, asNode, tree_of}
-use Rattle.model.specs.RecordText.{keysIn, twiceIn, twice, countIn, count, storeNode, storeMembers, Opened}
-use Rattle.model.specs.SavedText.{descend, ascend, turn, savedBehind, saved}
+use Rattle.model.specs.Base.{Bytes, text, among, ◌==◌, ◌>>=◌, within, is_digit, All}
+use Rattle.model.specs.Limits.{max_depth, max_fields}
+use Rattle.model.specs.Values.{Value, valid_value, value_text}
+use Rattle.model.specs.Fields.{Keys, Field, Fields, and_then, lex, order_key, order_path, put, store, field_of}
+use Rattle.model.specs.RecordText.{Node, leaf, object, Members, no_members, is_blank, as_node, tree_of}
+use Rattle.model.specs.RecordText.{keys_in, twice_in, twice, count_in, count, store_node, store_members, Opened}
+use Rattle.model.specs.SavedText.{descend, ascend, turn, saved_behind, saved}
 use Rattle.model.proofs.Lists.{by_cases, never, all-imp, false-any, bytes_eq, bytes-ne}
 use Rattle.model.proofs.Order.{Before, Sorted, by_three, before-after, put-more, key-orders, lt-eq, lt-gt}
 use Rattle.model.proofs.Valid.{Valid}
@@ -24,42 +24,42 @@ use Rattle.model.proofs.OpenObjects.{text-plain, leaf-reads, closes, descend-lon
 
 -- ── The order of two paths, by their first keys ──
 module _ (k l : Bytes) (p q : Keys) (b : Before (k ∷ p) (l ∷ q)) where
-  before_here : (k == l) ≡ false → orderKey k l ≡ Ordering.lt
-  unfolding orderPath lex and_then
-  before_here e = by_three (orderKey k l)
+  before_here : (k == l) ≡ false → order_key k l ≡ Ordering.lt
+  unfolding order_path lex and_then
+  before_here e = by_three (order_key k l)
       (λ h. h)
       (λ h. absurd (bytes-ne k l e (key-orders.same k l h)))
       (λ h. lt-gt (sym (rw h at b)))
 
   before-within : (k == l) ≡ true → Before p q
-  unfolding orderPath lex and_then
+  unfolding order_path lex and_then
   before-within e = rw (bytes_eq k l e, key-orders.self l) at b
 
 -- ── No key twice ──
 -- each key is before k
 abbrev Under : Bytes → List Bytes → Type 0
-Under k l = All (λ j. orderKey j k ≡ Ordering.lt) l
+Under k l = All (λ j. order_key j k ≡ Ordering.lt) l
 
-under_more : (j k : Bytes) (l : List Bytes) → orderKey j k ≡ Ordering.lt → Under j l → Under k l
+under_more : (j k : Bytes) (l : List Bytes) → order_key j k ≡ Ordering.lt → Under j l → Under k l
 under_more j k l e h = all-imp _ _ (λ i o. key-orders.trans i j k o e) l h
 
 not-among : (k : Bytes) (l : List Bytes) → Under k l → among k l ≡ false
 unfolding among
 not-among k l h = false-any _ l (all-imp _ _ apart l h)
   where
-    apart : (j : Bytes) → orderKey j k ≡ Ordering.lt → (k == j) ≡ false
+    apart : (j : Bytes) → order_key j k ≡ Ordering.lt → (k == j) ≡ false
     apart j e = by_cases (k == j) (λ h. lt-eq (sym e ∙ rw (bytes_eq k j h) (key-orders.self j))) (λ h. h)
 
 -- n bytes more are within the bound, and the keys before are before the key that is being read
 record Good (n : ℕ) (g : Frame) : Type 0 where
   room : n ≤ g.bound
-  ascending : Under g.key (keysIn g.before)
+  ascending : Under g.key (keys_in g.before)
   once : twice g.before ≡ false
 
 good-less : {m n : ℕ} {g : Frame} → m ≤ n → Good n g → Good m g
 good-less e h = record { room = omega arith; ascending = h.ascending; once = h.once }
 
-once-around : (n : ℕ) (gs : Frames) (v : Node) → All (Good n) gs → twiceIn v ≡ false → twiceIn (around gs v) ≡ false
+once-around : (n : ℕ) (gs : Frames) (v : Node) → All (Good n) gs → twice_in v ≡ false → twice_in (around gs v) ≡ false
 unfolding around twice
 once-around n [] v h e = e
 once-around n (g ∷ gs) v h e = rw (not-among _ _ h.0.ascending, once-around n gs v h.1 e) h.0.once
@@ -72,21 +72,21 @@ record Arrives (d : ℕ) (x : Option (Node × Bytes)) (u : Node) (q : Keys) (w :
   good : All (Good (length s)) frames
   reads : x ≡ resume d frames (leaf w, s)
   stores : (p : Keys) (fs : Fields) →
-      storeNode p (around frames (leaf w)) fs ≡ store (field_of (p ++ q) w) (storeNode p u fs)
-  counts : countIn (around frames (leaf w)) ≡ suc (countIn u)
+      store_node p (around frames (leaf w)) fs ≡ store (field_of (p ++ q) w) (store_node p u fs)
+  counts : count_in (around frames (leaf w)) ≡ suc (count_in u)
 
 -- the same inside one more object g; o is the tree before
 enter : {d : ℕ} {g : Frame} {x y : Option (Node × Bytes)} {u o : Node} {q : Keys} {w : Value} {s : Bytes} →
-    Arrives d x u q w s → y ≡ x >>= behind d g >>= asNode → Good (length s) g →
-    ((p : Keys) (fs : Fields) → storeNode p o fs ≡ storeNode (p ++ g.key ∷ []) u (storeMembers p g.before fs)) →
-    countIn o ≡ count g.before + countIn u → Arrives (suc d) y o (g.key ∷ q) w s
-unfolding resume around storeNode countIn
+    Arrives d x u q w s → y ≡ x >>= behind d g >>= as_node → Good (length s) g →
+    ((p : Keys) (fs : Fields) → store_node p o fs ≡ store_node (p ++ g.key ∷ []) u (store_members p g.before fs)) →
+    count_in o ≡ count g.before + count_in u → Arrives (suc d) y o (g.key ∷ q) w s
+unfolding resume around store_node count_in
 enter {g = g} {q = q} a e h f c = record {
   frames = g ∷ a.frames;
   named = ap (g.key ∷◌) a.named;
   good = (h, a.good);
   reads = e ∙ rw a.reads;
-  stores = λ p fs. a.stores (p ++ g.key ∷ []) (storeMembers p g.before fs) ∙ rw (append_assoc p (g.key ∷ []) q, f p fs);
+  stores = λ p fs. a.stores (p ++ g.key ∷ []) (store_members p g.before fs) ∙ rw (append_assoc p (g.key ∷ []) q, f p fs);
   counts = rw (a.counts, c) (omega arith);
 }
 
@@ -99,16 +99,16 @@ turn-here : (k l : Bytes) (p q : Keys) (t : Bytes) → (k == l) ≡ false →
 unfolding turn text
 turn-here k l p q t e = rw e (append_assoc (ascend p) (44 ∷ descend (l ∷ q)) t)
 
-module _ (w : Value) (s : Bytes) (valid : validValue w ≡ true) (ends : Ends s) where
+module _ (w : Value) (s : Bytes) (valid : valid_value w ≡ true) (ends : Ends s) where
   abbrev rest : Bytes
-  rest = valueText w ++ s
+  rest = value_text w ++ s
 
   rest-length : length s ≤ length rest
-  rest-length = omega (arith, length-append (valueText w) s)
+  rest-length = omega (arith, length-append (value_text w) s)
 
   -- the first field
-  opens : (d : ℕ) (q : Keys) → Fits d q → Arrives d (read_node d (start q ++ rest)) (object noMembers) q w s
-  unfolding start resume around storeNode countIn keysIn twice
+  opens : (d : ℕ) (q : Keys) → Fits d q → Arrives d (read_node d (start q ++ rest)) (object no_members) q w s
+  unfolding start resume around store_node count_in keys_in twice
   opens d [] h = record {
     frames = [];
     named = refl;
@@ -130,27 +130,27 @@ module _ (w : Value) (s : Bytes) (valid : validValue w ≡ true) (ends : Ends s)
   module _ (d : ℕ) (g : Frame) (gs : Frames) (v : Node) (l : Bytes) (q : Keys)
       (good : All (Good (length (turn (keys (g ∷ gs)) (l ∷ q) ++ rest))) (g ∷ gs)) where
     next-within : (g.key == l) ≡ true → (All (Good (length (turn (keys gs) q ++ rest))) gs → Next d gs v q) → Next (suc d) (g ∷ gs) v (l ∷ q)
-    unfolding resume around storeNode countIn
+    unfolding resume around store_node count_in
     next-within e f =
         let a = f (rw (turn-within g.key l (keys gs) q e) at good.1) in
         let b = length-append (turn (keys (g ∷ gs)) (l ∷ q)) rest in
         let c : Good (length s) g = good-less (omega (arith, rest-length)) good.0 in
         rw (turn-within g.key l (keys gs) q e, ← bytes_eq g.key l e) (enter {g = g} a refl c (λ p fs. refl) refl)
 
-    next_here : (g.key == l) ≡ false → orderKey g.key l ≡ Ordering.lt → twiceIn v ≡ false → Fits d (keys gs) →
+    next_here : (g.key == l) ≡ false → order_key g.key l ≡ Ordering.lt → twice_in v ≡ false → Fits d (keys gs) →
         Fits (suc d) (l ∷ q) → Next (suc d) (g ∷ gs) v (l ∷ q)
-    unfolding around storeNode countIn keysIn twice
+    unfolding around store_node count_in keys_in twice
     next_here e o t i h =
         let c = turn-here g.key l (keys gs) q rest e in
         let a = length-append (ascend (keys gs)) (44 ∷ (descend (l ∷ q) ++ rest)) in
         let n : length s < g.bound = omega (arith, rest-length, descend-longer l q rest, good.0.room, ap length c) in
         let r = next-reads l q rest h.0 (text-plain w s valid ends) d g gs v i (omega arith) in
-        let u = under_more g.key l (keysIn g.before) o good.0.ascending in
+        let u = under_more g.key l (keys_in g.before) o good.0.ascending in
         let y = once-around _ (g ∷ gs) v good t in
         rw c (enter (opens d q h.1) r (record { room = omega arith; ascending = (o, u); once = y }) (λ p fs. refl) (omega arith))
 
   turns : (d : ℕ) (gs : Frames) (v : Node) (q : Keys) → diverge (keys gs) q ≡ true → Before (keys gs) q →
-      Fits d (keys gs) → Fits d q → twiceIn v ≡ false → All (Good (length (turn (keys gs) q ++ rest))) gs → Next d gs v q
+      Fits d (keys gs) → Fits d q → twice_in v ≡ false → All (Good (length (turn (keys gs) q ++ rest))) gs → Next d gs v q
   unfolding diverge
   turns d [] v q a b i h t g = never (sym a)
   turns d (f ∷ gs) v [] a b i h t g = never (sym a)
@@ -160,7 +160,7 @@ module _ (w : Value) (s : Bytes) (valid : validValue w ≡ true) (ends : Ends s)
       (λ e. next_here d f gs v l q g e (before_here _ _ _ _ b e) t i.1 h)
 
   turns_at : (d : ℕ) (gs : Frames) (p q : Keys) (v : Node) → keys gs ≡ p → diverge p q ≡ true → Before p q →
-      Fits d p → Fits d q → twiceIn v ≡ false → All (Good (length (turn p q ++ rest))) gs →
+      Fits d p → Fits d q → twice_in v ≡ false → All (Good (length (turn p q ++ rest))) gs →
       Arrives d (resume d gs (v, turn p q ++ rest)) (around gs v) q w s
   turns_at d gs p q v e = rw (← e) (turns d gs v q)
 
@@ -170,7 +170,7 @@ closes_at d gs p v e = rw (← e, ← append-nil (ascend (keys gs))) (λ h. clos
 
 -- ── What stands behind a value ──
 ascend-ends : (p : Keys) (r : Bytes) → Ends r → Ends (ascend p ++ r)
-unfolding ascend isDigit within isBlank
+unfolding ascend is_digit within is_blank
 ascend-ends [] r e = e
 ascend-ends (k ∷ p) r e = (refl, refl)
 
@@ -180,10 +180,10 @@ turn-ends [] q r h = never (sym h)
 turn-ends (k ∷ p) [] r h = never (sym h)
 turn-ends (k ∷ p) (l ∷ q) r h = by_cases (k == l)
     (λ e. rw (turn-within k l p q e) (turn-ends p q r (rw e at h)))
-    (λ e. rw (turn-here k l p q r e) (ascend-ends p _ (unfold isDigit within isBlank in (refl, refl))))
+    (λ e. rw (turn-here k l p q r e) (ascend-ends p _ (unfold is_digit within is_blank in (refl, refl))))
 
-behind-ends : (p : Keys) (fs : Fields) → All (λ g. diverge p g.path ≡ true) fs → Ends (savedBehind p fs)
-unfolding savedBehind
+behind-ends : (p : Keys) (fs : Fields) → All (λ g. diverge p g.path ≡ true) fs → Ends (saved_behind p fs)
+unfolding saved_behind
 behind-ends p [] h = rw append-nil at (ascend-ends p [] (tt, tt))
 behind-ends p (g ∷ fs) h = turn-ends p g.path _ h.0
 
@@ -197,33 +197,33 @@ put_last [] f fs s = unfold put in refl
 put_last (x ∷ xs) f fs s =
     put-more f x xs (before-after f.path x.path (all-at _ xs f fs s.0)) ∙ ap (x ∷◌) (put_last xs f fs s.1)
 
-abbrev storeAll : Fields → Fields → Fields
-storeAll xs fs = foldl (λ ys f. store f ys) xs fs
+abbrev store_all : Fields → Fields → Fields
+store_all xs fs = foldl (λ ys f. store f ys) xs fs
 
-stored : (xs fs : Fields) → Sorted (xs ++ fs) → length (xs ++ fs) ≤ maxFields → storeAll xs fs ≡ xs ++ fs
+stored : (xs fs : Fields) → Sorted (xs ++ fs) → length (xs ++ fs) ≤ max_fields → store_all xs fs ≡ xs ++ fs
 unfolding store
 stored xs [] s n = sym (append-nil xs)
 stored xs (f ∷ fs) s n =
-    let m : length (xs ++ f ∷ []) ≤ maxFields = omega (arith, length-append xs (f ∷ []), length-append xs (f ∷ fs)) in
+    let m : length (xs ++ f ∷ []) ≤ max_fields = omega (arith, length-append xs (f ∷ []), length-append xs (f ∷ fs)) in
     let a = append_assoc xs (f ∷ []) fs in
-    rw (put_last xs f fs s, take_all maxFields (xs ++ f ∷ []) m) (stored (xs ++ f ∷ []) fs (rw a s) (rw a n) ∙ a)
+    rw (put_last xs f fs s, take_all max_fields (xs ++ f ∷ []) m) (stored (xs ++ f ∷ []) fs (rw a s) (rw a n) ∙ a)
 
 -- ── All fields ──
 -- the reading x comes to the end, with the fields fs in the tree behind what u holds
 record Reads (x : Option (Node × Bytes)) (u : Node) (fs : Fields) : Type 0 where
   node : Node
   whole : x ≡ some (node, [])
-  once : twiceIn node ≡ false
-  counts : countIn node ≡ countIn u + length fs
-  stores : storeNode [] node [] ≡ storeAll (storeNode [] u []) fs
+  once : twice_in node ≡ false
+  counts : count_in node ≡ count_in u + length fs
+  stores : store_node [] node [] ≡ store_all (store_node [] u []) fs
 
 reads-behind : {x : Option (Node × Bytes)} {u : Node} (f : Field) (fs : Fields) →
-    Arrives maxDepth x u f.path f.value (savedBehind f.path fs) →
+    Arrives max_depth x u f.path f.value (saved_behind f.path fs) →
     Sorted (f ∷ fs) → All Valid (f ∷ fs) → Diverging (f ∷ fs) → Reads x u (f ∷ fs)
-unfolding savedBehind twice
+unfolding saved_behind twice
 reads-behind f [] a s v d = record {
   node = around a.frames (leaf f.value);
-  whole = a.reads ∙ closes_at maxDepth a.frames f.path _ a.named (valid-path f.path v.0.path).1;
+  whole = a.reads ∙ closes_at max_depth a.frames f.path _ a.named (valid-path f.path v.0.path).1;
   once = once-around _ a.frames _ a.good refl;
   counts = a.counts ∙ omega arith;
   stores = a.stores [] [];
@@ -232,7 +232,7 @@ reads-behind f (g ∷ fs) a s v d =
     let i = (valid-path f.path v.0.path).1 in
     let h = (valid-path g.path v.1.0.path).1 in
     let e = behind-ends g.path fs d.1.0 in
-    let t = turns_at g.value (savedBehind g.path fs) v.1.0.value e maxDepth a.frames f.path g.path in
+    let t = turns_at g.value (saved_behind g.path fs) v.1.0.value e max_depth a.frames f.path g.path in
     let b = t (leaf f.value) a.named d.0.0 s.0.0 i h refl a.good in
     let r = reads-behind g fs b s.1 v.1 d.1 in
     record {
@@ -240,7 +240,7 @@ reads-behind f (g ∷ fs) a s v d =
       whole = a.reads ∙ r.whole;
       once = r.once;
       counts = omega (arith, r.counts, a.counts);
-      stores = r.stores ∙ ap (λ (xs : Fields). storeAll xs (g ∷ fs)) (a.stores [] []);
+      stores = r.stores ∙ ap (λ (xs : Fields). store_all xs (g ∷ fs)) (a.stores [] []);
     }
 
 -- the tree that the saved text of fields is
@@ -249,20 +249,20 @@ pub record SavedAs (fs : Fields) : Type 0 where
   pub read : tree_of (saved fs) ≡ some tree
   pub once : twice tree ≡ false
   pub many : count tree ≡ length fs
-  pub stored : storeMembers [] tree [] ≡ fs
+  pub stored : store_members [] tree [] ≡ fs
 
-pub saved-reads : (fs : Fields) → Sorted fs → All Valid fs → Diverging fs → length fs ≤ maxFields → SavedAs fs
-unfolding saved text twice count storeMembers
-saved-reads [] s v d n = record { tree = noMembers; read = unfold Opened in refl; once = refl; many = refl; stored = refl }
+pub saved-reads : (fs : Fields) → Sorted fs → All Valid fs → Diverging fs → length fs ≤ max_fields → SavedAs fs
+unfolding saved text twice count store_members
+saved-reads [] s v d n = record { tree = no_members; read = unfold Opened in refl; once = refl; many = refl; stored = refl }
 saved-reads (f ∷ fs) s v d n =
     let p = valid-path f.path v.0.path in
-    let a = opens f.value (savedBehind f.path fs) v.0.value (behind-ends f.path fs d.0) maxDepth f.path p.1 in
+    let a = opens f.value (saved_behind f.path fs) v.0.value (behind-ends f.path fs d.0) max_depth f.path p.1 in
     let r = reads-behind f fs a s v d in
     let t = tree-reads f.path _ r.node p.0 r.whole in
     record {
       tree = t.0;
       read = t.1;
-      once = ap twiceIn (sym t.2) ∙ r.once;
-      many = ap countIn (sym t.2) ∙ r.counts ∙ omega arith;
-      stored = ap (λ (x : Node). storeNode [] x []) (sym t.2) ∙ r.stores ∙ stored [] (f ∷ fs) s n;
+      once = ap twice_in (sym t.2) ∙ r.once;
+      many = ap count_in (sym t.2) ∙ r.counts ∙ omega arith;
+      stored = ap (λ (x : Node). store_node [] x []) (sym t.2) ∙ r.stores ∙ stored [] (f ∷ fs) s n;
     }

@@ -51,9 +51,9 @@ range i zero = []
 range i (suc n) = i ∷ range (suc i) n
 
 -- the first element that passes, with its index, counted from i
-unfoldable pub firstFrom : {A : Type 0} → ℕ → (A → Bool) → List A → Option (ℕ × A)
-firstFrom i p [] = none
-firstFrom i p (x ∷ xs) = let r = firstFrom (suc i) p xs in if p x then some (i, x) else r
+unfoldable pub first_from : {A : Type 0} → ℕ → (A → Bool) → List A → Option (ℕ × A)
+first_from i p [] = none
+first_from i p (x ∷ xs) = let r = first_from (suc i) p xs in if p x then some (i, x) else r
 
 unfoldable pub is_some : {A : Type 0} → Option A → Bool
 is_some none = false
@@ -104,29 +104,29 @@ after (x ∷ w) [] = none
 after (x ∷ w) (y ∷ s) = let r = after w s in if eqb x y then r else none
 
 -- goes on with what stands behind a beginning, or else gives y
-unfoldable pub ifAfter : {A : Type 0} → Option Bytes → (Bytes → A) → A → A
-ifAfter none f y = y
-ifAfter (some r) f y = f r
+unfoldable pub if_after : {A : Type 0} → Option Bytes → (Bytes → A) → A → A
+if_after none f y = y
+if_after (some r) f y = f r
 
-unfoldable pub inFront : ℕ → Bytes × Bytes → Bytes × Bytes
-inFront x p = (x ∷ p.0, p.1)
+unfoldable pub in_front : ℕ → Bytes × Bytes → Bytes × Bytes
+in_front x p = (x ∷ p.0, p.1)
 
 -- the longest beginning of bytes that pass, and the rest
 unfoldable pub span : (ℕ → Bool) → Bytes → Bytes × Bytes
 span p [] = ([], [])
-span p (x ∷ s) = let r = inFront x (span p s) in if p x then r else ([], x ∷ s)
+span p (x ∷ s) = let r = in_front x (span p s) in if p x then r else ([], x ∷ s)
 
 -- what stands before and behind the first byte c
 unfoldable pub cut : ℕ → Bytes → Option (Bytes × Bytes)
 cut c [] = none
-cut c (x ∷ s) = let r = cut c s >>= λ p. some (inFront x p) in if eqb x c then some ([], s) else r
+cut c (x ∷ s) = let r = cut c s >>= λ p. some (in_front x p) in if eqb x c then some ([], s) else r
 
 -- ── Numbers in decimal ──
 unfoldable pub within : ℕ → ℕ → ℕ → Bool
 within a b x = leb a x && leb x b
 
-unfoldable pub isDigit : ℕ → Bool
-isDigit x = within 48 57 x
+unfoldable pub is_digit : ℕ → Bool
+is_digit x = within 48 57 x
 
 -- the number that digits spell, n being what was read before
 unfoldable pub worth : ℕ → Bytes → ℕ
@@ -134,14 +134,14 @@ worth n [] = n
 worth n (d ∷ ds) = worth (n * 10 + (d - 48)) ds
 
 -- decimal, no leading zero but in `0` itself
-unfoldable pub isDecimal : Bytes → Bool
-isDecimal [] = false
-isDecimal (d ∷ []) = isDigit d
-isDecimal (d ∷ (e ∷ ds)) = within 49 57 d && all isDigit (e ∷ ds)
+unfoldable pub is_decimal : Bytes → Bool
+is_decimal [] = false
+is_decimal (d ∷ []) = is_digit d
+is_decimal (d ∷ (e ∷ ds)) = within 49 57 d && all is_digit (e ∷ ds)
 
 -- a whole text that is a number of at most m
 unfoldable pub number : ℕ → Bytes → Option ℕ
-number m s = if isDecimal s && leb (worth 0 s) m then some (worth 0 s) else none
+number m s = if is_decimal s && leb (worth 0 s) m then some (worth 0 s) else none
 
 -- the digits of n, of which there are at most k
 unfoldable pub digits : ℕ → ℕ → Bytes
@@ -153,5 +153,5 @@ decimal n = digits (suc n) n
 
 -- every definition of this file at once, for a proof by computation
 unfoldable pub Opened : Unit {0}
-unfolding text any all keep joined sum range firstFrom is_some ◌==◌ among between ◌>>=◌ ◌>>◌ ◌<|>◌ check after ifAfter inFront span cut within isDigit worth isDecimal number digits decimal
+unfolding text any all keep joined sum range first_from is_some ◌==◌ among between ◌>>=◌ ◌>>◌ ◌<|>◌ check after if_after in_front span cut within is_digit worth is_decimal number digits decimal
 Opened = tt

@@ -3,116 +3,116 @@ use Rattle.std.specs.Prelude.{ℕ, suc, ◌+◌, ◌*◌, ◌≤◌, ◌<◌, �
 use Rattle.std.proofs.Math.Option.{some}
 use mathlib.Core.List.{List, [], ◌∷◌, map, Perm}
 use Rattle.model.specs.Base.{Bytes, if◌then◌else◌, any, all, keep, joined, sum, range, ◌==◌}
-use Rattle.model.specs.Limits.{maxFields, maxCopy, listRoom, perUser, maxLogins}
-use Rattle.model.specs.Values.{Value, value_of, valueText, validValue}
-use Rattle.model.specs.Fields.{Keys, validKeys, Field, Fields, orderPath, by_order, value_at, holds, put, store}
-use Rattle.model.specs.RecordText.{Members, object, tree_of, leafAt}
+use Rattle.model.specs.Limits.{max_fields, max_copy, list_room, per_user, max_logins}
+use Rattle.model.specs.Values.{Value, value_of, value_text, valid_value}
+use Rattle.model.specs.Fields.{Keys, valid_keys, Field, Fields, order_path, by_order, value_at, holds, put, store}
+use Rattle.model.specs.RecordText.{Members, object, tree_of, leaf_at}
 use Rattle.model.specs.SavedText.{saved}
-use Rattle.model.specs.Paths.{equals, isIn, Step, names, wildcard, environment, Steps, stepsText, keysText, steps_of, keys_of}
+use Rattle.model.specs.Paths.{equals, is_in, Step, names, wildcard, environment, Steps, steps_text, keys_text, steps_of, keys_of}
 use Rattle.model.specs.Refusals.{refused, done}
 use Rattle.model.specs.Table.{Line, lines}
-use Rattle.model.specs.Tables.{Binding, User, Access, Rule, Tables, userAt, userNamed}
-use Rattle.model.specs.Rights.{listed, mayReadBy, mayWriteBy, admits, may_read, may_write}
-use Rattle.model.specs.Opening.{LoginState, State, emptyLogins, Texts, Fault, fault, quotas, opened, afterOpening}
-use Rattle.model.specs.Requests.{Ask, Request, login, inSession, get, push, logout, requestOf}
-use Rattle.model.specs.Serving.{indexIn, countIn, loginAt, readable, copyFor, stores, decide, refusal, session, length-is, accepted, Act, line, bufferOf, list_of, Outcome, outcome}
-use Rattle.model.specs.Runs.{eventIn, events, end, ownerIn, only, seenFields, sequence, got, creates, createdBy, isOpenNumber, gives, loginBy, closes, isOpenAfter}
-use Rattle.model.specs.Program.{printed, serveWith, serve}
+use Rattle.model.specs.Tables.{Binding, User, Access, Rule, Tables, user_at, user_named}
+use Rattle.model.specs.Rights.{listed, may_read_by, may_write_by, admits, may_read, may_write}
+use Rattle.model.specs.Opening.{LoginState, State, empty_logins, Texts, Fault, fault, quotas, opened, after_opening}
+use Rattle.model.specs.Requests.{Ask, Request, login, in_session, get, push, logout, request_of}
+use Rattle.model.specs.Serving.{index_in, count_in, login_at, readable, copy_for, stores, decide, refusal, session, length_is, accepted, Act, line, buffer_of, list_of, Outcome, outcome}
+use Rattle.model.specs.Runs.{event_in, events, end, owner_in, only, seen_fields, sequence, got, creates, created_by, is_open_number, gives, login_by, closes, is_open_after}
+use Rattle.model.specs.Program.{printed, serve_with, serve}
 
 -- a state that a run from these texts reaches
 pub record Reached (t : Texts) (s : State) : Type 0 where
   pub start : State
   pub acts : List Act
-  pub isOpened : opened t ≡ done start
-  pub isEnd : end start acts ≡ s
+  pub is_opened : opened t ≡ done start
+  pub is_end : end start acts ≡ s
 
 -- "the same values, policy paths compared in the standard spelling"
 unfoldable pub spelled : Rule → Bytes × Access × Bytes
-spelled r = (r.role, r.access, stepsText r.path)
+spelled r = (r.role, r.access, steps_text r.path)
 
 -- "Tables are equal if they hold, line for line and under each column name, the same values": a user's environment lines stand with the user
 pub record SameTables (t₁ t₂ : Tables) : Type 0 where
-  pub sameUsers : t₁.users ≡ t₂.users
-  pub samePolicy : map spelled t₁.policy ≡ map spelled t₂.policy
+  pub same_users : t₁.users ≡ t₂.users
+  pub same_policy : map spelled t₁.policy ≡ map spelled t₂.policy
 
 -- ── Condition 1: nothing else changes ──
 -- "A refused opening keeps the former state"
 abbrev pub RefusedOpening : Type 0
-RefusedOpening = (s : State) (t : Texts) (f : Fault) → opened t ≡ refused f → afterOpening s t ≡ s
+RefusedOpening = (s : State) (t : Texts) (f : Fault) → opened t ≡ refused f → after_opening s t ≡ s
 
 -- condition 1: "No refused request changes the record, a login or a lent buffer": lines and saves, in any state
 abbrev pub RefusedAct : Type 0
 RefusedAct =
     (s : State) (a : Act) (e : ℕ) → (outcome s a).answer ≡ refusal e →
-    outcome s a ≡ record { answer = refusal e; state = s; buffer = bufferOf a; list = list_of a; told = 0 }
+    outcome s a ≡ record { answer = refusal e; state = s; buffer = buffer_of a; list = list_of a; told = 0 }
 
 -- what an accepted push at index i of the value v to the path p makes of a state
 pub record OneFieldChanged (s s₁ : State) (i : ℕ) (p : Keys) (v : Value) : Type 0 where
-  pub holdsValue : value_at p s₁.fields ≡ some v
-  pub otherFields : (q : Keys) → (q ≡ p → ⊥) → value_at q s₁.fields ≡ value_at q s.fields
-  pub ownLogin : loginAt s₁ i ≡ record {
-    logins = (loginAt s i).logins;
-    isOpen = (loginAt s i).isOpen;
-    created = if holds p s.fields then (loginAt s i).created else suc (loginAt s i).created;
+  pub holds_value : value_at p s₁.fields ≡ some v
+  pub other_fields : (q : Keys) → (q ≡ p → ⊥) → value_at q s₁.fields ≡ value_at q s.fields
+  pub own_login : login_at s₁ i ≡ record {
+    logins = (login_at s i).logins;
+    is_open = (login_at s i).is_open;
+    created = if holds p s.fields then (login_at s i).created else suc (login_at s i).created;
   }
-  pub otherLogins : (j : ℕ) → (j ≡ i → ⊥) → loginAt s₁ j ≡ loginAt s j
-  pub tablesStay : s₁.tables ≡ s.tables
+  pub other_logins : (j : ℕ) → (j ≡ i → ⊥) → login_at s₁ j ≡ login_at s j
+  pub tables_stay : s₁.tables ≡ s.tables
 
 -- condition 1: "no accepted push changes any field but the one it names"
 abbrev pub PushChangesOne : Type 0
 PushChangesOne =
     (t : Texts) (s : State) → Reached t s → (x b : Bytes) (l : List ℕ) (n : ℕ) (p : Keys) (v : Value) →
-    requestOf x ≡ some (inSession n (push p v)) → (outcome s (line x b l)).answer ≡ accepted →
-    OneFieldChanged s (outcome s (line x b l)).state (indexIn n) p v
+    request_of x ≡ some (in_session n (push p v)) → (outcome s (line x b l)).answer ≡ accepted →
+    OneFieldChanged s (outcome s (line x b l)).state (index_in n) p v
 
 -- an act's outcome that has this login state at index i, and nothing else changed
 pub record OneLoginChanged (s : State) (a : Act) (o : Outcome) (i : ℕ) (new : LoginState) : Type 0 where
-  pub ownLogin : loginAt o.state i ≡ new
-  pub otherLogins : (j : ℕ) → (j ≡ i → ⊥) → loginAt o.state j ≡ loginAt s j
-  pub fieldsStay : o.state.fields ≡ s.fields
-  pub tablesStay : o.state.tables ≡ s.tables
-  pub bufferStays : o.buffer ≡ bufferOf a
-  pub listStays : o.list ≡ list_of a
-  pub nobodyTold : o.told ≡ 0
+  pub own_login : login_at o.state i ≡ new
+  pub other_logins : (j : ℕ) → (j ≡ i → ⊥) → login_at o.state j ≡ login_at s j
+  pub fields_stay : o.state.fields ≡ s.fields
+  pub tables_stay : o.state.tables ≡ s.tables
+  pub buffer_stays : o.buffer ≡ buffer_of a
+  pub list_stays : o.list ≡ list_of a
+  pub nobody_told : o.told ≡ 0
 
 -- "A login changes one seat only"
 abbrev pub LoginChangesOne : Type 0
 LoginChangesOne =
     (t : Texts) (s : State) → Reached t s → (a : Act) (n : ℕ) → (outcome s a).answer ≡ session n →
-    OneLoginChanged s a (outcome s a) (indexIn n) (record {
-      logins = suc (loginAt s (indexIn n)).logins;
-      isOpen = true;
-      created = (loginAt s (indexIn n)).created;
+    OneLoginChanged s a (outcome s a) (index_in n) (record {
+      logins = suc (login_at s (index_in n)).logins;
+      is_open = true;
+      created = (login_at s (index_in n)).created;
     })
 
 -- 02, 1: "`LOGOUT;session`, which closes it", and "The fields the user created stay counted"
 abbrev pub LogoutChangesOne : Type 0
 LogoutChangesOne =
     (t : Texts) (s : State) → Reached t s → (x b : Bytes) (l : List ℕ) (n : ℕ) →
-    requestOf x ≡ some (inSession n logout) → (outcome s (line x b l)).answer ≡ accepted →
-    OneLoginChanged s (line x b l) (outcome s (line x b l)) (indexIn n) (record {
-      logins = (loginAt s (indexIn n)).logins;
-      isOpen = false;
-      created = (loginAt s (indexIn n)).created;
+    request_of x ≡ some (in_session n logout) → (outcome s (line x b l)).answer ≡ accepted →
+    OneLoginChanged s (line x b l) (outcome s (line x b l)) (index_in n) (record {
+      logins = (login_at s (index_in n)).logins;
+      is_open = false;
+      created = (login_at s (index_in n)).created;
     })
 
 -- a copy and a save change no state
 abbrev pub ShowingChangesNothing : Type 0
-ShowingChangesNothing = (s : State) (a : Act) (n : ℕ) → (outcome s a).answer ≡ length-is n → (outcome s a).state ≡ s
+ShowingChangesNothing = (s : State) (a : Act) (n : ℕ) → (outcome s a).answer ≡ length_is n → (outcome s a).state ≡ s
 
 -- ── Condition 2: the fields held ──
 -- "a path of 1 to 6 keys (names) and a value": each field that is held
-unfoldable pub isValid : Field → Bool
-isValid f = validKeys f.path && validValue f.value
+unfoldable pub is_valid : Field → Bool
+is_valid f = valid_keys f.path && valid_value f.value
 
 abbrev pub FieldsValid : Type 0
-FieldsValid = (t : Texts) (s : State) → Reached t s → all isValid s.fields ≡ true
+FieldsValid = (t : Texts) (s : State) → Reached t s → all is_valid s.fields ≡ true
 
 -- "Fields are sorted by path"
-unfoldable pub isSorted : Fields → Bool
-isSorted [] = true
-isSorted (f ∷ []) = true
-isSorted (f ∷ (g ∷ gs)) = let r = isSorted (g ∷ gs) in by_order (orderPath f.path g.path) r false false
+unfoldable pub is_sorted : Fields → Bool
+is_sorted [] = true
+is_sorted (f ∷ []) = true
+is_sorted (f ∷ (g ∷ gs)) = let r = is_sorted (g ∷ gs) in by_order (order_path f.path g.path) r false false
 
 unfoldable pub begins : Keys → Keys → Bool
 begins [] q = true
@@ -120,15 +120,15 @@ begins (k ∷ p) [] = false
 begins (k ∷ p) (l ∷ q) = let r = begins p q in k == l && r
 
 -- "No field's path is the beginning of another's"
-unfoldable pub noneBegins : Fields → Bool
-noneBegins [] = true
-noneBegins (f ∷ fs) = let r = noneBegins fs in not (any (λ g. begins f.path g.path || begins g.path f.path) fs) && r
+unfoldable pub none_begins : Fields → Bool
+none_begins [] = true
+none_begins (f ∷ fs) = let r = none_begins fs in not (any (λ g. begins f.path g.path || begins g.path f.path) fs) && r
 
 -- both, and "At most 256 fields are held"
 abbrev pub FieldsInOrder : Type 0
 FieldsInOrder =
     (t : Texts) (s : State) → Reached t s →
-    (isSorted s.fields ≡ true) × (noneBegins s.fields ≡ true) × (length s.fields ≤ maxFields)
+    (is_sorted s.fields ≡ true) × (none_begins s.fields ≡ true) × (length s.fields ≤ max_fields)
 
 -- no field falls off the table for another
 abbrev pub NothingFallsOff : Type 0
@@ -139,13 +139,13 @@ NothingFallsOff =
 -- an opening loads each leaf of the text with its value, and nothing else
 abbrev pub LoadsAll : Type 0
 LoadsAll =
-    (t : Texts) (s : State) (m : Members) → opened t ≡ done s → tree_of t.recordText ≡ some m →
-    (p : Keys) → value_at p s.fields ≡ leafAt (object m) p
+    (t : Texts) (s : State) (m : Members) → opened t ≡ done s → tree_of t.record_text ≡ some m →
+    (p : Keys) → value_at p s.fields ≡ leaf_at (object m) p
 
 -- ── Condition 2: saving and opening again ──
 -- these texts with another record text
-unfoldable pub withRecord : Bytes → Texts → Texts
-withRecord r t = record { usersText = t.usersText; environmentsText = t.environmentsText; policyText = t.policyText; recordText = r }
+unfoldable pub with_record : Bytes → Texts → Texts
+with_record r t = record { users_text = t.users_text; environments_text = t.environments_text; policy_text = t.policy_text; record_text = r }
 
 -- a state that a run reached, and texts that were opened to equal tables, to which its saved text is given
 pub record SavedFor (t₂ : Texts) (s : State) : Type 0 where
@@ -153,20 +153,20 @@ pub record SavedFor (t₂ : Texts) (s : State) : Type 0 where
   pub reached : Reached texts s
   pub start₂ : State
   pub opened₂ : opened t₂ ≡ done start₂
-  pub sameTables : SameTables s.tables start₂.tables
+  pub same_tables : SameTables s.tables start₂.tables
 
 -- condition 2: "Where the fields held and all allowances together are at most 256, a saved record, opened again with the same tables, is accepted and
 -- holds the same fields"
 abbrev pub OpensAgain : Type 0
 OpensAgain =
-    (t₂ : Texts) (s : State) → SavedFor t₂ s → length s.fields + quotas s.tables.users ≤ maxFields →
-    opened (withRecord (saved s.fields) t₂) ≡ done (record { tables = s.tables; loginStates = emptyLogins; fields = s.fields })
+    (t₂ : Texts) (s : State) → SavedFor t₂ s → length s.fields + quotas s.tables.users ≤ max_fields →
+    opened (with_record (saved s.fields) t₂) ≡ done (record { tables = s.tables; login_states = empty_logins; fields = s.fields })
 
 -- "a record grown by pushes may meet 9 when opened again": exactly where they are more
 abbrev pub GrownIsRefused : Type 0
 GrownIsRefused =
-    (t₂ : Texts) (s : State) → SavedFor t₂ s → maxFields < length s.fields + quotas s.tables.users →
-    opened (withRecord (saved s.fields) t₂) ≡ refused (fault 9 4 0)
+    (t₂ : Texts) (s : State) → SavedFor t₂ s → max_fields < length s.fields + quotas s.tables.users →
+    opened (with_record (saved s.fields) t₂) ≡ refused (fault 9 4 0)
 
 -- condition 2: "each record has one saved text": the same fields, in whatever order they came, have the same text
 abbrev pub OneSavedText : Type 0
@@ -186,23 +186,23 @@ OneRecord =
 abbrev pub CountsOwnLogins : Type 0
 CountsOwnLogins =
     (t : Texts) (s : State) (acts : List Act) → opened t ≡ done s → (i : ℕ) →
-    (loginAt (end s acts) i).logins ≡ length (keep (loginBy i) (events s acts))
+    (login_at (end s acts) i).logins ≡ length (keep (login_by i) (events s acts))
 
 -- "The answer is the session number, 65,536 times the user's place, plus that user's logins, this one included"
 abbrev pub LoginAnswers : Type 0
 LoginAnswers =
     (t : Texts) (s : State) (acts : List Act) → opened t ≡ done s → (a : Act) (n : ℕ) → (outcome (end s acts) a).answer ≡ session n →
-    (i : ℕ) × (ownerIn (eventIn (end s acts) a) ≡ some i) × (n ≡ perUser * i + suc (length (keep (loginBy i) (events s acts))))
+    (i : ℕ) × (owner_in (event_in (end s acts) a) ≡ some i) × (n ≡ per_user * i + suc (length (keep (login_by i) (events s acts))))
 
 -- 02, 1: "The logins of a user end at 65,535"
 abbrev pub LoginsEnd : Type 0
-LoginsEnd = (t : Texts) (s : State) → Reached t s → (i : ℕ) → (loginAt s i).logins ≤ maxLogins
+LoginsEnd = (t : Texts) (s : State) → Reached t s → (i : ℕ) → (login_at s i).logins ≤ max_logins
 
 -- so a number divided by 65,536 is the index of the user who got it, and the rest that user's logins: two users' numbers never meet
 abbrev pub NumberDivides : Type 0
 NumberDivides =
     (t : Texts) (s : State) (acts : List Act) → opened t ≡ done s → (a : Act) (n : ℕ) → (outcome (end s acts) a).answer ≡ session n →
-    (ownerIn (eventIn (end s acts) a) ≡ some (indexIn n)) × (countIn n ≡ suc (length (keep (loginBy (indexIn n)) (events s acts))))
+    (owner_in (event_in (end s acts) a) ≡ some (index_in n)) × (count_in n ≡ suc (length (keep (login_by (index_in n)) (events s acts))))
 
 -- ── Condition 2: sessions (02, 1) ──
 -- a number is answered at most once
@@ -215,53 +215,53 @@ AnsweredOnce =
 abbrev pub OpenBetween : Type 0
 OpenBetween =
     (t : Texts) (s : State) (acts : List Act) → opened t ≡ done s → (n : ℕ) →
-    isOpenNumber (end s acts) n ≡ isOpenAfter (events s acts) n
+    is_open_number (end s acts) n ≡ is_open_after (events s acts) n
 
 -- 02, 3: "divides the session number by 65,536 to find the user's place, and the remainder is the login count": in any state a number of any size is
 -- open exactly if the login state at its index is, and has as many logins as its remainder
 abbrev pub OpenByParts : Type 0
 OpenByParts =
     (s : State) (n : ℕ) →
-    isOpenNumber s n ≡ ((loginAt s (indexIn n)).isOpen && eqb (loginAt s (indexIn n)).logins (countIn n))
+    is_open_number s n ≡ ((login_at s (index_in n)).is_open && eqb (login_at s (index_in n)).logins (count_in n))
 
 -- "LOGOUT gives 11, then 14": accepted exactly where the number is open
 abbrev pub LogoutAnswers : Type 0
 LogoutAnswers =
-    (t : Texts) (s : State) (acts : List Act) → opened t ≡ done s → (x b : Bytes) (l : List ℕ) (n : ℕ) → requestOf x ≡ some (inSession n logout) →
-    (outcome (end s acts) (line x b l)).answer ≡ (if isOpenAfter (events s acts) n then accepted else refusal 14)
+    (t : Texts) (s : State) (acts : List Act) → opened t ≡ done s → (x b : Bytes) (l : List ℕ) (n : ℕ) → request_of x ≡ some (in_session n logout) →
+    (outcome (end s acts) (line x b l)).answer ≡ (if is_open_after (events s acts) n then accepted else refusal 14)
 
 -- "14 no open session has this number"; a PUSH is refused 15 before, where its list is too short
-unfoldable pub groundWithout : Ask → List ℕ → ℕ
-groundWithout get l = 14
-groundWithout (push p v) l = if ltb (length l) listRoom then 15 else 14
-groundWithout logout l = 14
+unfoldable pub ground_without : Ask → List ℕ → ℕ
+ground_without get l = 14
+ground_without (push p v) l = if ltb (length l) list_room then 15 else 14
+ground_without logout l = 14
 
 -- a number with which nothing is done: each line that carries it is refused, and no list receives it
 pub record Shut (s : State) (n : ℕ) : Type 0 where
-  pub refuses : (x b : Bytes) (l : List ℕ) (q : Ask) → requestOf x ≡ some (inSession n q) → (outcome s (line x b l)).answer ≡ refusal (groundWithout q l)
-  pub notTold : (a : Act) → any (eqb n) (take (outcome s a).told (outcome s a).list) ≡ false
+  pub refuses : (x b : Bytes) (l : List ℕ) (q : Ask) → request_of x ≡ some (in_session n q) → (outcome s (line x b l)).answer ≡ refusal (ground_without q l)
+  pub not_told : (a : Act) → any (eqb n) (take (outcome s a).told (outcome s a).list) ≡ false
 
 -- so it is with every number that is not open: past, still to come, or nobody's
 abbrev pub OthersShut : Type 0
 OthersShut =
-    (t : Texts) (s : State) (acts : List Act) → opened t ≡ done s → (n : ℕ) → isOpenAfter (events s acts) n ≡ false →
+    (t : Texts) (s : State) (acts : List Act) → opened t ≡ done s → (n : ℕ) → is_open_after (events s acts) n ≡ false →
     Shut (end s acts) n
 
 -- "A closed number stays closed until the next accepted opening of the four texts", "and deliveries stop with it": nor does a login answer it
 abbrev pub StaysClosed : Type 0
 StaysClosed =
     (t : Texts) (s : State) (acts : List Act) → opened t ≡ done s → (n : ℕ) → any (closes n) (events s acts) ≡ true →
-    Shut (end s acts) n × ((a : Act) → gives n (eventIn (end s acts) a) ≡ false)
+    Shut (end s acts) n × ((a : Act) → gives n (event_in (end s acts) a) ≡ false)
 
 -- "that user may then log in again and gets a number with the login count one higher"; "LOGIN gives 18, .. when the user has had 65,535 logins":
 -- once the number of a user's last login is closed
 abbrev pub LogsInAgain : Type 0
 LogsInAgain =
     (t : Texts) (s : State) (acts : List Act) → opened t ≡ done s →
-    (n : ℕ) → any (closes n) (events s acts) ≡ true → countIn n ≡ length (keep (loginBy (indexIn n)) (events s acts)) →
-    (name : Bytes) (u : User) → userNamed name s.tables.users ≡ some (indexIn n, u) →
-    (x b : Bytes) (l : List ℕ) → requestOf x ≡ some (login name u.key) →
-    (outcome (end s acts) (line x b l)).answer ≡ (if leb maxLogins (countIn n) then refusal 18 else session (suc n))
+    (n : ℕ) → any (closes n) (events s acts) ≡ true → count_in n ≡ length (keep (login_by (index_in n)) (events s acts)) →
+    (name : Bytes) (u : User) → user_named name s.tables.users ≡ some (index_in n, u) →
+    (x b : Bytes) (l : List ℕ) → request_of x ≡ some (login name u.key) →
+    (outcome (end s acts) (line x b l)).answer ≡ (if leb max_logins (count_in n) then refusal 18 else session (suc n))
 
 -- ── Condition 2: growth ──
 -- fields held less fields loaded are the accepted pushes that named an absent field
@@ -274,32 +274,32 @@ GrowsByPushes =
 abbrev pub GrowsByUsers : Type 0
 GrowsByUsers =
     (t : Texts) (s : State) (acts : List Act) → opened t ≡ done s →
-    length (end s acts).fields ≡ length s.fields + sum (map (λ i. length (keep (createdBy i) (events s acts))) (range 0 (length s.tables.users)))
+    length (end s acts).fields ≡ length s.fields + sum (map (λ i. length (keep (created_by i) (events s acts))) (range 0 (length s.tables.users)))
 
 -- the same as the sum of the created counts
 abbrev pub GrowsByCounts : Type 0
 GrowsByCounts =
     (t : Texts) (s : State) (acts : List Act) → opened t ≡ done s →
-    length (end s acts).fields ≡ length s.fields + sum (map (λ a. a.created) (end s acts).loginStates)
+    length (end s acts).fields ≡ length s.fields + sum (map (λ a. a.created) (end s acts).login_states)
 
 -- a user's count is that user's own number of such pushes
 abbrev pub CountsOwnPushes : Type 0
 CountsOwnPushes =
     (t : Texts) (s : State) (acts : List Act) → opened t ≡ done s → (i : ℕ) →
-    (loginAt (end s acts) i).created ≡ length (keep (createdBy i) (events s acts))
+    (login_at (end s acts) i).created ≡ length (keep (created_by i) (events s acts))
 
 -- and never exceeds the quota
 abbrev pub WithinQuota : Type 0
 WithinQuota =
-    (t : Texts) (s : State) → Reached t s → (i : ℕ) (u : User) → userAt s.tables.users i ≡ some u →
-    (loginAt s i).created ≤ u.quota
+    (t : Texts) (s : State) → Reached t s → (i : ℕ) (u : User) → user_at s.tables.users i ≡ some u →
+    (login_at s i).created ≤ u.quota
 
 -- ── Condition 2: rights by environment lines (02, 4) ──
 -- with "exactly one line for n", `=~n` and `in~n` admit the same keys
 abbrev pub OneLineAlike : Type 0
 OneLineAlike =
     (bs : List Binding) (n k : Bytes) → length (listed bs n) ≡ 1 →
-    admits bs (environment equals n) k ≡ admits bs (environment isIn n) k
+    admits bs (environment equals n) k ≡ admits bs (environment is_in n) k
 
 -- "With two lines it admits nothing": nor with none, nor with more
 abbrev pub OtherwiseNothing : Type 0
@@ -318,58 +318,58 @@ pub record LinesReordered (t₁ t₂ : Texts) : Type 0 where
   pub head : Line
   pub lines₁ : List Line
   pub lines₂ : List Line
-  pub text₁ : lines t₁.environmentsText ≡ head ∷ lines₁
-  pub text₂ : lines t₂.environmentsText ≡ head ∷ lines₂
+  pub text₁ : lines t₁.environments_text ≡ head ∷ lines₁
+  pub text₂ : lines t₂.environments_text ≡ head ∷ lines₂
   pub order : Perm lines₁ lines₂
-  pub sameUsers : t₁.usersText ≡ t₂.usersText
-  pub samePolicy : t₁.policyText ≡ t₂.policyText
+  pub same_users : t₁.users_text ≡ t₂.users_text
+  pub same_policy : t₁.policy_text ≡ t₂.policy_text
 
 -- nor does their order in the text: where both are accepted, the users at each index have equal rights
 abbrev pub TextOrderDecidesNoRight : Type 0
 TextOrderDecidesNoRight =
     (t₁ t₂ : Texts) (s₁ s₂ : State) → LinesReordered t₁ t₂ → opened t₁ ≡ done s₁ → opened t₂ ≡ done s₂ →
-    (i : ℕ) (u v : User) → userAt s₁.tables.users i ≡ some u → userAt s₂.tables.users i ≡ some v → (p : Keys) →
+    (i : ℕ) (u v : User) → user_at s₁.tables.users i ≡ some u → user_at s₂.tables.users i ≡ some v → (p : Keys) →
     (may_read s₁.tables.policy u p ≡ may_read s₂.tables.policy v p) × (may_write s₁.tables.policy u p ≡ may_write s₂.tables.policy v p)
 
 -- what `=~n` asked before: "where it equals the first listed value of n for that user"
-unfoldable pub firstIs : Bytes → List Bytes → Bool
-firstIs k [] = false
-firstIs k (v ∷ vs) = k == v
+unfoldable pub first_is : Bytes → List Bytes → Bool
+first_is k [] = false
+first_is k (v ∷ vs) = k == v
 
 -- a step `=~n` whose n passes
-unfoldable pub equalsWhere : (Bytes → Bool) → Step → Bool
-equalsWhere test (names ns) = false
-equalsWhere test wildcard = false
-equalsWhere test (environment equals n) = test n
-equalsWhere test (environment isIn n) = false
+unfoldable pub equals_where : (Bytes → Bool) → Step → Bool
+equals_where test (names ns) = false
+equals_where test wildcard = false
+equals_where test (environment equals n) = test n
+equals_where test (environment is_in n) = false
 
 -- a line with such a step in its path
-unfoldable pub hasEquals : (Bytes → Bool) → Rule → Bool
-hasEquals test r = any (equalsWhere test) r.path
+unfoldable pub has_equals : (Bytes → Bool) → Rule → Bool
+has_equals test r = any (equals_where test) r.path
 
 -- the user has several lines for n
-unfoldable pub hasSeveral : User → Bytes → Bool
-hasSeveral u n = ltb 1 (length (listed u.environment n))
+unfoldable pub has_several : User → Bytes → Bool
+has_several u n = ltb 1 (length (listed u.environment n))
 
 -- the rights are those that the former reading gives where the lines with `=~n` and several lines for n are left out
 abbrev pub RightsAsBefore : Type 0
 RightsAsBefore =
     (rs : List Rule) (u : User) (p : Keys) →
-    (may_read rs u p ≡ mayReadBy firstIs (keep (λ r. not (hasEquals (hasSeveral u) r)) rs) u p) ×
-    (may_write rs u p ≡ mayWriteBy firstIs (keep (λ r. not (hasEquals (hasSeveral u) r)) rs) u p)
+    (may_read rs u p ≡ may_read_by first_is (keep (λ r. not (has_equals (has_several u) r)) rs) u p) ×
+    (may_write rs u p ≡ may_write_by first_is (keep (λ r. not (has_equals (has_several u) r)) rs) u p)
 
 -- so a user's rights by paths without `=~` are what they were
 abbrev pub OtherPathsStay : Type 0
 OtherPathsStay =
-    (rs : List Rule) (u : User) (p : Keys) → any (hasEquals (λ n. true)) rs ≡ false →
-    (may_read rs u p ≡ mayReadBy firstIs rs u p) × (may_write rs u p ≡ mayWriteBy firstIs rs u p)
+    (rs : List Rule) (u : User) (p : Keys) → any (has_equals (λ n. true)) rs ≡ false →
+    (may_read rs u p ≡ may_read_by first_is rs u p) × (may_write rs u p ≡ may_write_by first_is rs u p)
 
 -- ── Condition 2: lengths ──
 -- "A copy never exceeds 51,069 bytes"
 abbrev pub CopyBound : Type 0
 CopyBound =
-    (t : Texts) (s : State) → Reached t s → (i : ℕ) (u : User) → userAt s.tables.users i ≡ some u →
-    length (copyFor s u) ≤ maxCopy
+    (t : Texts) (s : State) → Reached t s → (i : ℕ) (u : User) → user_at s.tables.users i ≡ some u →
+    length (copy_for s u) ≤ max_copy
 
 unfoldable pub ascends : List ℕ → Bool
 ascends [] = true
@@ -380,57 +380,57 @@ ascends (m ∷ (n ∷ l)) = let r = ascends (n ∷ l) in ltb m n && r
 abbrev pub ListAscends : Type 0
 ListAscends =
     (t : Texts) (s : State) → Reached t s → (a : Act) →
-    (ascends (take (outcome s a).told (outcome s a).list) ≡ true) × ((outcome s a).told ≤ listRoom)
+    (ascends (take (outcome s a).told (outcome s a).list) ≡ true) × ((outcome s a).told ≤ list_room)
 
 -- ── Condition 2: spelling ──
 -- reading the standard spelling of a policy path gives the path back
 abbrev pub StepsReadBack : Type 0
-StepsReadBack = (s : Bytes) (p : Steps) → steps_of s ≡ some p → steps_of (stepsText p) ≡ some p
+StepsReadBack = (s : Bytes) (p : Steps) → steps_of s ≡ some p → steps_of (steps_text p) ≡ some p
 
 -- so paths with one standard spelling are one path
 abbrev pub OneSpelling : Type 0
-OneSpelling = (s₁ s₂ : Bytes) (p₁ p₂ : Steps) → steps_of s₁ ≡ some p₁ → steps_of s₂ ≡ some p₂ → stepsText p₁ ≡ stepsText p₂ → p₁ ≡ p₂
+OneSpelling = (s₁ s₂ : Bytes) (p₁ p₂ : Steps) → steps_of s₁ ≡ some p₁ → steps_of s₂ ≡ some p₂ → steps_text p₁ ≡ steps_text p₂ → p₁ ≡ p₂
 
 -- "with path and value as pushed": each has one spelling
 abbrev pub KeysAsWritten : Type 0
-KeysAsWritten = (s : Bytes) (p : Keys) → keys_of s ≡ some p → keysText p ≡ s
+KeysAsWritten = (s : Bytes) (p : Keys) → keys_of s ≡ some p → keys_text p ≡ s
 
 abbrev pub ValueAsWritten : Type 0
-ValueAsWritten = (s : Bytes) (v : Value) → value_of s ≡ some v → valueText v ≡ s
+ValueAsWritten = (s : Bytes) (v : Value) → value_of s ≡ some v → value_text v ≡ s
 
 -- ── Condition 2: what `serve` prints ──
 -- a line with the zeros that `serve` gives
-abbrev pub withZeros : Bytes → Act
-withZeros x = line x (replicate maxCopy 0) (replicate listRoom 0)
+abbrev pub with_zeros : Bytes → Act
+with_zeros x = line x (replicate max_copy 0) (replicate list_room 0)
 
 -- "the buffer and list lent are always long enough": then a line prints the same and leaves the same state, whatever they hold
 abbrev pub LinePrintsAlike : Type 0
 LinePrintsAlike =
-    (t : Texts) (s : State) → Reached t s → (x b : Bytes) (l : List ℕ) → maxCopy ≤ length b → listRoom ≤ length l →
-    (printed (eventIn s (line x b l)) ≡ printed (eventIn s (withZeros x))) × ((outcome s (line x b l)).state ≡ (outcome s (withZeros x)).state)
+    (t : Texts) (s : State) → Reached t s → (x b : Bytes) (l : List ℕ) → max_copy ≤ length b → list_room ≤ length l →
+    (printed (event_in s (line x b l)) ≡ printed (event_in s (with_zeros x))) × ((outcome s (line x b l)).state ≡ (outcome s (with_zeros x)).state)
 
 -- a line with a buffer and a list of its own, of any content and long enough
 pub record LongEnough : Type 0 where
   pub content : Bytes
   pub buffer : Bytes
   pub list : List ℕ
-  pub roomForCopy : maxCopy ≤ length buffer
-  pub roomForList : listRoom ≤ length list
+  pub room_for_copy : max_copy ≤ length buffer
+  pub room_for_list : list_room ≤ length list
 
-abbrev pub actOf : LongEnough → Act
-actOf x = line x.content x.buffer x.list
+abbrev pub act_of : LongEnough → Act
+act_of x = line x.content x.buffer x.list
 
 -- the same of all lines of a run: what earlier answers left in a buffer or a list that is used again is not printed
 abbrev pub PrintsAlike : Type 0
 PrintsAlike =
     (t : Texts) (s : State) (xs : List LongEnough) → opened t ≡ done s →
-    joined (map printed (events s (map actOf xs))) ≡ joined (map printed (events s (map (λ x. withZeros x.content) xs)))
+    joined (map printed (events s (map act_of xs))) ≡ joined (map printed (events s (map (λ x. with_zeros x.content) xs)))
 
 -- and of the program: that they are "always long enough" is all that matters of them
 abbrev pub ServesAlike : Type 0
 ServesAlike =
-    (b : Bytes) (l : List ℕ) → maxCopy ≤ length b → listRoom ≤ length l → (t : Texts) (input : Bytes) →
-    serveWith b l t input ≡ serve t input
+    (b : Bytes) (l : List ℕ) → max_copy ≤ length b → list_room ≤ length l → (t : Texts) (input : Bytes) →
+    serve_with b l t input ≡ serve t input
 
 -- ── Condition 3 ──
 -- two runs whose tables are equal, whatever else was opened and sent
@@ -441,7 +441,7 @@ pub record TwoRuns : Type 0 where
   pub start₂ : State
   pub opened₁ : opened texts₁ ≡ done start₁
   pub opened₂ : opened texts₂ ≡ done start₂
-  pub sameTables : SameTables start₁.tables start₂.tables
+  pub same_tables : SameTables start₁.tables start₂.tables
   pub acts₁ : List Act
   pub acts₂ : List Act
 
@@ -449,7 +449,7 @@ pub record TwoRuns : Type 0 where
 abbrev pub SetCannotTell : Type 0
 SetCannotTell =
     (r : TwoRuns) (set : ℕ → Bool) →
-    seenFields set r.start₁ ≡ seenFields set r.start₂ →
+    seen_fields set r.start₁ ≡ seen_fields set r.start₂ →
     sequence set (events r.start₁ r.acts₁) ≡ sequence set (events r.start₂ r.acts₂) →
     got set (events r.start₁ r.acts₁) ≡ got set (events r.start₂ r.acts₂)
 
@@ -457,7 +457,7 @@ SetCannotTell =
 -- the user may read are the same in the same order"
 abbrev pub UserCannotTell : Type 0
 UserCannotTell =
-    (r : TwoRuns) (i : ℕ) (u : User) → userAt r.start₁.tables.users i ≡ some u →
+    (r : TwoRuns) (i : ℕ) (u : User) → user_at r.start₁.tables.users i ≡ some u →
     readable r.start₁.tables.policy u r.start₁.fields ≡ readable r.start₂.tables.policy u r.start₂.fields →
     sequence (only i) (events r.start₁ r.acts₁) ≡ sequence (only i) (events r.start₂ r.acts₂) →
     got (only i) (events r.start₁ r.acts₁) ≡ got (only i) (events r.start₂ r.acts₂)

@@ -3,7 +3,7 @@ use Prim.Native.Nat.{compare, Ordering}
 use Rattle.std.proofs.Math.Option.{Option, none, some}
 use Rattle.std.specs.Prelude.{List, [], ◌∷◌, Bool, ◌&&◌, length, take}
 use Rattle.model.specs.Base.{Bytes, all, is_some, within}
-use Rattle.model.specs.Limits.{maxDepth, maxFields}
+use Rattle.model.specs.Limits.{max_depth, max_fields}
 use Rattle.model.specs.Names.{is_key}
 use Rattle.model.specs.Values.{Value}
 use Rattle.model.specs.Values
@@ -12,8 +12,8 @@ use Rattle.model.specs.Values
 abbrev pub Keys : Type 0
 Keys = List Bytes
 
-unfoldable pub validKeys : Keys → Bool
-validKeys p = within 1 maxDepth (length p) && all is_key p
+unfoldable pub valid_keys : Keys → Bool
+valid_keys p = within 1 max_depth (length p) && all is_key p
 
 -- "A field is a path .. and a value"
 pub record Field : Type 0 where
@@ -41,11 +41,11 @@ lex o [] (y ∷ t) = Ordering.lt
 lex o (x ∷ s) [] = Ordering.gt
 lex o (x ∷ s) (y ∷ t) = let r = lex o s t in and_then (o x y) r
 
-unfoldable pub orderKey : Bytes → Bytes → Ordering
-orderKey k l = lex compare k l
+unfoldable pub order_key : Bytes → Bytes → Ordering
+order_key k l = lex compare k l
 
-unfoldable pub orderPath : Keys → Keys → Ordering
-orderPath p q = lex orderKey p q
+unfoldable pub order_path : Keys → Keys → Ordering
+order_path p q = lex order_key p q
 
 -- the first where the order is less, the second where it is equal, else the third
 unfoldable pub by_order : {A : Type 0} → Ordering → A → A → A → A
@@ -57,7 +57,7 @@ by_order Ordering.gt a b c = c
 -- the value that the field at p holds
 unfoldable pub value_at : Keys → Fields → Option Value
 value_at p [] = none
-value_at p (g ∷ gs) = let r = value_at p gs in by_order (orderPath p g.path) none (some g.value) r
+value_at p (g ∷ gs) = let r = value_at p gs in by_order (order_path p g.path) none (some g.value) r
 
 unfoldable pub holds : Keys → Fields → Bool
 holds p fs = is_some (value_at p fs)
@@ -65,12 +65,12 @@ holds p fs = is_some (value_at p fs)
 -- "a new field goes in at its sorted place and later ones move along"; a field of that path gets the value
 unfoldable pub put : Field → Fields → Fields
 put f [] = f ∷ []
-put f (g ∷ gs) = let r = g ∷ put f gs in by_order (orderPath f.path g.path) (f ∷ g ∷ gs) (f ∷ gs) r
+put f (g ∷ gs) = let r = g ∷ put f gs in by_order (order_path f.path g.path) (f ∷ g ∷ gs) (f ∷ gs) r
 
 -- "At most 256 fields are held"
 unfoldable pub store : Field → Fields → Fields
-store f fs = take maxFields (put f fs)
+store f fs = take max_fields (put f fs)
 
 unfoldable pub Opened : Unit {0}
-unfolding Values.Opened validKeys and_then lex orderKey orderPath by_order value_at holds put store
+unfolding Values.Opened valid_keys and_then lex order_key order_path by_order value_at holds put store
 Opened = tt

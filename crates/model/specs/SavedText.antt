@@ -1,7 +1,7 @@
 -- Document 01, "Record, names and paths": "Saved text has this order and no blanks; `{}` is the empty record."
 use Rattle.std.specs.Prelude.{[], ◌∷◌, ◌++◌, map}
 use Rattle.model.specs.Base.{Bytes, text, if◌then◌else◌, ◌==◌}
-use Rattle.model.specs.Values.{quoted, valueText}
+use Rattle.model.specs.Values.{quoted, value_text}
 use Rattle.model.specs.Fields.{Keys, Fields}
 use Rattle.model.specs.Fields
 
@@ -22,14 +22,14 @@ turn (k ∷ p) [] = []
 turn (k ∷ p) (l ∷ q) = let r = turn p q in if k == l then r else ascend p ++ (text "," ++ descend (l ∷ q))
 
 -- what stands behind the value of the field at p, to the text's end
-unfoldable pub savedBehind : Keys → Fields → Bytes
-savedBehind p [] = ascend p
-savedBehind p (f ∷ fs) = turn p f.path ++ (valueText f.value ++ savedBehind f.path fs)
+unfoldable pub saved_behind : Keys → Fields → Bytes
+saved_behind p [] = ascend p
+saved_behind p (f ∷ fs) = turn p f.path ++ (value_text f.value ++ saved_behind f.path fs)
 
 unfoldable pub saved : Fields → Bytes
 saved [] = text "{}"
-saved (f ∷ fs) = text "{" ++ (descend f.path ++ (valueText f.value ++ savedBehind f.path fs))
+saved (f ∷ fs) = text "{" ++ (descend f.path ++ (value_text f.value ++ saved_behind f.path fs))
 
 unfoldable pub Opened : Unit {0}
-unfolding Fields.Opened descend ascend turn savedBehind saved
+unfolding Fields.Opened descend ascend turn saved_behind saved
 Opened = tt

@@ -2,64 +2,64 @@
 use Rattle.std.specs.Prelude.{ℕ, suc, ◌+◌, ◌*◌, ◌/◌, ◌%◌, List, [], ◌∷◌, ◌++◌, map, Bool, true, false, not, ◌&&◌, leb, ltb, eqb, length, drop, set, get_or}
 use Rattle.std.proofs.Math.Option.{Option, none, some}
 use Rattle.model.specs.Base.{Bytes, text, if◌then◌else◌, keep, joined, range, between, ◌==◌}
-use Rattle.model.specs.Limits.{perUser, listRoom, maxLogins}
+use Rattle.model.specs.Limits.{per_user, list_room, max_logins}
 use Rattle.model.specs.Values.{Value}
 use Rattle.model.specs.Fields.{Keys, Field, Fields, holds, store, field_of}
 use Rattle.model.specs.SavedText.{saved}
-use Rattle.model.specs.Paths.{stepsText}
+use Rattle.model.specs.Paths.{steps_text}
 use Rattle.model.specs.Refusals.{Result, refused, done, ◌>>=◌, ◌>>◌, refuse◌if◌, ◌or◌}
-use Rattle.model.specs.Tables.{Binding, User, Access, READ, WRITE, Rule, Tables, userAt, userNamed}
-use Rattle.model.specs.Rights.{isFor, may_read, may_write}
-use Rattle.model.specs.Opening.{LoginState, State, emptyLogin}
-use Rattle.model.specs.Requests.{Request, login, inSession, get, push, logout, requestOf}
+use Rattle.model.specs.Tables.{Binding, User, Access, READ, WRITE, Rule, Tables, user_at, user_named}
+use Rattle.model.specs.Rights.{is_for, may_read, may_write}
+use Rattle.model.specs.Opening.{LoginState, State, empty_login}
+use Rattle.model.specs.Requests.{Request, login, in_session, get, push, logout, request_of}
 use Rattle.model.specs.SavedText
 use Rattle.model.specs.Opening
 use Rattle.model.specs.Requests
 
 -- ── Sessions ──
 -- "65,536 times the user's place, plus that user's logins"
-unfoldable pub sessionNumber : ℕ → LoginState → ℕ
-sessionNumber i a = perUser * i + a.logins
+unfoldable pub session_number : ℕ → LoginState → ℕ
+session_number i a = per_user * i + a.logins
 
 -- "number divided by 65,536, rounded down, is that user's place"
-unfoldable pub indexIn : ℕ → ℕ
-indexIn n = n / perUser
+unfoldable pub index_in : ℕ → ℕ
+index_in n = n / per_user
 
 -- "and the remainder is the login count" (02, 3)
-unfoldable pub countIn : ℕ → ℕ
-countIn n = n % perUser
+unfoldable pub count_in : ℕ → ℕ
+count_in n = n % per_user
 
 -- an open session has this number
-unfoldable pub isSession : ℕ → LoginState → ℕ → Bool
-isSession i a n = a.isOpen && eqb (sessionNumber i a) n
+unfoldable pub is_session : ℕ → LoginState → ℕ → Bool
+is_session i a n = a.is_open && eqb (session_number i a) n
 
-unfoldable pub loginAt : State → ℕ → LoginState
-loginAt s i = get_or s.loginStates i emptyLogin
+unfoldable pub login_at : State → ℕ → LoginState
+login_at s i = get_or s.login_states i empty_login
 
 -- ── The copy ──
-unfoldable pub accessText : Access → Bytes
-accessText READ = text "READ"
-accessText WRITE = text "WRITE"
+unfoldable pub access_text : Access → Bytes
+access_text READ = text "READ"
+access_text WRITE = text "WRITE"
 
 -- values with `;` between; "Each line ends with 0A"
-unfoldable pub tableLine : List Bytes → Bytes
-tableLine vs = between (text ";") vs ++ text "\n"
+unfoldable pub table_line : List Bytes → Bytes
+table_line vs = between (text ";") vs ++ text "\n"
 
 -- "with the user's role put in and the standard spelling"
-unfoldable pub ruleLine : User → Rule → Bytes
-ruleLine u r = tableLine (u.role ∷ accessText r.access ∷ stepsText r.path ∷ [])
+unfoldable pub rule_line : User → Rule → Bytes
+rule_line u r = table_line (u.role ∷ access_text r.access ∷ steps_text r.path ∷ [])
 
-unfoldable pub bindingLine : Binding → Bytes
-bindingLine b = tableLine (b.name ∷ b.value ∷ [])
+unfoldable pub binding_line : Binding → Bytes
+binding_line b = table_line (b.name ∷ b.value ∷ [])
 
 -- "The copy is `role;access;path`, the policy lines of the user's role and of `*` in policy order ..; then `name;value` and
 -- the user's environment lines in order; then the readable fields as saved text"
 unfoldable pub copy_of : List Rule → User → Fields → Bytes
 copy_of rs u fs = joined (
-    tableLine (text "role" ∷ text "access" ∷ text "path" ∷ []) ∷
-    joined (map (ruleLine u) (keep (isFor u) rs)) ∷
-    tableLine (text "name" ∷ text "value" ∷ []) ∷
-    joined (map bindingLine u.environment) ∷
+    table_line (text "role" ∷ text "access" ∷ text "path" ∷ []) ∷
+    joined (map (rule_line u) (keep (is_for u) rs)) ∷
+    table_line (text "name" ∷ text "value" ∷ []) ∷
+    joined (map binding_line u.environment) ∷
     saved fs ∷ text "\n" ∷ [])
 
 -- the fields that the user may read
@@ -67,12 +67,12 @@ unfoldable pub readable : List Rule → User → Fields → Fields
 readable rs u fs = keep (λ f. may_read rs u f.path) fs
 
 -- what GET shows a user
-unfoldable pub copyFor : State → User → Bytes
-copyFor s u = copy_of s.tables.policy u (readable s.tables.policy u s.fields)
+unfoldable pub copy_for : State → User → Bytes
+copy_for s u = copy_of s.tables.policy u (readable s.tables.policy u s.fields)
 
 -- ── Decisions: each word's grounds in the order of its sentence ──
 pub data Change : Type 0 where
-  setsLogin : ℕ → LoginState → Change  -- the login state at an index becomes this one
+  sets_login : ℕ → LoginState → Change  -- the login state at an index becomes this one
   shows : Bytes → Change  -- a text goes into the buffer
   stores : ℕ → LoginState → Field → Change  -- a field holds its value, and the login state at an index becomes this one
 
@@ -85,45 +85,45 @@ pub record Asker : Type 0 where
 -- "14 no open session has this number"
 unfoldable pub asker : State → ℕ → Result ℕ Asker
 asker s n = do
-  let i = indexIn n
-  u ← userAt s.tables.users i or 14
-  refuse 14 if not (isSession i (loginAt s i) n)
-  done (record { index = i; user = u; login = loginAt s i })
+  let i = index_in n
+  u ← user_at s.tables.users i or 14
+  refuse 14 if not (is_session i (login_at s i) n)
+  done (record { index = i; user = u; login = login_at s i })
 
 -- "15 the lent buffer is shorter" than the text
-unfoldable pub decideShow : Bytes → ℕ → Result ℕ Change
-decideShow c room = do
+unfoldable pub decide_show : Bytes → ℕ → Result ℕ Change
+decide_show c room = do
   refuse 15 if ltb room (length c)
   done (shows c)
 
 -- a login: one more, and a session is open
 abbrev pub entered : LoginState → LoginState
-entered a = record { logins = suc a.logins; isOpen = true; created = a.created }
+entered a = record { logins = suc a.logins; is_open = true; created = a.created }
 
 -- "12 user unknown or key wrong; 13 the user has a session"; "18, last, when the user has had 65,535 logins" (02, 1)
-unfoldable pub decideLogin : State → Bytes → Bytes → Result ℕ Change
-decideLogin s n k = do
-  (i, u) ← userNamed n s.tables.users or 12
+unfoldable pub decide_login : State → Bytes → Bytes → Result ℕ Change
+decide_login s n k = do
+  (i, u) ← user_named n s.tables.users or 12
   refuse 12 if not (u.key == k)
-  refuse 13 if (loginAt s i).isOpen
-  refuse 18 if leb maxLogins (loginAt s i).logins
-  done (setsLogin i (entered (loginAt s i)))
+  refuse 13 if (login_at s i).is_open
+  refuse 18 if leb max_logins (login_at s i).logins
+  done (sets_login i (entered (login_at s i)))
 
 -- "14 no open session has this number; 15 the lent buffer is shorter than the copy"
-unfoldable pub decideGet : State → ℕ → ℕ → Result ℕ Change
-decideGet s n room = do
+unfoldable pub decide_get : State → ℕ → ℕ → Result ℕ Change
+decide_get s n room = do
   a ← asker s n
-  decideShow (copyFor s a.user) room
+  decide_show (copy_for s a.user) room
 
 -- a field more is created unless it was held
 unfoldable pub creating : LoginState → Bool → LoginState
-creating a held = record { logins = a.logins; isOpen = a.isOpen; created = if held then a.created else suc a.created }
+creating a held = record { logins = a.logins; is_open = a.is_open; created = if held then a.created else suc a.created }
 
 -- "15 the lent delivery list has fewer than 32 numbers; 14; 16 the user may not write the path; 17 the field is absent and the user has
 -- created as many as the allowance"
-unfoldable pub decidePush : State → ℕ → Keys → Value → ℕ → Result ℕ Change
-decidePush s n p v room = do
-  refuse 15 if ltb room listRoom
+unfoldable pub decide_push : State → ℕ → Keys → Value → ℕ → Result ℕ Change
+decide_push s n p v room = do
+  refuse 15 if ltb room list_room
   a ← asker s n
   refuse 16 if not (may_write s.tables.policy a.user p)
   refuse 17 if not (holds p s.fields) && leb a.user.quota a.login.created
@@ -131,74 +131,74 @@ decidePush s n p v room = do
 
 -- a logout: the session is closed; "The fields the user created stay counted"
 abbrev pub closed : LoginState → LoginState
-closed a = record { logins = a.logins; isOpen = false; created = a.created }
+closed a = record { logins = a.logins; is_open = false; created = a.created }
 
 -- "LOGOUT gives 11, then 14" (02, 1)
-unfoldable pub decideLogout : State → ℕ → Result ℕ Change
-decideLogout s n = do
+unfoldable pub decide_logout : State → ℕ → Result ℕ Change
+decide_logout s n = do
   a ← asker s n
-  done (setsLogin a.index (closed a.login))
+  done (sets_login a.index (closed a.login))
 
 -- the length of what a request writes into, 0 where it writes into nothing
 unfoldable pub room_for : Request → Bytes → List ℕ → ℕ
 room_for (login u k) b l = 0
-room_for (inSession n get) b l = length b
-room_for (inSession n (push p v)) b l = length l
-room_for (inSession n logout) b l = 0
+room_for (in_session n get) b l = length b
+room_for (in_session n (push p v)) b l = length l
+room_for (in_session n logout) b l = 0
 
 -- what a request, with that length, is decided to be
 unfoldable pub decide : State → Request → ℕ → Result ℕ Change
-decide s (login u k) room = decideLogin s u k
-decide s (inSession n get) room = decideGet s n room
-decide s (inSession n (push p v)) room = decidePush s n p v room
-decide s (inSession n logout) room = decideLogout s n
+decide s (login u k) room = decide_login s u k
+decide s (in_session n get) room = decide_get s n room
+decide s (in_session n (push p v)) room = decide_push s n p v room
+decide s (in_session n logout) room = decide_logout s n
 
 -- "Save: 15 the buffer is too short; else it writes the saved text without 0A"
-unfoldable pub decideSave : State → ℕ → Result ℕ Change
-decideSave s room = decideShow (saved s.fields) room
+unfoldable pub decide_save : State → ℕ → Result ℕ Change
+decide_save s room = decide_show (saved s.fields) room
 
 -- ── What a decision changes, whom it reaches, and what is answered ──
 unfoldable pub apply : Change → State → State
-apply (setsLogin i a) s = record { tables = s.tables; loginStates = set s.loginStates i a; fields = s.fields }
+apply (sets_login i a) s = record { tables = s.tables; login_states = set s.login_states i a; fields = s.fields }
 apply (shows c) s = s
-apply (stores i a f) s = record { tables = s.tables; loginStates = set s.loginStates i a; fields = store f s.fields }
+apply (stores i a f) s = record { tables = s.tables; login_states = set s.login_states i a; fields = store f s.fields }
 
-unfoldable pub readsBy : List Rule → Option User → Keys → Bool
-readsBy rs none p = false
-readsBy rs (some u) p = may_read rs u p
+unfoldable pub reads_by : List Rule → Option User → Keys → Bool
+reads_by rs none p = false
+reads_by rs (some u) p = may_read rs u p
 
 -- the user at an index may read a path
-unfoldable pub readsAt : Tables → ℕ → Keys → Bool
-readsAt t i p = readsBy t.policy (userAt t.users i) p
+unfoldable pub reads_at : Tables → ℕ → Keys → Bool
+reads_at t i p = reads_by t.policy (user_at t.users i) p
 
 -- "ascending, the numbers of all other open sessions whose user may read the path"
 unfoldable pub receivers : State → ℕ → Keys → List ℕ
 receivers s i p =
-    map (λ j. sessionNumber j (loginAt s j))
-    (keep (λ j. (loginAt s j).isOpen && not (eqb j i) && readsAt s.tables j p) (range 0 (length s.tables.users)))
+    map (λ j. session_number j (login_at s j))
+    (keep (λ j. (login_at s j).is_open && not (eqb j i) && reads_at s.tables j p) (range 0 (length s.tables.users)))
 
 -- the numbers that the list receives
 unfoldable pub notified : State → Change → List ℕ
-notified s (setsLogin i a) = []
+notified s (sets_login i a) = []
 notified s (shows c) = []
 notified s (stores i a f) = receivers s i f.path
 
 -- the text that the buffer receives
 unfoldable pub shown : Change → Bytes
-shown (setsLogin i a) = []
+shown (sets_login i a) = []
 shown (shows c) = c
 shown (stores i a f) = []
 
 pub data Answer : Type 0 where
   refusal : ℕ → Answer
   session : ℕ → Answer
-  length-is : ℕ → Answer
+  length_is : ℕ → Answer
   accepted : Answer
 
 -- "The answer is the session number", "the copy's length", "the sender's answer shows neither list nor its length"; bare acceptance where a session is closed
 unfoldable pub answer_of : Change → Answer
-answer_of (setsLogin i a) = if a.isOpen then session (sessionNumber i a) else accepted
-answer_of (shows c) = length-is (length c)
+answer_of (sets_login i a) = if a.is_open then session (session_number i a) else accepted
+answer_of (shows c) = length_is (length c)
 answer_of (stores i a f) = accepted
 
 -- ── Acts ──
@@ -208,23 +208,23 @@ pub data Act : Type 0 where
   save : Bytes → Act
 
 -- what is lent: the buffer, and the list, which a save has none of
-unfoldable pub bufferOf : Act → Bytes
-bufferOf (line t b l) = b
-bufferOf (save b) = b
+unfoldable pub buffer_of : Act → Bytes
+buffer_of (line t b l) = b
+buffer_of (save b) = b
 
 unfoldable pub list_of : Act → List ℕ
 list_of (line t b l) = l
 list_of (save b) = []
 
 -- "A line is first taken apart; one that cannot be is refused 11"
-unfoldable pub decideLine : State → Bytes → List ℕ → Option Request → Result ℕ Change
-decideLine s b l none = refused 11
-decideLine s b l (some q) = decide s q (room_for q b l)
+unfoldable pub decide_line : State → Bytes → List ℕ → Option Request → Result ℕ Change
+decide_line s b l none = refused 11
+decide_line s b l (some q) = decide s q (room_for q b l)
 
 -- what an act is decided to be
 unfoldable pub decision : State → Act → Result ℕ Change
-decision s (line t b l) = decideLine s b l (requestOf t)
-decision s (save b) = decideSave s (length b)
+decision s (line t b l) = decide_line s b l (request_of t)
+decision s (save b) = decide_save s (length b)
 
 -- what an act leaves: the answer, the state, the buffer, the list, and how many numbers the list received
 pub record Outcome : Type 0 where
@@ -252,8 +252,8 @@ conclude s b l (done c) = record {
 }
 
 unfoldable pub outcome : State → Act → Outcome
-outcome s a = conclude s (bufferOf a) (list_of a) (decision s a)
+outcome s a = conclude s (buffer_of a) (list_of a) (decision s a)
 
 unfoldable pub Opened : Unit {0}
-unfolding SavedText.Opened Opening.Opened Requests.Opened sessionNumber indexIn countIn isSession loginAt accessText tableLine ruleLine bindingLine copy_of readable copyFor asker decideShow decideLogin decideGet creating decidePush decideLogout room_for decide decideSave apply readsBy readsAt receivers notified shown answer_of bufferOf list_of decideLine decision over unchanged conclude outcome
+unfolding SavedText.Opened Opening.Opened Requests.Opened session_number index_in count_in is_session login_at access_text table_line rule_line binding_line copy_of readable copy_for asker decide_show decide_login decide_get creating decide_push decide_logout room_for decide decide_save apply reads_by reads_at receivers notified shown answer_of buffer_of list_of decide_line decision over unchanged conclude outcome
 Opened = tt

@@ -16,23 +16,23 @@ pub data Line : Type 0 where
   ended : Bytes → Line
   broken : Bytes → Line
 
-unfoldable pub onFirstLine : ℕ → List Line → List Line
-onFirstLine x [] = broken (x ∷ []) ∷ []
-onFirstLine x (ended l ∷ ls) = ended (x ∷ l) ∷ ls
-onFirstLine x (broken l ∷ ls) = broken (x ∷ l) ∷ ls
+unfoldable pub on_first_line : ℕ → List Line → List Line
+on_first_line x [] = broken (x ∷ []) ∷ []
+on_first_line x (ended l ∷ ls) = ended (x ∷ l) ∷ ls
+on_first_line x (broken l ∷ ls) = broken (x ∷ l) ∷ ls
 
 unfoldable pub lines : Bytes → List Line
 lines [] = []
-lines (x ∷ s) = let r = lines s in if eqb x 0x0A then ended [] ∷ r else onFirstLine x r
+lines (x ∷ s) = let r = lines s in if eqb x 0x0A then ended [] ∷ r else on_first_line x r
 
-unfoldable pub onFirst : ℕ → List Bytes → List Bytes
-onFirst x [] = (x ∷ []) ∷ []
-onFirst x (f ∷ fs) = (x ∷ f) ∷ fs
+unfoldable pub on_first : ℕ → List Bytes → List Bytes
+on_first x [] = (x ∷ []) ∷ []
+on_first x (f ∷ fs) = (x ∷ f) ∷ fs
 
 -- "separated by `;`"
 unfoldable pub split : Bytes → List Bytes
 split [] = [] ∷ []
-split (x ∷ s) = let r = split s in if eqb x 0x3B then [] ∷ r else onFirst x r
+split (x ∷ s) = let r = split s in if eqb x 0x3B then [] ∷ r else on_first x r
 
 -- ── Rows ──
 -- "lines of values in that order": a line's value under a column's name
@@ -41,44 +41,44 @@ under [] vs n = []
 under (h ∷ hs) [] n = []
 under (h ∷ hs) (v ∷ vs) n = let r = under hs vs n in if h == n then v else r
 
-unfoldable pub sameLength : {A B : Type 0} → List A → List B → Bool
-sameLength xs ys = eqb (length xs) (length ys)
+unfoldable pub same_length : {A B : Type 0} → List A → List B → Bool
+same_length xs ys = eqb (length xs) (length ys)
 
 -- a refusal with its line
-unfoldable pub inLine : {A : Type 0} → ℕ → Result ℕ A → Result (ℕ × ℕ) A
-inLine n (refused e) = refused (e, n)
-inLine n (done a) = done a
+unfoldable pub in_line : {A : Type 0} → ℕ → Result ℕ A → Result (ℕ × ℕ) A
+in_line n (refused e) = refused (e, n)
+in_line n (done a) = done a
 
 module _ {A : Type 0} (t : Table A) where
   -- "1 head not exactly its names, each once": in any order
-  unfoldable pub isHead : List Bytes → Bool
-  isHead hs = sameLength hs t.columns && all (λ c. among c hs) t.columns
+  unfoldable pub is_head : List Bytes → Bool
+  is_head hs = same_length hs t.columns && all (λ c. among c hs) t.columns
 
   -- "2 wrong number of fields, .. or no final 0A"
-  unfoldable pub readRow : List Bytes → A → Line → Result ℕ A
-  readRow hs a (broken l) = refused 2
-  readRow hs a (ended l) = do
-    refuse 2 if not (sameLength (split l) hs)
+  unfoldable pub read_row : List Bytes → A → Line → Result ℕ A
+  read_row hs a (broken l) = refused 2
+  read_row hs a (ended l) = do
+    refuse 2 if not (same_length (split l) hs)
     t.row (under hs (split l)) a
 
   -- "Then each line from the top": the lines from number n on
-  unfoldable pub readRows : List Bytes → ℕ → A → List Line → Result (ℕ × ℕ) A
-  readRows hs n a [] = done a
-  readRows hs n a (l ∷ ls) = do
-    a₁ ← inLine n (readRow hs a l)
-    readRows hs (suc n) a₁ ls
+  unfoldable pub read_rows : List Bytes → ℕ → A → List Line → Result (ℕ × ℕ) A
+  read_rows hs n a [] = done a
+  read_rows hs n a (l ∷ ls) = do
+    a₁ ← in_line n (read_row hs a l)
+    read_rows hs (suc n) a₁ ls
 
   -- "a line of column names, in any order, then lines of values", "the head being 1; the line is 0 for refusals .. 1"
-  unfoldable pub readLines : A → List Line → Result (ℕ × ℕ) A
-  readLines a [] = refused (1, 0)
-  readLines a (broken h ∷ ls) = refused (1, 0)
-  readLines a (ended h ∷ ls) = do
-    refuse (1, 0) if not (isHead (split h))
-    readRows (split h) 2 a ls
+  unfoldable pub read_lines : A → List Line → Result (ℕ × ℕ) A
+  read_lines a [] = refused (1, 0)
+  read_lines a (broken h ∷ ls) = refused (1, 0)
+  read_lines a (ended h ∷ ls) = do
+    refuse (1, 0) if not (is_head (split h))
+    read_rows (split h) 2 a ls
 
-  unfoldable pub readTable : A → Bytes → Result (ℕ × ℕ) A
-  readTable a s = readLines a (lines s)
+  unfoldable pub read_table : A → Bytes → Result (ℕ × ℕ) A
+  read_table a s = read_lines a (lines s)
 
 unfoldable pub Opened : Unit {0}
-unfolding Base.Opened Refusals.Opened onFirstLine lines onFirst split under sameLength inLine isHead readRow readRows readLines readTable
+unfolding Base.Opened Refusals.Opened on_first_line lines on_first split under same_length in_line is_head read_row read_rows read_lines read_table
 Opened = tt

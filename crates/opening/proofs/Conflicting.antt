@@ -7,40 +7,40 @@ use lib.ListN.{length, take, drop}
 use lib.Seq.{take_all}
 use Rattle.layout.proofs.Used.{table-fit, length-table, row-left, rows-over}
 use Rattle.model.specs.Base.{Bytes, any}
-use Rattle.model.specs.Limits.{maxFields, maxRules}
+use Rattle.model.specs.Limits.{max_fields, max_rules}
 use Rattle.model.specs.Fields.{Field}
-use Rattle.model.specs.Paths.{Steps, asSteps}
+use Rattle.model.specs.Paths.{Steps, as_steps}
 use Rattle.model.specs.Tables.{Rule}
-use Rattle.model.specs.Rights.{conflictsWith}
-use Rattle.paths.specs.Layout.{pathIn}
-use Rattle.record.specs.Slots.{slotBytes, fieldIn, fieldsIn}
-use Rattle.layout.specs.Layout.{inUse}
-use Rattle.tables.specs.Memory.{ruleRow, ruleIn, policyIn}
+use Rattle.model.specs.Rights.{conflicts_with}
+use Rattle.paths.specs.Layout.{path_in}
+use Rattle.record.specs.Slots.{slot_bytes, field_in, fields_in}
+use Rattle.layout.specs.Layout.{in_use}
+use Rattle.tables.specs.Memory.{rule_row, rule_in, policy_in}
 
 -- a field is in conflict with a WRITE line of the policy
 abbrev pub conflicts : List Rule → Field → Bool
-conflicts rs f = any (conflictsWith (asSteps f.path)) rs
+conflicts rs f = any (conflicts_with (as_steps f.path)) rs
 
 -- a policy in memory has at most 64 lines
-all-rules : (s : Bytes) → take maxRules (policyIn s) ≡ policyIn s
-unfolding policyIn
-all-rules s = take_all maxRules (policyIn s) (table-fit ruleIn ruleRow maxRules s)
+all-rules : (s : Bytes) → take max_rules (policy_in s) ≡ policy_in s
+unfolding policy_in
+all-rules s = take_all max_rules (policy_in s) (table-fit rule_in rule_row max_rules s)
 
 -- n fields were counted
-module _ (s : Bytes) {n : ℕ} (counted : n ≡ length (fieldsIn s)) (i : ℕ) where
-  in_use : n ≡ length (inUse slotBytes maxFields s)
-  unfolding fieldsIn
-  in_use = counted ∙ length-table fieldIn slotBytes maxFields s
+module _ (s : Bytes) {n : ℕ} (counted : n ≡ length (fields_in s)) (i : ℕ) where
+  in_use_lem : n ≡ length (in_use slot_bytes max_fields s)
+  unfolding fields_in
+  in_use_lem = counted ∙ length-table field_in slot_bytes max_fields s
 
-  pub fields-over : n ≤ i → drop i (fieldsIn s) ≡ []
-  unfolding fieldsIn
-  fields-over h = rows-over fieldIn slotBytes maxFields s in_use i h
+  pub fields-over : n ≤ i → drop i (fields_in s) ≡ []
+  unfolding fields_in
+  fields-over h = rows-over field_in slot_bytes max_fields s in_use_lem i h
 
   module _ (below : i < n) where
     -- the field in the slot at i, whose path has the steps q, is in conflict with a policy, or a later one is
-    pub conflicts-left : (policy : Bytes) {slot : Bytes} {q : Steps} {r : Bool} → slot ≡ take slotBytes (drop (i * slotBytes) s) → q ≡ asSteps (pathIn slot)
-        → r ≡ any (conflictsWith q) (take maxRules (policyIn policy))
-        → any (conflicts (policyIn policy)) (drop i (fieldsIn s)) ≡ (r || any (conflicts (policyIn policy)) (drop (i + 1) (fieldsIn s)))
-    unfolding any fieldIn fieldsIn
+    pub conflicts-left : (policy : Bytes) {slot : Bytes} {q : Steps} {r : Bool} → slot ≡ take slot_bytes (drop (i * slot_bytes) s) → q ≡ as_steps (path_in slot)
+        → r ≡ any (conflicts_with q) (take max_rules (policy_in policy))
+        → any (conflicts (policy_in policy)) (drop i (fields_in s)) ≡ (r || any (conflicts (policy_in policy)) (drop (i + 1) (fields_in s)))
+    unfolding any field_in fields_in
     conflicts-left policy is steps t =
-        rw (row-left fieldIn slotBytes maxFields s in_use i below is, t, all-rules policy, steps)
+        rw (row-left field_in slot_bytes max_fields s in_use_lem i below is, t, all-rules policy, steps)

@@ -9,53 +9,53 @@ use borrow.Author.Tests.{not-false}
 use lib.ListN.{drop}
 use Rattle.model.specs.Base.{Bytes, any}
 use Rattle.model.specs.Refusals.{Result, refused, done, ◌>>=◌, ◌>>◌}
-use Rattle.model.specs.Table.{Table, Line, ended, broken, lines, split, inLine, isHead, readRow, readRows, readLines, readTable}
+use Rattle.model.specs.Table.{Table, Line, ended, broken, lines, split, in_line, is_head, read_row, read_rows, read_lines, read_table}
 use Rattle.model.specs.Tables.{User, Rule, Tables}
-use Rattle.model.specs.Rights.{isWrite, conflictsWith}
-use Rattle.model.specs.Opening.{Fault, fault, from, conflictFrom, refuseAt, checkPolicy, openTables}
+use Rattle.model.specs.Rights.{is_write, conflicts_with}
+use Rattle.model.specs.Opening.{Fault, fault, from, conflict_from, refuse_at, check_policy, open_tables}
 use Rattle.model.proofs.Lists.{by_cases, refused-done, done-same, none-some, if-done}
-use Rattle.tables.specs.Memory.{usersBytes, policyIn, tablesIn}
-use Rattle.tables.specs.Grants.{lineNumber}
-use Rattle.tabletext.specs.Reading.{inUsers, inPolicy, table_of, tableAnswer, ifDone, rowsAsFar, linesAsFar, tablesAsFar, ReadsTable}
+use Rattle.tables.specs.Memory.{users_bytes, policy_in, tables_in}
+use Rattle.tables.specs.Grants.{line_number}
+use Rattle.tabletext.specs.Reading.{in_users, in_policy, table_of, table_answer, if_done, rows_as_far, lines_as_far, tables_as_far, ReadsTable}
 use Rattle.tabletext.specs.declared.read.Table.TheVariants.{Users, Environments, Policy}
 use Rattle.tabletext.specs.declared.read.TableRead.{TableRead}
 use Rattle.tabletext.specs.declared.read.TableRead.TheVariants as table-read
-use Rattle.opening.specs.Answers.{textsOf}
+use Rattle.opening.specs.Answers.{texts_of}
 
 -- ── A text read to its end: what its lines added is what was read ──
 module _ {A : Type 0} (t : Table A) where
-  rows-far : (hs : List Bytes) (n : ℕ) (a b : A) (ls : List Line) → readRows t hs n a ls ≡ done b → b ≡ rowsAsFar t hs a ls
-  unfolding readRows rowsAsFar inLine ifDone ◌>>=◌
+  rows-far : (hs : List Bytes) (n : ℕ) (a b : A) (ls : List Line) → read_rows t hs n a ls ≡ done b → b ≡ rows_as_far t hs a ls
+  unfolding read_rows rows_as_far in_line if_done ◌>>=◌
   rows-far hs n a b [] h = sym (done-same h)
-  rows-far hs n a b (l ∷ ls) h = go (readRow t hs a l) h (λ c. rows-far hs (suc n) c b ls)
+  rows-far hs n a b (l ∷ ls) h = go (read_row t hs a l) h (λ c. rows-far hs (suc n) c b ls)
     where
-      go : (q : Result ℕ A) → (inLine n q >>= λ c. readRows t hs (suc n) c ls) ≡ done b
-          → ((c : A) → readRows t hs (suc n) c ls ≡ done b → b ≡ rowsAsFar t hs c ls) → b ≡ ifDone a (λ c. rowsAsFar t hs c ls) q
+      go : (q : Result ℕ A) → (in_line n q >>= λ c. read_rows t hs (suc n) c ls) ≡ done b
+          → ((c : A) → read_rows t hs (suc n) c ls ≡ done b → b ≡ rows_as_far t hs c ls) → b ≡ if_done a (λ c. rows_as_far t hs c ls) q
       go (refused e) k f = refused-done k
       go (done c) k f = f c k
 
-  lines-far : (a b : A) (ls : List Line) → readLines t a ls ≡ done b → b ≡ linesAsFar t a ls
-  unfolding readLines linesAsFar
+  lines-far : (a b : A) (ls : List Line) → read_lines t a ls ≡ done b → b ≡ lines_as_far t a ls
+  unfolding read_lines lines_as_far
   lines-far a b [] h = refused-done h
   lines-far a b (broken l ∷ ls) h = refused-done h
   lines-far a b (ended l ∷ ls) h =
       let (head, rest) = if-done _ _ _ b h in
-      rw (not-false (isHead t (split l)) head) (rows-far (split l) 2 a b ls rest)
+      rw (not-false (is_head t (split l)) head) (rows-far (split l) 2 a b ls rest)
 
   -- the result that an answer tells
   module _ (a b : A) (s : Bytes) {r : TableRead} (answered : ReadsTable t a s r b) where
-    read_done : r ≡ table-read.Done → readTable t a s ≡ done b
-    unfolding readTable tablesAsFar
-    read_done told = go (readTable t a s) refl (sym told ∙ answered.0)
+    read_done : r ≡ table-read.Done → read_table t a s ≡ done b
+    unfolding read_table tables_as_far
+    read_done told = go (read_table t a s) refl (sym told ∙ answered.0)
       where
-        go : (q : Result (ℕ × ℕ) A) → readTable t a s ≡ q → table-read.Done ≡ tableAnswer q → q ≡ done b
+        go : (q : Result (ℕ × ℕ) A) → read_table t a s ≡ q → table-read.Done ≡ table_answer q → q ≡ done b
         go (refused e) i k = let z : ◌≡◌ {A = ℕ} 0 1 = cc in absurd (omega arith)
         go (done c) i k = ap done (lines-far a c (lines s) i ∙ sym answered.1)
 
-    read-refused : {e n : ℕ} → r ≡ table-read.Refused e n → readTable t a s ≡ refused (e, n)
-    read-refused {e} {n} told = go (readTable t a s) (sym told ∙ answered.0)
+    read-refused : {e n : ℕ} → r ≡ table-read.Refused e n → read_table t a s ≡ refused (e, n)
+    read-refused {e} {n} told = go (read_table t a s) (sym told ∙ answered.0)
       where
-        go : (q : Result (ℕ × ℕ) A) → table-read.Refused e n ≡ tableAnswer q → q ≡ refused (e, n)
+        go : (q : Result (ℕ × ℕ) A) → table-read.Refused e n ≡ table_answer q → q ≡ refused (e, n)
         go (refused d) k = let x : e ≡ d.0 = cc in let y : n ≡ d.1 = cc in rw (x, y)
         go (done c) k = let z : ◌≡◌ {A = ℕ} 0 1 = cc in absurd (omega arith)
 
@@ -67,85 +67,85 @@ then-in (done a) x g = refl
 
 module _ {A B : Type 0} (f : A → B) (t : Table A) (u : Table B) (columns : u.columns ≡ t.columns)
     (rows : (val : Bytes → Bytes) (a : A) → u.row val (f a) ≡ (t.row val a >>= λ b. done (f b))) where
-  row_in : (hs : List Bytes) (a : A) (l : Line) → readRow u hs (f a) l ≡ (readRow t hs a l >>= λ b. done (f b))
-  unfolding readRow ◌>>=◌
+  row_in : (hs : List Bytes) (a : A) (l : Line) → read_row u hs (f a) l ≡ (read_row t hs a l >>= λ b. done (f b))
+  unfolding read_row ◌>>=◌
   row_in hs a (broken l) = refl
   row_in hs a (ended l) = rw rows (then-in _ _ _)
 
-  rows_in : (hs : List Bytes) (n : ℕ) (a : A) (ls : List Line) → readRows u hs n (f a) ls ≡ (readRows t hs n a ls >>= λ b. done (f b))
-  unfolding readRows inLine ◌>>=◌
+  rows_in : (hs : List Bytes) (n : ℕ) (a : A) (ls : List Line) → read_rows u hs n (f a) ls ≡ (read_rows t hs n a ls >>= λ b. done (f b))
+  unfolding read_rows in_line ◌>>=◌
   rows_in hs n a [] = refl
-  rows_in hs n a (l ∷ ls) = rw (row_in hs a l) (go (readRow t hs a l) (λ b. rows_in hs (suc n) b ls))
+  rows_in hs n a (l ∷ ls) = rw (row_in hs a l) (go (read_row t hs a l) (λ b. rows_in hs (suc n) b ls))
     where
-      go : (q : Result ℕ A) → ((b : A) → readRows u hs (suc n) (f b) ls ≡ (readRows t hs (suc n) b ls >>= λ c. done (f c)))
-          → (inLine n (q >>= λ b. done (f b)) >>= λ b. readRows u hs (suc n) b ls)
-          ≡ ((inLine n q >>= λ b. readRows t hs (suc n) b ls) >>= λ c. done (f c))
+      go : (q : Result ℕ A) → ((b : A) → read_rows u hs (suc n) (f b) ls ≡ (read_rows t hs (suc n) b ls >>= λ c. done (f c)))
+          → (in_line n (q >>= λ b. done (f b)) >>= λ b. read_rows u hs (suc n) b ls)
+          ≡ ((in_line n q >>= λ b. read_rows t hs (suc n) b ls) >>= λ c. done (f c))
       go (refused e) k = refl
       go (done b) k = k b
 
-  head_in : (hs : List Bytes) → isHead u hs ≡ isHead t hs
-  unfolding isHead
+  head_in : (hs : List Bytes) → is_head u hs ≡ is_head t hs
+  unfolding is_head
   head_in hs = rw columns
 
-  lines-in : (a : A) (ls : List Line) → readLines u (f a) ls ≡ (readLines t a ls >>= λ b. done (f b))
-  unfolding readLines ◌>>=◌
+  lines-in : (a : A) (ls : List Line) → read_lines u (f a) ls ≡ (read_lines t a ls >>= λ b. done (f b))
+  unfolding read_lines ◌>>=◌
   lines-in a [] = refl
   lines-in a (broken l ∷ ls) = refl
   lines-in a (ended l ∷ ls) = rw (head_in (split l), rows_in (split l) 2 a ls) (then-in _ _ _)
 
   -- what follows the reading of the one follows the reading of the other
   table-in : (k : ℕ) (a : A) (s : Bytes) {C : Type 0} (F : A → Result Fault C) (G : B → Result Fault C) → ((b : A) → F b ≡ G (f b))
-      → (from k (readTable t a s) >>= F) ≡ (from k (readTable u (f a) s) >>= G)
-  unfolding readTable from ◌>>=◌
-  table-in k a s {C} F G h = rw (lines-in a (lines s)) (go (readLines t a (lines s)))
+      → (from k (read_table t a s) >>= F) ≡ (from k (read_table u (f a) s) >>= G)
+  unfolding read_table from ◌>>=◌
+  table-in k a s {C} F G h = rw (lines-in a (lines s)) (go (read_lines t a (lines s)))
     where
       go : (q : Result (ℕ × ℕ) A) → (from k q >>= F) ≡ (from k (q >>= λ b. done (f b)) >>= G)
       go (refused e) = refl
       go (done b) = h b
 
 -- ── A policy that was read: the line of its first conflict is n ──
-conflict-behind : (n : ℕ) (above rs : List Rule) (l : ℕ) → conflictFrom n above rs ≡ some l → n ≤ l
-unfolding conflictFrom
+conflict-behind : (n : ℕ) (above rs : List Rule) (l : ℕ) → conflict_from n above rs ≡ some l → n ≤ l
+unfolding conflict_from
 conflict-behind n above [] l h = none-some h
 conflict-behind n above (r ∷ rs) l h =
-    by_cases (isWrite r && any (conflictsWith r.path) above)
+    by_cases (is_write r && any (conflicts_with r.path) above)
     (λ t. let q : some n ≡ some l = rw t at h in let e : n ≡ l = cc in omega arith)
     (λ t. omega (arith, conflict-behind (suc n) (above ++ r ∷ []) rs l (rw t at h)))
 
-module _ (rs : List Rule) {n : ℕ} (is : n ≡ lineNumber (conflictFrom 2 [] rs)) where
-  policy-conflict : (n ≡ 0 → ⊥) → checkPolicy rs ≡ refused (fault 5 3 n)
-  unfolding checkPolicy refuseAt
-  policy-conflict h = go (conflictFrom 2 [] rs) is
+module _ (rs : List Rule) {n : ℕ} (is : n ≡ line_number (conflict_from 2 [] rs)) where
+  policy-conflict : (n ≡ 0 → ⊥) → check_policy rs ≡ refused (fault 5 3 n)
+  unfolding check_policy refuse_at
+  policy-conflict h = go (conflict_from 2 [] rs) is
     where
-      go : (o : Option ℕ) → n ≡ lineNumber o → refuseAt o ≡ refused (fault 5 3 n)
+      go : (o : Option ℕ) → n ≡ line_number o → refuse_at o ≡ refused (fault 5 3 n)
       go none i = absurd (h i)
       go (some l) i = rw i
 
-  policy-free : n ≡ 0 → checkPolicy rs ≡ done tt
-  unfolding checkPolicy refuseAt
-  policy-free h = go (conflictFrom 2 [] rs) refl
+  policy-free : n ≡ 0 → check_policy rs ≡ done tt
+  unfolding check_policy refuse_at
+  policy-free h = go (conflict_from 2 [] rs) refl
     where
-      go : (o : Option ℕ) → conflictFrom 2 [] rs ≡ o → refuseAt o ≡ done tt
+      go : (o : Option ℕ) → conflict_from 2 [] rs ≡ o → refuse_at o ≡ done tt
       go none i = refl
-      go (some l) i = let e : n ≡ l = is ∙ ap lineNumber i in absurd (omega (arith, conflict-behind 2 [] rs l i))
+      go (some l) i = let e : n ≡ l = is ∙ ap line_number i in absurd (omega (arith, conflict-behind 2 [] rs l i))
 
 -- ── A memory without users and policy ──
-abbrev pub noTables : Tables
-noTables = record { users = []; policy = [] }
+abbrev pub no_tables : Tables
+no_tables = record { users = []; policy = [] }
 
 -- ── The three readings, each in both tables ──
 module _ (users environments policy : Bytes) where
-  withPolicy : Tables → Result Fault Tables
-  withPolicy m = from 3 (readTable (table_of Policy) m policy) >>= λ n. checkPolicy n.policy >> done n
+  with_policy : Tables → Result Fault Tables
+  with_policy m = from 3 (read_table (table_of Policy) m policy) >>= λ n. check_policy n.policy >> done n
 
-  withEnvironments : Tables → Result Fault Tables
-  withEnvironments m = from 2 (readTable (table_of Environments) m environments) >>= withPolicy
+  with_environments : Tables → Result Fault Tables
+  with_environments m = from 2 (read_table (table_of Environments) m environments) >>= with_policy
 
   abbrev opening : Result Fault Tables
-  opening = openTables (textsOf users environments policy [])
+  opening = open_tables (texts_of users environments policy [])
 
-  in_both : (m : Tables) → m ≡ noTables → opening ≡ (from 1 (readTable (table_of Users) m users) >>= withEnvironments)
-  unfolding openTables textsOf withEnvironments withPolicy inUsers inPolicy
+  in_both : (m : Tables) → m ≡ no_tables → opening ≡ (from 1 (read_table (table_of Users) m users) >>= with_environments)
+  unfolding open_tables texts_of with_environments with_policy in_users in_policy
   in_both m start =
       let whole : List Rule → List User → Tables = λ rs us. record { users = us; policy = rs } in
       rw start
@@ -154,8 +154,8 @@ module _ (users environments policy : Bytes) where
       table-in (λ rs. whole rs vs) _ _ refl (λ val rs. refl) 3 [] policy _ _ (λ rs. refl))))
 
   -- from no tables to the tables m₁ with the answer r₁: a refusal decides
-  module _ {m₀ : Tables} (start : m₀ ≡ noTables) {m₁ : Tables} {r₁ : TableRead} (first : ReadsTable (table_of Users) m₀ users r₁ m₁) where
-    started : opening ≡ (from 1 (readTable (table_of Users) m₀ users) >>= withEnvironments)
+  module _ {m₀ : Tables} (start : m₀ ≡ no_tables) {m₁ : Tables} {r₁ : TableRead} (first : ReadsTable (table_of Users) m₀ users r₁ m₁) where
+    started : opening ≡ (from 1 (read_table (table_of Users) m₀ users) >>= with_environments)
     started = in_both m₀ start
 
     pub users-refused : {e n : ℕ} → r₁ ≡ table-read.Refused e n → refused (fault e 1 n) ≡ opening
@@ -163,37 +163,37 @@ module _ (users environments policy : Bytes) where
     users-refused told = sym (started ∙ rw (read-refused _ _ m₁ users first told))
 
     module _ (told₁ : r₁ ≡ table-read.Done) where
-      users-done : opening ≡ withEnvironments m₁
+      users-done : opening ≡ with_environments m₁
       unfolding from ◌>>=◌
       users-done = started ∙ rw (read_done _ _ m₁ users first told₁)
 
       -- then to m₂ with the answer r₂
       module _ {m₂ : Tables} {r₂ : TableRead} (second : ReadsTable (table_of Environments) m₁ environments r₂ m₂) where
         pub environments-refused : {e n : ℕ} → r₂ ≡ table-read.Refused e n → refused (fault e 2 n) ≡ opening
-        unfolding withEnvironments from ◌>>=◌
+        unfolding with_environments from ◌>>=◌
         environments-refused told = sym (users-done ∙ rw (read-refused _ m₁ m₂ environments second told))
 
         module _ (told₂ : r₂ ≡ table-read.Done) where
-          environments-done : opening ≡ withPolicy m₂
-          unfolding withEnvironments from ◌>>=◌
+          environments-done : opening ≡ with_policy m₂
+          unfolding with_environments from ◌>>=◌
           environments-done = users-done ∙ rw (read_done _ m₁ m₂ environments second told₂)
 
           -- then to the tables in the bytes s with the answer r₃
-          module _ (s : Bytes) {r₃ : TableRead} (third : ReadsTable (table_of Policy) m₂ policy r₃ (tablesIn s)) where
+          module _ (s : Bytes) {r₃ : TableRead} (third : ReadsTable (table_of Policy) m₂ policy r₃ (tables_in s)) where
             pub policy-refused : {e n : ℕ} → r₃ ≡ table-read.Refused e n → refused (fault e 3 n) ≡ opening
-            unfolding withPolicy from ◌>>=◌
-            policy-refused told = sym (environments-done ∙ rw (read-refused _ m₂ (tablesIn s) policy third told))
+            unfolding with_policy from ◌>>=◌
+            policy-refused told = sym (environments-done ∙ rw (read-refused _ m₂ (tables_in s) policy third told))
 
             -- and n is the line of the first conflict in the policy behind the users
-            module _ (told₃ : r₃ ≡ table-read.Done) {n : ℕ} (line : n ≡ lineNumber (conflictFrom 2 [] (policyIn (drop usersBytes s)))) where
-              checked : {q : Result Fault (Unit {0})} → checkPolicy (policyIn (drop usersBytes s)) ≡ q → (q >> done (tablesIn s)) ≡ opening
-              unfolding withPolicy tablesIn from ◌>>=◌
-              checked e = sym (environments-done ∙ rw (read_done _ m₂ (tablesIn s) policy third told₃, e))
+            module _ (told₃ : r₃ ≡ table-read.Done) {n : ℕ} (line : n ≡ line_number (conflict_from 2 [] (policy_in (drop users_bytes s)))) where
+              checked : {q : Result Fault (Unit {0})} → check_policy (policy_in (drop users_bytes s)) ≡ q → (q >> done (tables_in s)) ≡ opening
+              unfolding with_policy tables_in from ◌>>=◌
+              checked e = sym (environments-done ∙ rw (read_done _ m₂ (tables_in s) policy third told₃, e))
 
               pub in-conflict : (n ≡ 0 → ⊥) → refused (fault 5 3 n) ≡ opening
               unfolding ◌>>◌
-              in-conflict h = checked (policy-conflict (policyIn (drop usersBytes s)) line h)
+              in-conflict h = checked (policy-conflict (policy_in (drop users_bytes s)) line h)
 
-              pub accepted : n ≡ 0 → done (tablesIn s) ≡ opening
+              pub accepted : n ≡ 0 → done (tables_in s) ≡ opening
               unfolding ◌>>◌
-              accepted h = checked (policy-free (policyIn (drop usersBytes s)) line h)
+              accepted h = checked (policy-free (policy_in (drop users_bytes s)) line h)

@@ -1,16 +1,16 @@
 // The record's text opened against the tables, and the masks of its fields.
 ghost use Rattle.std.specs.Prelude.{◌≡◌, ◌-◌, ◌≤◌, ◌<◌, length, replicate};
 ghost use Rattle.model.specs.Base.{any};
-ghost use Rattle.model.specs.Limits.{maxText};
-ghost use Rattle.model.specs.Paths.{asSteps};
-ghost use Rattle.model.specs.Rights.{conflictsWith};
-ghost use Rattle.model.specs.Opening.{quotas, openRecord};
+ghost use Rattle.model.specs.Limits.{max_text};
+ghost use Rattle.model.specs.Paths.{as_steps};
+ghost use Rattle.model.specs.Rights.{conflicts_with};
+ghost use Rattle.model.specs.Opening.{quotas, open_record};
 ghost use Rattle.layout.specs.Layout.{Keeps};
-ghost use Rattle.masks.specs.Readers.{readersOf, Agreed};
-ghost use Rattle.record.specs.Slots.{recordBytes, fieldsIn, masksIn, field_at, CanonicalFields};
-ghost use Rattle.tables.specs.Memory.{usersBytes, policyBytes, usersIn, policyIn, tablesIn};
+ghost use Rattle.masks.specs.Readers.{readers_of, Agreed};
+ghost use Rattle.record.specs.Slots.{record_bytes, fields_in, masks_in, field_at, CanonicalFields};
+ghost use Rattle.tables.specs.Memory.{users_bytes, policy_bytes, users_in, policy_in, tables_in};
 ghost use Rattle.tables.specs.Grants.{Found};
-ghost use Rattle.opening.specs.Answers.{openingResult};
+ghost use Rattle.opening.specs.Answers.{opening_result};
 
 use crate::answer::Opening;
 use layout::table::{row_at, row_count};
@@ -28,8 +28,8 @@ use tables::rights::readers_by;
 
 // All quotas together.
 fn all_quotas(users: &[u8]) -> usize
-    requires { (usersBytes ≤ length users.now) × (length users.now ≤ maxText) }
-    ensures { result ≡ quotas (usersIn users.now) }
+    requires { (users_bytes ≤ length users.now) × (length users.now ≤ max_text) }
+    ensures { result ≡ quotas (users_in users.now) }
 {
     let n = row_count(users, USER, USERS);
     let mut sum: usize = 0;
@@ -43,8 +43,8 @@ fn all_quotas(users: &[u8]) -> usize
 
 // Whether a field is in conflict with a WRITE line.
 fn has_conflicting_field(policy: &[u8], table: &[u8; RECORD]) -> bool
-    requires { length policy.now ≡ policyBytes }
-    ensures { result ≡ any (λ f. any (conflictsWith (asSteps f.path)) (policyIn policy.now)) (fieldsIn table.now) }
+    requires { length policy.now ≡ policy_bytes }
+    ensures { result ≡ any (λ f. any (conflicts_with (as_steps f.path)) (policy_in policy.now)) (fields_in table.now) }
 {
     let n = count(table);
     let mut i: usize = 0;
@@ -60,8 +60,8 @@ fn has_conflicting_field(policy: &[u8], table: &[u8; RECORD]) -> bool
 
 // A record's text into a table of zeros.
 pub fn open_record(tables: &[u8; TABLES], table: &mut [u8; RECORD], s: &[u8]) -> Opening
-    requires { (length s.now ≤ maxText) × (table.old ≡ replicate recordBytes 0) }
-    ensures table_after { openingResult result (fieldsIn table.new) ≡ openRecord (tablesIn tables.now) s.now }
+    requires { (length s.now ≤ max_text) × (table.old ≡ replicate record_bytes 0) }
+    ensures table_after { opening_result result (fields_in table.new) ≡ open_record (tables_in tables.now) s.now }
     ensures canonical_fields { CanonicalFields table.new }
 {
     let read = read_record(table, s);
@@ -99,10 +99,10 @@ fn mask_at(
     table: &[u8; RECORD],
     i: usize,
 ) -> u32
-    requires i_in_bounds { i < length (fieldsIn table.now) }
-    requires found { Found (usersIn tables.now) (field_at (i - 1) (fieldsIn table.now)).path found.old }
-    ensures value { result ≡ readersOf (tablesIn tables.now) (field_at i (fieldsIn table.now)).path }
-    ensures found_2 { Found (usersIn tables.now) (field_at i (fieldsIn table.now)).path found.new }
+    requires i_in_bounds { i < length (fields_in table.now) }
+    requires found { Found (users_in tables.now) (field_at (i - 1) (fields_in table.now)).path found.old }
+    ensures value { result ≡ readers_of (tables_in tables.now) (field_at i (fields_in table.now)).path }
+    ensures found_2 { Found (users_in tables.now) (field_at i (fields_in table.now)).path found.new }
 {
     let slot = slot_at(table, i);
     keep_first(found, shared_keys(slot_at(table, previous(i)), slot));
@@ -111,8 +111,8 @@ fn mask_at(
 
 // Beside each field the mask of those who may read it.
 pub fn set_masks(tables: &[u8; TABLES], table: &mut [u8; RECORD])
-    ensures table_unchanged { fieldsIn table.new ≡ fieldsIn table.old }
-    ensures agreed { Agreed (tablesIn tables.now) (fieldsIn table.old) (masksIn table.new) }
+    ensures table_unchanged { fields_in table.new ≡ fields_in table.old }
+    ensures agreed { Agreed (tables_in tables.now) (fields_in table.old) (masks_in table.new) }
     ensures keeps { Keeps CanonicalFields table.old table.new }
 {
     let n = count(table);

@@ -1,7 +1,7 @@
 // Opening the four texts: all or nothing.
 ghost use Rattle.std.specs.Prelude.{◌≡◌};
 ghost use Rattle.opening.specs.Memory.{arrays};
-ghost use Rattle.opening.specs.Answers.{textsOf, tooLong, Opens};
+ghost use Rattle.opening.specs.Answers.{texts_of, too_long, Opens};
 
 use crate::answer::Opening;
 use crate::fields::{open_record, set_masks};
@@ -14,7 +14,7 @@ pub use tables::memory::TABLES;
 
 // The number of the first text that is longer than 65,536 bytes; 0 where none is.
 fn too_long(users: &[u8], environments: &[u8], policy: &[u8], text: &[u8]) -> usize
-    ensures { result ≡ tooLong (textsOf users.now environments.now policy.now text.now) }
+    ensures { result ≡ too_long (texts_of users.now environments.now policy.now text.now) }
 {
     if MAX_TEXT < users.len() {
         return 1;
@@ -43,7 +43,7 @@ pub fn open(
 ) -> Opening
     ensures { Opens
         (arrays tables.old logins.old fields.old)
-        (textsOf users.now environments.now policy.now text.now)
+        (texts_of users.now environments.now policy.now text.now)
         result
         (arrays tables.new logins.new fields.new) }
 {

@@ -1,7 +1,7 @@
 // What was read into arrays of the opening's own, stored in the lent ones: only rows in use are read, so that short texts stay cheap.
 ghost use Rattle.std.specs.Prelude.{◌≡◌, length};
 ghost use Rattle.record.specs.Slots.{CanonicalFields};
-ghost use Rattle.tables.specs.Memory.{tablesBytes, CanonicalTables};
+ghost use Rattle.tables.specs.Memory.{tables_bytes, CanonicalTables};
 
 use layout::table::copy_rows;
 use record::table::{RECORD, SLOT, SLOTS};
@@ -9,7 +9,7 @@ use tables::memory::{POLICY, RULE, RULES, TABLES, USER, USERS};
 
 // The tables: users, and behind their rows the policy.
 fn copy_both(to: &mut [u8], from: &[u8])
-    requires { (length to.old ≡ tablesBytes) × (length from.now ≡ tablesBytes) × CanonicalTables from.now }
+    requires { (length to.old ≡ tables_bytes) × (length from.now ≡ tables_bytes) × CanonicalTables from.now }
     ensures { to.new ≡ from.now }
 {
     copy_rows(&mut to[..POLICY], &from[..POLICY], USER, USERS);

@@ -1,10 +1,10 @@
 // The texts of the three tables opened together.
 ghost use Rattle.std.specs.Prelude.{◌≡◌, [], ◌≤◌, length, drop, replicate};
-ghost use Rattle.model.specs.Limits.{maxText};
-ghost use Rattle.model.specs.Opening.{conflictFrom, openTables};
-ghost use Rattle.tables.specs.Grants.{lineNumber};
-ghost use Rattle.tables.specs.Memory.{usersBytes, tablesBytes, policyIn, tablesIn, CanonicalTables};
-ghost use Rattle.opening.specs.Answers.{textsOf, openingResult};
+ghost use Rattle.model.specs.Limits.{max_text};
+ghost use Rattle.model.specs.Opening.{conflict_from, open_tables};
+ghost use Rattle.tables.specs.Grants.{line_number};
+ghost use Rattle.tables.specs.Memory.{users_bytes, tables_bytes, policy_in, tables_in, CanonicalTables};
+ghost use Rattle.opening.specs.Answers.{texts_of, opening_result};
 
 use crate::answer::Opening;
 use tables::conflicts::first_conflict;
@@ -13,7 +13,7 @@ use tabletext::read::{Table, TableRead, read_table};
 
 // The line of the first conflict among the policy's; 0 where there is none.
 fn conflict_in(tables: &[u8; TABLES]) -> usize
-    ensures { result ≡ lineNumber (conflictFrom 2 [] (policyIn (drop usersBytes tables.now))) }
+    ensures { result ≡ line_number (conflict_from 2 [] (policy_in (drop users_bytes tables.now))) }
 {
     first_conflict(policy_of(tables))
 }
@@ -25,9 +25,9 @@ pub fn open_tables(
     environments: &[u8],
     policy: &[u8],
 ) -> Opening
-    requires users_len_bound { (length users.now ≤ maxText) × (length environments.now ≤ maxText) × (length policy.now ≤ maxText) }
-    requires tables_value { tables.old ≡ replicate tablesBytes 0 }
-    ensures tables_after { openingResult result (tablesIn tables.new) ≡ openTables (textsOf users.now environments.now policy.now []) }
+    requires users_len_bound { (length users.now ≤ max_text) × (length environments.now ≤ max_text) × (length policy.now ≤ max_text) }
+    requires tables_value { tables.old ≡ replicate tables_bytes 0 }
+    ensures tables_after { opening_result result (tables_in tables.new) ≡ open_tables (texts_of users.now environments.now policy.now []) }
     ensures canonical_tables { CanonicalTables tables.new }
 {
     if let TableRead::Refused(e, n) = read_table(Table::Users, tables, users) {

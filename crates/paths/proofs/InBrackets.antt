@@ -8,7 +8,7 @@ use native.Mathlib.Omega.{arith}
 use lib.ListN.{length, drop}
 use Rattle.rows.specs.Positions.{Reader, Reads, LeavesEnd}
 use Rattle.model.specs.Base.{Bytes, text, is_some, ◌>>=◌, after}
-use Rattle.model.specs.Paths.{inBrackets}
+use Rattle.model.specs.Paths.{in_brackets}
 use Rattle.model.proofs.Reading.{bind-some, some_same, after-some}
 use Rattle.lexical.proofs.Runs.{byte-stands}
 use Rattle.lexical.proofs.Slices.{after-no}
@@ -17,22 +17,22 @@ use Rattle.lexical.proofs.Readers.{leaves_word, word-taken, leaves-some, leaves-
 module _ {A : Type 0} (inner : Reader ℕ A) where
   -- ── By positions ──
   module _ (s : Bytes) (at : ℕ) where
-    pub brackets-unopened : is_some (after (0x5B ∷ []) (drop at s)) ≡ false → inBrackets inner (drop at s) ≡ none
-    unfolding inBrackets text ◌>>=◌
+    pub brackets-unopened : is_some (after (0x5B ∷ []) (drop at s)) ≡ false → in_brackets inner (drop at s) ≡ none
+    unfolding in_brackets text ◌>>=◌
     brackets-unopened h = rw (after-no (0x5B ∷ []) (drop at s) h)
 
     module _ (o : is_some (after (0x5B ∷ []) (drop at s)) ≡ true) where
-      pub brackets-empty : inner (drop (at + 1) s) ≡ none → inBrackets inner (drop at s) ≡ none
-      unfolding inBrackets text ◌>>=◌
+      pub brackets-empty : inner (drop (at + 1) s) ≡ none → in_brackets inner (drop at s) ≡ none
+      unfolding in_brackets text ◌>>=◌
       brackets-empty i = rw ((byte-stands 0x5B s at o).1, i)
 
       module _ (a : A) (e : ℕ) (r : Reads inner s (at + 1) a e) where
-        pub brackets-unclosed : is_some (after (0x5D ∷ []) (drop e s)) ≡ false → inBrackets inner (drop at s) ≡ none
-        unfolding inBrackets text ◌>>=◌
+        pub brackets-unclosed : is_some (after (0x5D ∷ []) (drop e s)) ≡ false → in_brackets inner (drop at s) ≡ none
+        unfolding in_brackets text ◌>>=◌
         brackets-unclosed i = rw ((byte-stands 0x5B s at o).1, r.is, after-no (0x5D ∷ []) (drop e s) i)
 
-        pub brackets-closed : is_some (after (0x5D ∷ []) (drop e s)) ≡ true → Reads (inBrackets inner) s at a (e + 1)
-        unfolding inBrackets text ◌>>=◌
+        pub brackets-closed : is_some (after (0x5D ∷ []) (drop e s)) ≡ true → Reads (in_brackets inner) s at a (e + 1)
+        unfolding in_brackets text ◌>>=◌
         brackets-closed i =
             let (l, f) = byte-stands 0x5D s e i in
             record { from = omega (arith, r.from); to = l; is = rw ((byte-stands 0x5B s at o).1, r.is, f) }
@@ -44,8 +44,8 @@ module _ {A : Type 0} (inner : Reader ℕ A) where
     pub is : s ≡ 0x5B ∷ behind
     pub reads : inner behind ≡ some (a, 0x5D ∷ r)
 
-  pub brackets-give : (s : Bytes) (a : A) (r : Bytes) → inBrackets inner s ≡ some (a, r) → Bracketed s a r
-  unfolding inBrackets text
+  pub brackets-give : (s : Bytes) (a : A) (r : Bytes) → in_brackets inner s ≡ some (a, r) → Bracketed s a r
+  unfolding in_brackets text
   brackets-give s a r h =
       bind-some _ _ _ h λ s₁ i j.
       bind-some _ _ _ j λ t k l.
@@ -63,10 +63,10 @@ module _ {A : Type 0} (inner : Reader ℕ A) where
   inside-leaves leaves =
       leaves-bind inner (λ a x. after (text "]") x >>= λ r. some (a, r)) leaves (λ a. leaves_word (text "]") (λ r. some (a, r)) (leaves-some a))
 
-  pub brackets-leave : LeavesEnd inner → LeavesEnd (inBrackets inner)
-  unfolding inBrackets
+  pub brackets-leave : LeavesEnd inner → LeavesEnd (in_brackets inner)
+  unfolding in_brackets
   brackets-leave leaves = leaves_word (text "[") _ (inside-leaves leaves)
 
-  pub brackets-shorten : LeavesEnd inner → (s : Bytes) (t : A × Bytes) → inBrackets inner s ≡ some t → length t.1 < length s
-  unfolding inBrackets text
+  pub brackets-shorten : LeavesEnd inner → (s : Bytes) (t : A × Bytes) → in_brackets inner s ≡ some t → length t.1 < length s
+  unfolding in_brackets text
   brackets-shorten leaves s t h = omega (arith, word-taken (0x5B ∷ []) _ (inside-leaves leaves) s t h)

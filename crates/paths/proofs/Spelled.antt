@@ -14,10 +14,10 @@ module _ {A : Type 0} (decode : Bytes → A) (k m : ℕ) (spell : A → Bytes) w
   spelled s i = joined (map spell (take i (counted decode k m s)))
 
   -- one more
-  pub spelled_step : (s : Bytes) (i : ℕ) → i < min (get_or s 0 0) m
+  pub spelled_step_lem : (s : Bytes) (i : ℕ) → i < min (get_or s 0 0) m
       → spelled s (i + 1) ≡ spelled s i ++ spell (decode (take k (drop (i * k + 1) s)))
   unfolding joined
-  spelled_step s i h = rw (counted-more decode k m s i h, map-append, joined-append, append-nil)
+  spelled_step_lem s i h = rw (counted-more decode k m s i h, map-append, joined-append, append-nil)
 
   -- all of them
   pub spelled-all : (s : Bytes) (i : ℕ) → min (get_or s 0 0) m ≤ i → spelled s i ≡ joined (map spell (counted decode k m s))

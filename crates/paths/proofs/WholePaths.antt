@@ -10,8 +10,8 @@ use lib.ListN.{length, drop, length-append}
 use Rattle.rows.specs.Positions.{Reader, Reads}
 use Rattle.rows.proofs.Positions.{here, over}
 use Rattle.model.specs.Base.{Bytes, text, is_some, if◌then◌else◌, ◌>>=◌, ◌>>◌, check, after}
-use Rattle.model.specs.Limits.{maxDepth}
-use Rattle.model.specs.Paths.{read_all, readPath}
+use Rattle.model.specs.Limits.{max_depth}
+use Rattle.model.specs.Paths.{read_all, read_path}
 use Rattle.model.proofs.Lists.{by_cases}
 use Rattle.lexical.proofs.Runs.{bind-same, bind-bind}
 use Rattle.lexical.proofs.Slices.{after-yes, after-no}
@@ -19,14 +19,14 @@ use Rattle.lexical.proofs.Slices.{after-yes, after-no}
 module _ {A : Type 0} (one : Reader ℕ A) where
   -- what is read of the rest of a text, behind the steps p
   unfoldable pub left : List A → Bytes → Option (List A)
-  left p s = read_all one (maxDepth - length p) p s >>= λ q. check (leb 1 (length q)) >> some q
+  left p s = read_all one (max_depth - length p) p s >>= λ q. check (leb 1 (length q)) >> some q
 
-  pub path-unopened : (s : Bytes) → is_some (after (0x24 ∷ []) s) ≡ false → readPath one s ≡ none
-  unfolding readPath text ◌>>=◌
+  pub path-unopened : (s : Bytes) → is_some (after (0x24 ∷ []) s) ≡ false → read_path one s ≡ none
+  unfolding read_path text ◌>>=◌
   path-unopened s h = rw (after-no (0x24 ∷ []) s h)
 
-  pub path-opened : (s : Bytes) → is_some (after (0x24 ∷ []) s) ≡ true → readPath one s ≡ left [] (drop 1 s)
-  unfolding readPath left text ◌>>=◌
+  pub path-opened : (s : Bytes) → is_some (after (0x24 ∷ []) s) ≡ true → read_path one s ≡ left [] (drop 1 s)
+  unfolding read_path left text ◌>>=◌
   path-opened s h = rw (after-yes (0x24 ∷ []) s h).0
 
   -- where nothing is left, those that were read are all
@@ -36,16 +36,16 @@ module _ {A : Type 0} (one : Reader ℕ A) where
   all_end (suc k) p = refl
 
   module _ (s : Bytes) (at : ℕ) (p : List A) where
-    pub left-full : at < length s → maxDepth ≤ length p → left p (drop at s) ≡ none
+    pub left-full : at < length s → max_depth ≤ length p → left p (drop at s) ≡ none
     unfolding left read_all ◌>>=◌
-    left-full h f = let z : maxDepth - length p ≡ zero = omega arith in rw (z, here 0 s at h)
+    left-full h f = let z : max_depth - length p ≡ zero = omega arith in rw (z, here 0 s at h)
 
     pub left_end : (n : ℕ) → length s ≤ at → n ≡ length p → (if ltb 0 n then some p else none) ≡ left p (drop at s)
     unfolding left ◌>>=◌ ◌>>◌ check
     left_end n h i = rw (over s at h, i, all_end) (by_cases (leb 1 (length p)) (λ e. rw e) (λ e. rw e))
 
     -- where there is a next step and room for it
-    module _ (h : at < length s) (f : length p < maxDepth) where
+    module _ (h : at < length s) (f : length p < max_depth) where
       all-next : (k : ℕ) → read_all one (suc k) p (drop at s) ≡ (one (drop at s) >>= λ t. read_all one k (p ++ t.0 ∷ []) t.1)
       unfolding read_all
       all-next k = rw (here 0 s at h)
@@ -53,7 +53,7 @@ module _ {A : Type 0} (one : Reader ℕ A) where
       left-next : left p (drop at s) ≡ (one (drop at s) >>= λ t. left (p ++ t.0 ∷ []) t.1)
       unfolding left
       left-next =
-          let z : maxDepth - length p ≡ suc (maxDepth - suc (length p)) = omega arith in
+          let z : max_depth - length p ≡ suc (max_depth - suc (length p)) = omega arith in
           rw (z, all-next, bind-bind) (bind-same (one (drop at s)) _ _ (λ t.
           let n : length (p ++ t.0 ∷ []) ≡ suc (length p) = rw length-append (omega arith) in rw n))
 

@@ -5,16 +5,16 @@ use Rattle.model.specs.Base.{Bytes, if◌then◌else◌, ◌==◌}
 use Rattle.model.specs.Fields.{Keys}
 use Rattle.lexical.specs.declared.class.End.{End}
 use Rattle.lexical.specs.declared.class.End.TheVariants.{At, Bad}
-use Rattle.paths.specs.Layout.{pathIn}
+use Rattle.paths.specs.Layout.{path_in}
 use Rattle.paths.specs.declared.field.PathRead.{PathRead}
 
 -- a key between `['` at `at` and `']` before e
-unfoldable pub keyAnswer : Bytes → ℕ → End → Option (Bytes × ℕ)
-keyAnswer s at (At e) = some (take (e - 4 - at) (drop (at + 2) s), e)
-keyAnswer s at Bad = none
+unfoldable pub key_answer : Bytes → ℕ → End → Option (Bytes × ℕ)
+key_answer s at (At e) = some (take (e - 4 - at) (drop (at + 2) s), e)
+key_answer s at Bad = none
 
-abbrev pub pathAnswer : PathRead → Option Keys
-pathAnswer r = if r.ok then some (pathIn r.slot) else none
+abbrev pub path_answer : PathRead → Option Keys
+path_answer r = if r.ok then some (path_in r.slot) else none
 
 -- how many first keys two paths share
 unfoldable pub shared : Keys → Keys → ℕ

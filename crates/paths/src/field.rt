@@ -3,13 +3,13 @@ ghost use Rattle.std.specs.Prelude.{◌≡◌, ◌+◌, ◌≤◌, ◌<◌, ◌^
 ghost use Rattle.std.proofs.Math.Option.{none};
 ghost use Rattle.rows.specs.Rows.{Wrote};
 ghost use Rattle.rows.specs.Positions.{placed};
-ghost use Rattle.model.specs.Limits.{maxPathText, maxDepth};
-ghost use Rattle.model.specs.Fields.{orderPath};
-ghost use Rattle.model.specs.Paths.{readKeyStep, keys_of, keysText};
+ghost use Rattle.model.specs.Limits.{max_path_text, max_depth};
+ghost use Rattle.model.specs.Fields.{order_path};
+ghost use Rattle.model.specs.Paths.{read_key_step, keys_of, keys_text};
 ghost use Rattle.layout.specs.Layout.{CanonicalKeys};
 ghost use Rattle.lexical.specs.Orders.{order_of};
-ghost use Rattle.paths.specs.Layout.{pathSlot, pathIn};
-ghost use Rattle.paths.specs.Fields.{keyAnswer, pathAnswer, shared};
+ghost use Rattle.paths.specs.Layout.{path_slot, path_in};
+ghost use Rattle.paths.specs.Fields.{key_answer, path_answer, shared};
 
 use crate::key::{key_at, push_key};
 use buffers::{put_byte, put_quoted};
@@ -31,8 +31,8 @@ pub struct PathRead {
 
 // The order of two slots' paths, key by key.
 pub fn compare_paths(a: &[u8], b: &[u8]) -> Order
-    requires { (pathSlot ≤ length a.now) × (pathSlot ≤ length b.now) }
-    ensures { result ≡ order_of (orderPath (pathIn a.now) (pathIn b.now)) }
+    requires { (path_slot ≤ length a.now) × (path_slot ≤ length b.now) }
+    ensures { result ≡ order_of (order_path (path_in a.now) (path_in b.now)) }
 {
     let m = count(a, MAX_DEPTH);
     let n = count(b, MAX_DEPTH);
@@ -56,8 +56,8 @@ pub fn compare_paths(a: &[u8], b: &[u8]) -> Order
 
 // How many first keys two paths share.
 pub fn shared_keys(a: &[u8], b: &[u8]) -> usize
-    requires { (pathSlot ≤ length a.now) × (pathSlot ≤ length b.now) }
-    ensures { result ≡ shared (pathIn a.now) (pathIn b.now) }
+    requires { (path_slot ≤ length a.now) × (path_slot ≤ length b.now) }
+    ensures { result ≡ shared (path_in a.now) (path_in b.now) }
 {
     let m = count(a, MAX_DEPTH);
     let n = count(b, MAX_DEPTH);
@@ -77,7 +77,7 @@ pub fn shared_keys(a: &[u8], b: &[u8]) -> usize
 // A key in brackets and single quotes: where it ends.
 fn key_step(s: &[u8], at: usize) -> End
     requires { at ≤ length s.now }
-    ensures { keyAnswer s.now at result ≡ placed readKeyStep s.now at }
+    ensures { key_answer s.now at result ≡ placed read_key_step s.now at }
 {
     if !is_at(s, at, b'[') {
         return End::Bad;
@@ -92,7 +92,7 @@ fn key_step(s: &[u8], at: usize) -> End
 }
 
 fn no_path() -> PathRead
-    ensures { (pathAnswer result ≡ none) × CanonicalKeys maxDepth result.slot }
+    ensures { (path_answer result ≡ none) × CanonicalKeys max_depth result.slot }
 {
     PathRead {
         ok: false,
@@ -102,7 +102,7 @@ fn no_path() -> PathRead
 
 // A normalized path that is the whole text.
 pub fn read_path(s: &[u8]) -> PathRead
-    ensures { (pathAnswer result ≡ keys_of s.now) × CanonicalKeys maxDepth result.slot }
+    ensures { (path_answer result ≡ keys_of s.now) × CanonicalKeys max_depth result.slot }
 {
     if !is_at(s, 0, b'$') {
         return no_path();
@@ -131,8 +131,8 @@ pub fn read_path(s: &[u8]) -> PathRead
 
 // The normalized path of a slot.
 pub fn put_path(out: &mut [u8], at: usize, slot: &[u8]) -> usize
-    requires { (pathSlot ≤ length slot.now) × (at + maxPathText < 2 ^ 64) }
-    ensures { Wrote at (keysText (pathIn slot.now)) out.old result out.new }
+    requires { (path_slot ≤ length slot.now) × (at + max_path_text < 2 ^ 64) }
+    ensures { Wrote at (keys_text (path_in slot.now)) out.old result out.new }
 {
     let n = count(slot, MAX_DEPTH);
     let mut to = put_byte(out, at, b'$');

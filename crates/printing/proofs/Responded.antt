@@ -11,32 +11,32 @@ use types.Run.{OneOf}
 use denote.Enum.Declared.{tag_of}
 use Rattle.rows.specs.Rows.{Wrote}
 use Rattle.model.specs.Base.{Bytes, text, joined, between, ◌>>=◌}
-use Rattle.model.specs.Limits.{maxLine, maxUsers}
+use Rattle.model.specs.Limits.{max_line, max_users}
 use Rattle.model.specs.Values.{Value}
 use Rattle.model.specs.Fields.{Keys, Field}
 use Rattle.model.specs.Refusals.{Result, refused, done}
 use Rattle.model.specs.Opening.{State}
-use Rattle.model.specs.Requests.{Request, login, inSession, get, push, logout, requestOf, pushOf}
-use Rattle.model.specs.Serving.{Change, setsLogin, shows, stores, decideShow, room_for, decide, shown, answer_of}
-use Rattle.model.specs.Serving.{length-is, accepted, line, bufferOf, list_of, Outcome, over, unchanged}
-use Rattle.model.specs.Runs.{requestOfAct, pushIn, deliveryLine}
-use Rattle.model.specs.Program.{printDeliveries, printAnswer, printed}
+use Rattle.model.specs.Requests.{Request, login, in_session, get, push, logout, request_of, push_of}
+use Rattle.model.specs.Serving.{Change, sets_login, shows, stores, decide_show, room_for, decide, shown, answer_of}
+use Rattle.model.specs.Serving.{length_is, accepted, line, buffer_of, list_of, Outcome, over, unchanged}
+use Rattle.model.specs.Runs.{request_of_act, push_in, delivery_line}
+use Rattle.model.specs.Program.{print_deliveries, print_answer, printed}
 use Rattle.model.proofs.Lists.{all-every, map-agree, past, past-if, done-same}
 use Rattle.model.proofs.Reading.{check-some}
 use Rattle.model.proofs.Decisions.{answers-length, decided}
 use Rattle.model.proofs.Decisions as decisions
-use Rattle.requests.specs.Lines.{pushedText}
-use Rattle.deliveries.specs.Receivers.{deliveryOf}
+use Rattle.requests.specs.Lines.{pushed_text}
+use Rattle.deliveries.specs.Receivers.{delivery_of}
 use Rattle.deliveries.proofs.Received.{receivers-few}
 use Rattle.deliveries.proofs.Delivered.{delivery-as}
-use Rattle.opening.specs.Memory.{Arrays, state_of, masksOf}
+use Rattle.opening.specs.Memory.{Arrays, state_of, masks_of}
 use Rattle.server.specs.declared.answer.Reply.{Reply}
 use Rattle.server.specs.declared.answer.Reply.TheVariants.{Refused, Session, Length, Accepted}
 use Rattle.server.specs.contracts.answer.Reply.{the_type}
-use Rattle.server.specs.Masked.{decideGetMasked, decideMasked, decideLineMasked, decisionMasked, maskFor, notifiedMasked, concludeMasked, effect_of, effectByMasks}
-use Rattle.server.specs.Replies.{answer_in, toldIn, outcomeIn, Outputs, StandsAt, act, eventOf, ServedByMasks}
+use Rattle.server.specs.Masked.{decide_get_masked, decide_masked, decide_line_masked, decision_masked, mask_for, notified_masked, conclude_masked, effect_of, effect_by_masks}
+use Rattle.server.specs.Replies.{answer_in, told_in, outcome_in, Outputs, StandsAt, act, event_of, ServedByMasks}
 use Rattle.server.proofs.Agree.{memory-agrees, masked-said}
-use Rattle.printing.specs.Printed.{mostPrinted, Inside, Left, RespondsByMasks, RespondsByPolicy}
+use Rattle.printing.specs.Printed.{most_printed, Inside, Left, RespondsByMasks, RespondsByPolicy}
 
 length_over : {A : Type 0} (new old : List A) → length new ≤ length old → length (over new old) ≡ length old
 unfolding over
@@ -45,48 +45,48 @@ length_over new old h = simp (length-append, length-drop) (omega arith)
 -- ── A decision: what is shown and who is told have room ──
 module _ (s : State) (ms : List ℕ) (b : Bytes) (l : List ℕ) where
   -- by the masks the same is decided as by the policy, or a GET shows a text for which there is room
-  by_word : {C : Type 0} (q : Request) (c : Change) → decideMasked s ms q (room_for q b l) ≡ done c
+  by_word : {C : Type 0} (q : Request) (c : Change) → decide_masked s ms q (room_for q b l) ≡ done c
       → (decide s q (room_for q b l) ≡ done c → C) → ((x : Bytes) → shows x ≡ c → length x ≤ length b → C) → C
-  unfolding decideMasked decideGetMasked room_for decideShow
+  unfolding decide_masked decide_get_masked room_for decide_show
   by_word (login u k) c h same copied = same h
-  by_word (inSession n get) c h same copied = past _ _ _ h λ a isAsker h₁. past-if _ _ _ _ h₁ λ fits h₂. copied _ (done-same h₂) (ltb-false _ _ fits)
-  by_word (inSession n (push p v)) c h same copied = same h
-  by_word (inSession n logout) c h same copied = same h
+  by_word (in_session n get) c h same copied = past _ _ _ h λ a isAsker h₁. past-if _ _ _ _ h₁ λ fits h₂. copied _ (done-same h₂) (ltb-false _ _ fits)
+  by_word (in_session n (push p v)) c h same copied = same h
+  by_word (in_session n logout) c h same copied = same h
 
-  shown-fits : (q : Request) (c : Change) → decideMasked s ms q (room_for q b l) ≡ done c → length (shown c) ≤ length b
+  shown-fits : (q : Request) (c : Change) → decide_masked s ms q (room_for q b l) ≡ done c → length (shown c) ≤ length b
   unfolding shown
   shown-fits q c h = by_word q c h (λ e. decisions.shown-fits s q b l c e) (λ x is fits. rw (← is) fits)
 
-  told-fits : (q : Request) (c : Change) → decideMasked s ms q (room_for q b l) ≡ done c
-      → (length (notifiedMasked s ms c) ≤ maxUsers) × (length (notifiedMasked s ms c) ≤ length l)
-  unfolding notifiedMasked
-  told-fits q (setsLogin i a) h = (omega arith, omega arith)
+  told-fits : (q : Request) (c : Change) → decide_masked s ms q (room_for q b l) ≡ done c
+      → (length (notified_masked s ms c) ≤ max_users) × (length (notified_masked s ms c) ≤ length l)
+  unfolding notified_masked
+  told-fits q (sets_login i a) h = (omega arith, omega arith)
   told-fits q (shows x) h = (omega arith, omega arith)
   told-fits q (stores i a f) h = by_word q _ h
-      (λ e. let few = receivers-few s.loginStates i (maskFor s ms f.path) in (few, omega (arith, few, decisions.told-fits s q b l i a f e)))
+      (λ e. let few = receivers-few s.login_states i (mask_for s ms f.path) in (few, omega (arith, few, decisions.told-fits s q b l i a f e)))
       (λ x is fits. let z : ◌≡◌ {A = ℕ} 0 1 = cc in absurd (omega arith))
 
   -- a line is refused, or something is decided for its request
   by-line : (t : Bytes) (P : Result ℕ Change → Type 0) → ((e : ℕ) → P (refused e))
-      → ((q : Request) (c : Change) → requestOf t ≡ some q → decideMasked s ms q (room_for q b l) ≡ done c → P (done c)) → P (decisionMasked s ms (line t b l))
-  unfolding decisionMasked decideLineMasked
-  by-line t P kept left = go (requestOf t) refl
+      → ((q : Request) (c : Change) → request_of t ≡ some q → decide_masked s ms q (room_for q b l) ≡ done c → P (done c)) → P (decision_masked s ms (line t b l))
+  unfolding decision_masked decide_line_masked
+  by-line t P kept left = go (request_of t) refl
     where
-      of-request : (q : Request) → requestOf t ≡ some q → (d : Result ℕ Change) → decideMasked s ms q (room_for q b l) ≡ d → P d
+      of-request : (q : Request) → request_of t ≡ some q → (d : Result ℕ Change) → decide_masked s ms q (room_for q b l) ≡ d → P d
       of-request q asks (refused e) h = kept e
       of-request q asks (done c) h = left q c asks h
 
-      go : (o : Option Request) → requestOf t ≡ o → P (decideLineMasked s ms b l o)
+      go : (o : Option Request) → request_of t ≡ o → P (decide_line_masked s ms b l o)
       go none asks = kept 11
       go (some q) asks = of-request q asks _ refl
 
-shown-length : (c : Change) (n : ℕ) → answer_of c ≡ length-is n → n ≡ length (shown c)
+shown-length : (c : Change) (n : ℕ) → answer_of c ≡ length_is n → n ≡ length (shown c)
 unfolding answer_of shown
-shown-length (setsLogin i a) n h = answers-length i a n h
+shown-length (sets_login i a) n h = answers-length i a n h
 shown-length (shows x) n h = cc
 shown-length (stores i a f) n h = let z : ◌≡◌ {A = ℕ} 0 1 = cc in absurd (omega arith)
 
-inside_of : (r : Reply) (m : ℕ) → ((n : ℕ) → answer_in r ≡ length-is n → n ≤ m) → Inside r m
+inside_of : (r : Reply) (m : ℕ) → ((n : ℕ) → answer_in r ≡ length_is n → n ≤ m) → Inside r m
 inside_of (Refused e) m f = tt
 inside_of (Session n) m f = tt
 inside_of (Length n) m f = f n refl
@@ -96,7 +96,7 @@ inside_of (Accepted k at) m f = tt
 abbrev pub NotAccepted : Reply → Type 0
 NotAccepted r = OneOf (0 ∷ 1 ∷ 2 ∷ []) (tag_of the_type r)
 
-none_told : (r : Reply) → NotAccepted r → toldIn r ≡ 0
+none_told : (r : Reply) → NotAccepted r → told_in r ≡ 0
 none_told (Refused e) o = refl
 none_told (Session n) o = refl
 none_told (Length n) o = refl
@@ -104,37 +104,37 @@ none_told (Accepted k at) (inl e) = absurd (omega arith)
 none_told (Accepted k at) (inr (inl e)) = absurd (omega arith)
 none_told (Accepted k at) (inr (inr e)) = absurd (omega arith)
 
-untold : (o : Outcome) (f : Option Field) → o.told ≡ 0 → printDeliveries o f ≡ []
-unfolding printDeliveries joined
+untold : (o : Outcome) (f : Option Field) → o.told ≡ 0 → print_deliveries o f ≡ []
+unfolding print_deliveries joined
 untold o none h = refl
 untold o (some f) h = rw h
 
 -- the document's lines, each with its end
-deliveries-as : (p : Keys) (v : Value) (l : List ℕ) → map (λ m. deliveryLine p v m ++ text "\n") l ≡ map (deliveryOf (pushedText p v)) l
-unfolding pushedText between
+deliveries-as : (p : Keys) (v : Value) (l : List ℕ) → map (λ m. delivery_line p v m ++ text "\n") l ≡ map (delivery_of (pushed_text p v)) l
+unfolding pushed_text between
 deliveries-as p v l = map-agree _ _ l (all-every _ (delivery-as p v) l)
 
 -- ── A line that is accepted: who is told is told what stands in it from the position on ──
 record Speaks (t : Bytes) (at : ℕ) (o : Outcome) : Type 0 where
   within : at ≤ length t
-  short : length t ≤ maxLine
-  tells : printDeliveries o (requestOf t >>= pushOf) ≡ joined (map (deliveryOf (drop at t)) (take o.told o.list))
+  short : length t ≤ max_line
+  tells : print_deliveries o (request_of t >>= push_of) ≡ joined (map (delivery_of (drop at t)) (take o.told o.list))
 
 module _ (s : State) (ms : List ℕ) (b : Bytes) (l : List ℕ) (t : Bytes) (at : ℕ) where
-  asks-short : {q : Request} → requestOf t ≡ some q → length t ≤ maxLine
-  unfolding requestOf
+  asks-short : {q : Request} → request_of t ≡ some q → length t ≤ max_line
+  unfolding request_of
   asks-short asks = check-some _ _ _ asks λ short _. leb-true _ _ short
 
-  accepts : (q : Request) (c : Change) → requestOf t ≡ some q → decideMasked s ms q (room_for q b l) ≡ done c → answer_of c ≡ accepted → StandsAt (done c) t at
-      → Speaks t at (concludeMasked s ms b l (done c))
-  unfolding answer_of concludeMasked notifiedMasked printDeliveries joined
-  accepts q (setsLogin i a) asks h is stands = by_word s ms b l q _ h
+  accepts : (q : Request) (c : Change) → request_of t ≡ some q → decide_masked s ms q (room_for q b l) ≡ done c → answer_of c ≡ accepted → StandsAt (done c) t at
+      → Speaks t at (conclude_masked s ms b l (done c))
+  unfolding answer_of conclude_masked notified_masked print_deliveries joined
+  accepts q (sets_login i a) asks h is stands = by_word s ms b l q _ h
       (λ e. record { within = omega (arith, stands); short = asks-short asks; tells = rw (asks, (decided s q (room_for q b l) _ e).quiet) })
       (λ x shows-it fits. let z : ◌≡◌ {A = ℕ} 0 1 = cc in absurd (omega arith))
   accepts q (shows x) asks h is stands = let z : ◌≡◌ {A = ℕ} 0 1 = cc in absurd (omega arith)
   accepts q (stores i a f) asks h is stands = by_word s ms b l q _ h
       (λ e.
-      let told = notifiedMasked s ms (stores i a f) in
+      let told = notified_masked s ms (stores i a f) in
       record {
         within = stands.within;
         short = asks-short asks;
@@ -148,7 +148,7 @@ module _ (before : Arrays) (t : Bytes) (given : Outputs) (r : Reply) (after : Ar
   s = state_of before
 
   abbrev ms : List ℕ
-  ms = masksOf before
+  ms = masks_of before
 
   abbrev b : Bytes
   b = given.buffer
@@ -158,68 +158,68 @@ module _ (before : Arrays) (t : Bytes) (given : Outputs) (r : Reply) (after : Ar
 
   -- what a line comes to, by the masks
   abbrev done-by : Outcome
-  done-by = (effectByMasks s ms (act t given)).outcome
+  done-by = (effect_by_masks s ms (act t given)).outcome
 
-  reply-is : outcomeIn r (state_of after) left.buffer left.list ≡ concludeMasked s ms b l (decisionMasked s ms (line t b l))
-  unfolding effectByMasks effect_of bufferOf list_of
+  reply-is : outcome_in r (state_of after) left.buffer left.list ≡ conclude_masked s ms b l (decision_masked s ms (line t b l))
+  unfolding effect_by_masks effect_of buffer_of list_of
   reply-is = served.is
 
   by-reply : (P : Outcome → Type 0) → ((e : ℕ) → P (unchanged s b l e))
-      → ((q : Request) (c : Change) → requestOf t ≡ some q → decideMasked s ms q (room_for q b l) ≡ done c → P (concludeMasked s ms b l (done c)))
-      → P (outcomeIn r (state_of after) left.buffer left.list)
-  unfolding concludeMasked
-  by-reply P kept decides = subst P (sym reply-is) (by-line s ms b l t (λ d. P (concludeMasked s ms b l d)) kept decides)
+      → ((q : Request) (c : Change) → request_of t ≡ some q → decide_masked s ms q (room_for q b l) ≡ done c → P (conclude_masked s ms b l (done c)))
+      → P (outcome_in r (state_of after) left.buffer left.list)
+  unfolding conclude_masked
+  by-reply P kept decides = subst P (sym reply-is) (by-line s ms b l t (λ d. P (conclude_masked s ms b l d)) kept decides)
 
   -- a length that was answered lies in the buffer, which is as long as it was
   pub reply-inside : Inside r (length b) × (length left.buffer ≡ length b)
-  unfolding outcomeIn unchanged concludeMasked
+  unfolding outcome_in unchanged conclude_masked
   reply-inside = (
     inside_of r (length b) (
-        by-reply (λ o. (n : ℕ) → o.answer ≡ length-is n → n ≤ length b)
+        by-reply (λ o. (n : ℕ) → o.answer ≡ length_is n → n ≤ length b)
         (λ e n is. let z : ◌≡◌ {A = ℕ} 0 1 = cc in absurd (omega arith))
         (λ q c asks h n is. omega (arith, shown-fits s ms b l q c h, shown-length c n is))),
     by-reply (λ o. length o.buffer ≡ length b) (λ e. refl) (λ q c asks h. length_over (shown c) b (shown-fits s ms b l q c h)),
   )
 
   reply-left : Left done-by (state_of after) left
-  unfolding outcomeIn
+  unfolding outcome_in
   reply-left = (ap (λ (o : Outcome). o.state) served.is, ap (λ (o : Outcome). o.buffer) served.is, ap (λ (o : Outcome). o.list) served.is)
 
   -- what is printed for it is written: by the masks, and where they agree with the policy as documents 01 and 02 say
-  pub responds : after.tables ≡ before.tables → {from out : Bytes} {n : ℕ} → Wrote 0 (printed (eventOf s (act t given) done-by)) from n out → n ≤ mostPrinted
+  pub responds : after.tables ≡ before.tables → {from out : Bytes} {n : ℕ} → Wrote 0 (printed (event_of s (act t given) done-by)) from n out → n ≤ most_printed
       → RespondsByMasks before t given after left from n out × RespondsByPolicy before t given after left from n out
   responds same {from} {out} {n} wrote short =
       let masked : RespondsByMasks before t given after left from n out = record { leaves = reply-left; memory = served.memory; wrote = wrote; short = short } in
       (masked, λ a. (rw (memory-agrees before (act t given) a) at masked, (masked-said before after t given left r same served a).1))
 
   -- for a reply that tells nobody, the answer alone
-  pub printed-other : NotAccepted r → printed (eventOf s (act t given) done-by) ≡ printAnswer left.buffer (answer_in r)
-  unfolding printed outcomeIn
-  printed-other other = rw (← served.is, untold (outcomeIn r (state_of after) left.buffer left.list) _ (none_told r other), append-nil)
+  pub printed-other : NotAccepted r → printed (event_of s (act t given) done-by) ≡ print_answer left.buffer (answer_in r)
+  unfolding printed outcome_in
+  printed-other other = rw (← served.is, untold (outcome_in r (state_of after) left.buffer left.list) _ (none_told r other), append-nil)
 
   -- ── It is accepted ──
   module _ {k at : ℕ} (is : r ≡ Accepted k at) where
-    speaks : Speaks t at (outcomeIn r (state_of after) left.buffer left.list)
-    unfolding outcomeIn concludeMasked unchanged effectByMasks effect_of
+    speaks : Speaks t at (outcome_in r (state_of after) left.buffer left.list)
+    unfolding outcome_in conclude_masked unchanged effect_by_masks effect_of
     speaks = subst (Speaks t at) (sym reply-is) (
-        by-line s ms b l t (λ d. (concludeMasked s ms b l d).answer ≡ accepted → StandsAt d t at → Speaks t at (concludeMasked s ms b l d))
+        by-line s ms b l t (λ d. (conclude_masked s ms b l d).answer ≡ accepted → StandsAt d t at → Speaks t at (conclude_masked s ms b l d))
         (λ e h. let z : ◌≡◌ {A = ℕ} 0 1 = cc in absurd (omega arith))
         (λ q c asks h. accepts s ms b l t at q c asks h)
         (ap (λ (o : Outcome). o.answer) (sym reply-is) ∙ ap answer_in is)
         (rw is at served.position))
 
-    pub accepted-inside : (at ≤ length t) × (length t ≤ maxLine)
+    pub accepted-inside : (at ≤ length t) × (length t ≤ max_line)
     accepted-inside = (speaks.within, speaks.short)
 
     -- the deliveries too, with path and value as they stand in the line
-    pub printed-accepted : printed (eventOf s (act t given) done-by) ≡ printAnswer left.buffer (answer_in r) ++ joined (map (deliveryOf (drop at t)) (take k left.list))
-    unfolding printed pushIn requestOfAct outcomeIn
-    printed-accepted = rw (← served.is, speaks.tells, ap toldIn is)
+    pub printed-accepted : printed (event_of s (act t given) done-by) ≡ print_answer left.buffer (answer_in r) ++ joined (map (delivery_of (drop at t)) (take k left.list))
+    unfolding printed push_in request_of_act outcome_in
+    printed-accepted = rw (← served.is, speaks.tells, ap told_in is)
 
     -- at most 32 sessions are told, and the list has room for them
-    pub accepted-few : (k ≤ maxUsers) × (k ≤ length left.list)
-    unfolding outcomeIn unchanged concludeMasked
-    accepted-few = rw (ap toldIn is) at
-        (by-reply (λ o. (o.told ≤ maxUsers) × (o.told ≤ length o.list))
+    pub accepted-few : (k ≤ max_users) × (k ≤ length left.list)
+    unfolding outcome_in unchanged conclude_masked
+    accepted-few = rw (ap told_in is) at
+        (by-reply (λ o. (o.told ≤ max_users) × (o.told ≤ length o.list))
         (λ e. (omega arith, omega arith))
         (λ q c asks h. let (less, room) = told-fits s ms b l q c h in (less, rw (length_over _ l room) room)))

@@ -1,11 +1,11 @@
 // All that the program prints: for a line, and for a refused opening.
 ghost use Rattle.std.specs.Prelude.{◌≡◌, ◌+◌, ◌≤◌, length};
 ghost use Rattle.rows.specs.Rows.{Wrote};
-ghost use Rattle.model.specs.Limits.{maxCopy};
-ghost use Rattle.model.specs.Program.{printAnswer};
+ghost use Rattle.model.specs.Limits.{max_copy};
+ghost use Rattle.model.specs.Program.{print_answer};
 ghost use Rattle.opening.specs.Memory.{arrays};
 ghost use Rattle.server.specs.Replies.{answer_in, outputs};
-ghost use Rattle.printing.specs.Printed.{markLength, mostNumbered, mostFault, numbered, openingText, Inside, RespondsByMasks, RespondsByPolicy};
+ghost use Rattle.printing.specs.Printed.{mark_length, most_numbered, most_fault, numbered, opening_text, Inside, RespondsByMasks, RespondsByPolicy};
 
 use buffers::{put, put_byte, put_decimal};
 pub use copies::COPY;
@@ -21,9 +21,9 @@ pub const LIST: usize = LIST_ROOM;
 
 // `OK;` or `NO;`, a number and 0A.
 fn put_numbered(out: &mut [u8], mark: &[u8], n: usize) -> usize
-    requires { length mark.now ≡ markLength }
+    requires { length mark.now ≡ mark_length }
     ensures wrote { Wrote 0 (numbered mark.now n) out.old result out.new }
-    ensures upper_bound { result ≤ mostNumbered }
+    ensures upper_bound { result ≤ most_numbered }
 {
     let mut to = put(out, 0, mark);
     to = put_decimal(out, to, n);
@@ -32,9 +32,9 @@ fn put_numbered(out: &mut [u8], mark: &[u8], n: usize) -> usize
 
 // The answer; behind a length, as many first bytes of the buffer.
 fn put_answer(out: &mut [u8], reply: Reply, buffer: &[u8]) -> usize
-    requires { (length buffer.now ≡ maxCopy) × Inside reply (length buffer.now) }
-    ensures wrote { Wrote 0 (printAnswer buffer.now (answer_in reply)) out.old result out.new }
-    ensures upper_bound { result ≤ maxCopy + mostNumbered }
+    requires { (length buffer.now ≡ max_copy) × Inside reply (length buffer.now) }
+    ensures wrote { Wrote 0 (print_answer buffer.now (answer_in reply)) out.old result out.new }
+    ensures upper_bound { result ≤ max_copy + most_numbered }
 {
     match reply {
         Reply::Refused(e) => put_numbered(out, b"NO;", e),
@@ -80,8 +80,8 @@ pub fn respond(
 
 // `NO;number;text;line` for a refused opening; nothing for an accepted one.
 pub fn put_opening(out: &mut [u8], opened: Opening) -> usize
-    ensures wrote { Wrote 0 (openingText opened) out.old result out.new }
-    ensures upper_bound { result ≤ mostFault }
+    ensures wrote { Wrote 0 (opening_text opened) out.old result out.new }
+    ensures upper_bound { result ≤ most_fault }
 {
     let Opening::Refused(number, text, line) = opened else {
         return 0;

@@ -10,9 +10,9 @@ use Rattle.model.specs.Base.{Bytes}
 use Rattle.model.specs.Values.{Value}
 use Rattle.model.specs.Fields.{Keys, Fields, holds, field_of}
 use Rattle.model.specs.Refusals.{refused, done, ◌>>=◌, ◌>>◌, refuse◌if◌}
-use Rattle.model.specs.Opening.{LoginState, emptyLogin}
-use Rattle.model.specs.Serving.{stores, creating, decidePush}
-use Rattle.tables.specs.Memory.{userRow, usersBytes, userIn, usersIn, policyIn, tablesIn}
+use Rattle.model.specs.Opening.{LoginState, empty_login}
+use Rattle.model.specs.Serving.{stores, creating, decide_push}
+use Rattle.tables.specs.Memory.{user_row, users_bytes, user_in, users_in, policy_in, tables_in}
 use Rattle.model.specs.Rights.{may_write}
 use Rattle.record.specs.declared.table.Place.{Place}
 use Rattle.record.specs.declared.table.Place.TheVariants.{At, Before}
@@ -20,58 +20,58 @@ use Rattle.record.specs.Search.{place_in}
 use Rattle.record.proofs.Places.{at-holds, before-holds}
 use Rattle.sessions.specs.declared.SessionAt.{SessionAt}
 use Rattle.sessions.specs.declared.SessionAt.TheVariants.{Of, Unknown}
-use Rattle.sessions.specs.Logins.{hasSession, sessionAnswer}
+use Rattle.sessions.specs.Logins.{has_session, session_answer}
 use Rattle.sessions.proofs.Known.{no-session, in-session, session-unknown, session-known, session-user}
-use Rattle.pushes.specs.Rulings.{pushDecided}
+use Rattle.pushes.specs.Rulings.{push_decided}
 
-module _ (s : Bytes) (ls : List LoginState) (n : ℕ) {o : SessionAt} (found : o ≡ sessionAnswer (hasSession (usersIn s) ls n) n) where
+module _ (s : Bytes) (ls : List LoginState) (n : ℕ) {o : SessionAt} (found : o ≡ session_answer (has_session (users_in s) ls n) n) where
   -- no open session has the number
-  pub unknown-session : (fs : Fields) (p : Keys) (v : Value) → o ≡ Unknown → pushDecided (tablesIn s) ls fs n p v ≡ refused 14
-  unfolding tablesIn pushDecided decidePush ◌>>=◌ ◌>>◌ refuse◌if◌
-  unknown-session fs p v at = rw (no-session (record { tables = tablesIn s; loginStates = ls; fields = fs }) n (session-unknown s ls n found at))
+  pub unknown-session : (fs : Fields) (p : Keys) (v : Value) → o ≡ Unknown → push_decided (tables_in s) ls fs n p v ≡ refused 14
+  unfolding tables_in push_decided decide_push ◌>>=◌ ◌>>◌ refuse◌if◌
+  unknown-session fs p v at = rw (no-session (record { tables = tables_in s; login_states = ls; fields = fs }) n (session-unknown s ls n found at))
 
   -- it is that of the user at i
   module _ {i : ℕ} (at : o ≡ Of i) where
     -- ── The right: r says whether that user may write the path p ──
     module _
         {row policy : Bytes}
-        (is : row ≡ take userRow (drop (i * userRow) s))
-        (part : policy ≡ drop usersBytes s)
+        (is : row ≡ take user_row (drop (i * user_row) s))
+        (part : policy ≡ drop users_bytes s)
         (p : Keys)
         {r : Bool}
-        (may : r ≡ may_write (policyIn policy) (userIn row) p)
+        (may : r ≡ may_write (policy_in policy) (user_in row) p)
         (fs : Fields)
         (v : Value)
       where
-        ruled : pushDecided (tablesIn s) ls fs n p v
-            ≡ ((refuse 16 if not r) >> ((refuse 17 if not (holds p fs) && leb (userIn row).quota (get_or ls i emptyLogin).created)
-            >> done (stores i (creating (get_or ls i emptyLogin) (holds p fs)) (field_of p v))))
-        unfolding tablesIn pushDecided decidePush ◌>>=◌ ◌>>◌ refuse◌if◌
+        ruled : push_decided (tables_in s) ls fs n p v
+            ≡ ((refuse 16 if not r) >> ((refuse 17 if not (holds p fs) && leb (user_in row).quota (get_or ls i empty_login).created)
+            >> done (stores i (creating (get_or ls i empty_login) (holds p fs)) (field_of p v))))
+        unfolding tables_in push_decided decide_push ◌>>=◌ ◌>>◌ refuse◌if◌
         ruled =
             let (known, index) = session-known s ls n found at in
             let writes = rw part at may in
-            rw (in-session (record { tables = tablesIn s; loginStates = ls; fields = fs }) n (session-user s ls n found at is) known, ← index, writes)
+            rw (in-session (record { tables = tables_in s; login_states = ls; fields = fs }) n (session-user s ls n found at is) known, ← index, writes)
 
-        pub no-right : r ≡ false → pushDecided (tablesIn s) ls fs n p v ≡ refused 16
+        pub no-right : r ≡ false → push_decided (tables_in s) ls fs n p v ≡ refused 16
         unfolding ◌>>◌ refuse◌if◌
         no-right f = ruled ∙ rw f
 
         -- ── The field: a is the user's login state, and l where a search for the path ended ──
-        module _ (right : r ≡ true) {a : LoginState} (state : a ≡ get_or ls i emptyLogin) {k : ℕ} {l : Place} (place : l ≡ place_in 0 p fs) where
-          pub stored-held : l ≡ At k → pushDecided (tablesIn s) ls fs n p v ≡ done (stores i a (field_of p v))
+        module _ (right : r ≡ true) {a : LoginState} (state : a ≡ get_or ls i empty_login) {k : ℕ} {l : Place} (place : l ≡ place_in 0 p fs) where
+          pub stored-held : l ≡ At k → push_decided (tables_in s) ls fs n p v ≡ done (stores i a (field_of p v))
           unfolding creating ◌>>◌ refuse◌if◌
           stored-held e = ruled ∙ rw (right, at-holds p fs k (sym place ∙ e), ← state)
 
           -- it is absent, and q is the user's quota
-          module _ (e : l ≡ Before k) {q : ℕ} (quota : q ≡ (userIn row).quota) where
+          module _ (e : l ≡ Before k) {q : ℕ} (quota : q ≡ (user_in row).quota) where
             absent : holds p fs ≡ false
             absent = before-holds p fs k (sym place ∙ e)
 
-            pub quota-reached : q ≤ a.created → pushDecided (tablesIn s) ls fs n p v ≡ refused 17
+            pub quota-reached : q ≤ a.created → push_decided (tables_in s) ls fs n p v ≡ refused 17
             unfolding ◌>>◌ refuse◌if◌
             quota-reached h = ruled ∙ rw (right, absent, ← state, ← quota, le-leb _ _ h)
 
             pub stored-new : a.created < q → {b : LoginState} → b ≡ creating a false
-                → pushDecided (tablesIn s) ls fs n p v ≡ done (stores i b (field_of p v))
+                → push_decided (tables_in s) ls fs n p v ≡ done (stores i b (field_of p v))
             unfolding ◌>>◌ refuse◌if◌
             stored-new h c = ruled ∙ rw (right, absent, ← state, ← quota, lt-leb _ _ h, c)

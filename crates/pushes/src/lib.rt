@@ -1,7 +1,7 @@
 // What a push comes to, before anything is changed.
 ghost use Rattle.std.specs.Prelude.{◌≡◌, false, ◌+◌, ◌<◌, ◌^◌, length};
 ghost use Rattle.model.specs.Serving.{creating};
-ghost use Rattle.tables.specs.Memory.{userRow, userIn};
+ghost use Rattle.tables.specs.Memory.{user_row, user_in};
 ghost use Rattle.sessions.specs.Logins.{state_of};
 ghost use Rattle.pushes.specs.Rulings.{RuledAs};
 
@@ -33,8 +33,8 @@ fn creating(state: LoginState) -> LoginState
 
 // The quota of a user, which fits two bytes, as the count of fields created does.
 fn small_quota(user: &[u8]) -> usize
-    requires { length user.now ≡ userRow }
-    ensures { (result ≡ (userIn user.now).quota) × (result < 2 ^ 16) }
+    requires { length user.now ≡ user_row }
+    ensures { (result ≡ (user_in user.now).quota) × (result < 2 ^ 16) }
 {
     quota(user)
 }

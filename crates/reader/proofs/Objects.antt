@@ -6,102 +6,102 @@ use mathlib.Core.List.{[], ◌∷◌}
 use native.Mathlib.Omega.{arith}
 use lib.ListN.{length, drop, length-drop}
 use Rattle.rows.specs.Positions.{Reader, Reads, behind, placed, LeavesEnd}
-use Rattle.model.specs.Base.{Bytes, text, ◌>>=◌, ◌<|>◌, ifAfter}
-use Rattle.model.specs.Values.{Value, readValue}
-use Rattle.model.specs.RecordText.{Node, Members, leaf, object, noMembers, member, skip, token, readKey, readLeaf, readMore, readMembers, asNode, readObject}
+use Rattle.model.specs.Base.{Bytes, text, ◌>>=◌, ◌<|>◌, if_after}
+use Rattle.model.specs.Values.{Value, read_value}
+use Rattle.model.specs.RecordText.{Node, Members, leaf, object, no_members, member, skip, token, read_key, read_leaf, read_more, read_members, as_node, read_object}
 use Rattle.model.proofs.Lists.{none-some}
 use Rattle.model.proofs.Reading.{after-cases}
 use Rattle.values.specs.declared.value.Scalar.{Scalar}
 use Rattle.values.specs.declared.value.ValueAt.{ValueAt}
 use Rattle.values.specs.declared.value.ValueAt.TheVariants as value-at
-use Rattle.values.specs.Scalars.{valueIn, valueAnswer}
+use Rattle.values.specs.Scalars.{value_in, value_answer}
 use Rattle.lexical.proofs.Runs.{bind-same, bind-bind}
 use Rattle.lexical.proofs.Readers.{rest-on, leaves-or, leaves-bind, leaves-some}
-use Rattle.reader.specs.Tokens.{readToken, readScalar, readMember, mapped}
+use Rattle.reader.specs.Tokens.{read_token, read_scalar, read_member, mapped}
 use Rattle.reader.proofs.Spaced.{scalar-leaves, token-none, token-some, token-rest, token-then, scalar-bad, scalar-reads, member-leaves, member-moves}
 use Rattle.reader.proofs.Mapped.{mapped-none, mapped-is}
 
 -- what a key holds
 abbrev pub read_node : ℕ → Reader ℕ Node
-read_node d t = readLeaf t <|> (readObject d t >>= asNode)
+read_node d t = read_leaf t <|> (read_object d t >>= as_node)
 
 -- ── Members: what the first of them reads decides ──
 module _ (inner : Reader ℕ Node) (m : Members) (l : Bytes) where
-  members_step : (n : ℕ) → readMembers inner (suc n) m l
-      ≡ (readMember l >>= λ t. inner t.1 >>= λ u. readMore (readMembers inner n (member m t.0 u.0)) (member m t.0 u.0) u.1)
-  unfolding readMembers readMember text ◌>>=◌
-  members_step n = sym (bind-bind (readKey l) _ _ ∙ bind-same (readKey l) _ _ (λ t. bind-bind (token (0x3A ∷ []) t.1) _ _))
+  members_step : (n : ℕ) → read_members inner (suc n) m l
+      ≡ (read_member l >>= λ t. inner t.1 >>= λ u. read_more (read_members inner n (member m t.0 u.0)) (member m t.0 u.0) u.1)
+  unfolding read_members read_member text ◌>>=◌
+  members_step n = sym (bind-bind (read_key l) _ _ ∙ bind-same (read_key l) _ _ (λ t. bind-bind (token (0x3A ∷ []) t.1) _ _))
 
-  members-none : (n : ℕ) → readMember l ≡ none → readMembers inner n m l ≡ none
-  unfolding readMembers ◌>>=◌
+  members-none : (n : ℕ) → read_member l ≡ none → read_members inner n m l ≡ none
+  unfolding read_members ◌>>=◌
   members-none zero e = refl
   members-none (suc n) e = members_step n ∙ rw e
 
-  module _ (k l₁ : Bytes) (e : readMember l ≡ some (k, l₁)) where
-    members-no-value : (n : ℕ) → inner l₁ ≡ none → readMembers inner n m l ≡ none
-    unfolding readMembers ◌>>=◌
+  module _ (k l₁ : Bytes) (e : read_member l ≡ some (k, l₁)) where
+    members-no-value : (n : ℕ) → inner l₁ ≡ none → read_members inner n m l ≡ none
+    unfolding read_members ◌>>=◌
     members-no-value zero f = refl
     members-no-value (suc n) f = members_step n ∙ rw (e, f)
 
     members-next : (n : ℕ) → 0 < n → (v : Node) (l₂ : Bytes) → inner l₁ ≡ some (v, l₂)
-        → readMembers inner n m l ≡ readMore (readMembers inner (n - 1) (member m k v)) (member m k v) l₂
+        → read_members inner n m l ≡ read_more (read_members inner (n - 1) (member m k v)) (member m k v) l₂
     unfolding ◌>>=◌
     members-next zero h v l₂ f = absurd (omega arith)
     members-next (suc n) h v l₂ f =
         let q : n ≡ suc n - 1 = omega arith in
-        members_step n ∙ rw (e, f) (ap (λ (j : ℕ). readMore (readMembers inner j (member m k v)) (member m k v) l₂) q)
+        members_step n ∙ rw (e, f) (ap (λ (j : ℕ). read_more (read_members inner j (member m k v)) (member m k v) l₂) q)
 
 -- ── The readers leave the end of the text ──
-abbrev asLeaf : Value × Bytes → Option (Node × Bytes)
-asLeaf t = some (leaf t.0, t.1)
+abbrev as_leaf : Value × Bytes → Option (Node × Bytes)
+as_leaf t = some (leaf t.0, t.1)
 
-leaf-scalar : (s : Bytes) → readLeaf s ≡ (readScalar s >>= asLeaf)
-unfolding readLeaf readScalar ◌>>=◌
-leaf-scalar s = go (readValue s)
+leaf-scalar : (s : Bytes) → read_leaf s ≡ (read_scalar s >>= as_leaf)
+unfolding read_leaf read_scalar ◌>>=◌
+leaf-scalar s = go (read_value s)
   where
-    go : (o : Option (Value × Bytes)) → (◌>>=◌ {B = Node × Bytes} o (λ t. some (leaf t.0, skip t.1))) ≡ ((◌>>=◌ {B = Value × Bytes} o (λ t. some (t.0, skip t.1))) >>= asLeaf)
+    go : (o : Option (Value × Bytes)) → (◌>>=◌ {B = Node × Bytes} o (λ t. some (leaf t.0, skip t.1))) ≡ ((◌>>=◌ {B = Value × Bytes} o (λ t. some (t.0, skip t.1))) >>= as_leaf)
     go none = refl
     go (some t) = refl
 
-leaves-leaf : LeavesEnd readLeaf
-leaves-leaf s t h = leaves-bind readScalar (λ v x. some (leaf v, x)) scalar-leaves (λ v. leaves-some (leaf v)) s t (sym (leaf-scalar s) ∙ h)
+leaves-leaf : LeavesEnd read_leaf
+leaves-leaf s t h = leaves-bind read_scalar (λ v x. some (leaf v, x)) scalar-leaves (λ v. leaves-some (leaf v)) s t (sym (leaf-scalar s) ∙ h)
 
-leaves-members : (inner : Reader ℕ Node) → LeavesEnd inner → (n : ℕ) (m : Members) → LeavesEnd (readMembers inner n m)
-unfolding readMembers readMore text
+leaves-members : (inner : Reader ℕ Node) → LeavesEnd inner → (n : ℕ) (m : Members) → LeavesEnd (read_members inner n m)
+unfolding read_members read_more text
 leaves-members inner p zero m s t h = none-some h
 leaves-members inner p (suc n) m s t h =
-    leaves-bind readMember (λ k x. inner x >>= λ u. readMore (readMembers inner n (member m k u.0)) (member m k u.0) u.1) member-leaves
-    (λ k. leaves-bind inner (λ v x. readMore (readMembers inner n (member m k v)) (member m k v) x) p (λ v x u i.
+    leaves-bind read_member (λ k x. inner x >>= λ u. read_more (read_members inner n (member m k u.0)) (member m k u.0) u.1) member-leaves
+    (λ k. leaves-bind inner (λ v x. read_more (read_members inner n (member m k v)) (member m k v) x) p (λ v x u i.
     after-cases (token (0x2C ∷ []) x) _ _ _ i
     (λ j e. token-then 0x7D (λ y. some (member m k v, y)) (leaves-some (member m k v)) x u e)
     (λ r j e. rest-on x r u.1 (token-rest 0x2C x r j) (leaves-members inner p n (member m k v) r u e)))) s t (sym (members_step inner m s n) ∙ h)
 
-pub leaves-node : (d : ℕ) → LeavesEnd (readObject d) → LeavesEnd (read_node d)
-unfolding asNode
-leaves-node d p = leaves-or readLeaf _ leaves-leaf (leaves-bind (readObject d) (λ m x. some (object m, x)) p (λ m. leaves-some (object m)))
+pub leaves-node : (d : ℕ) → LeavesEnd (read_object d) → LeavesEnd (read_node d)
+unfolding as_node
+leaves-node d p = leaves-or read_leaf _ leaves-leaf (leaves-bind (read_object d) (λ m x. some (object m, x)) p (λ m. leaves-some (object m)))
 
-pub leaves-object : (d : ℕ) → LeavesEnd (readObject d)
-unfolding readObject text
+pub leaves-object : (d : ℕ) → LeavesEnd (read_object d)
+unfolding read_object text
 leaves-object zero s t h = none-some h
 leaves-object (suc d) s t h =
-    token-then 0x7B (λ x. readMembers (read_node d) (length x) noMembers x)
-    (λ x u i. leaves-members (read_node d) (leaves-node d (leaves-object d)) (length x) noMembers x u i) s t h
+    token-then 0x7B (λ x. read_members (read_node d) (length x) no_members x)
+    (λ x u i. leaves-members (read_node d) (leaves-node d (leaves-object d)) (length x) no_members x u i) s t h
 
 -- ── What a key holds, by positions ──
-module _ (d : ℕ) (s : Bytes) (v : ℕ) (x : ValueAt) (answer : valueAnswer s x ≡ placed readScalar s v) where
-  pub node-leaf : v ≤ length s → (w : Scalar) (e : ℕ) → x ≡ value-at.At w e → Reads (read_node d) s v (leaf (valueIn s w)) e
+module _ (d : ℕ) (s : Bytes) (v : ℕ) (x : ValueAt) (answer : value_answer s x ≡ placed read_scalar s v) where
+  pub node-leaf : v ≤ length s → (w : Scalar) (e : ℕ) → x ≡ value-at.At w e → Reads (read_node d) s v (leaf (value_in s w)) e
   unfolding ◌>>=◌ ◌<|>◌
   node-leaf h w e i =
       let r = scalar-reads s v x answer h w e i in
       record { from = r.from; to = r.to; is = rw (leaf-scalar (drop v s), r.is) }
 
   -- where it is no value it is an object, or nothing
-  pub node-mapped : x ≡ value-at.Bad → {B : Type 0} (g : Node → B) → placed (mapped (λ m. g (object m)) (readObject d)) s v ≡ placed (mapped g (read_node d)) s v
-  unfolding placed mapped ◌>>=◌ ◌<|>◌ asNode
-  node-mapped i {B} g = rw (leaf-scalar (drop v s), scalar-bad s v x answer i) (go (readObject d (drop v s)))
+  pub node-mapped : x ≡ value-at.Bad → {B : Type 0} (g : Node → B) → placed (mapped (λ m. g (object m)) (read_object d)) s v ≡ placed (mapped g (read_node d)) s v
+  unfolding placed mapped ◌>>=◌ ◌<|>◌ as_node
+  node-mapped i {B} g = rw (leaf-scalar (drop v s), scalar-bad s v x answer i) (go (read_object d (drop v s)))
     where
       go : (o : Option (Members × Bytes))
-          → behind s (◌>>=◌ {B = B × Bytes} o (λ t. some (g (object t.0), t.1))) ≡ behind s (◌>>=◌ {B = B × Bytes} (o >>= asNode) (λ t. some (g t.0, t.1)))
+          → behind s (◌>>=◌ {B = B × Bytes} o (λ t. some (g (object t.0), t.1))) ≡ behind s (◌>>=◌ {B = B × Bytes} (o >>= as_node) (λ t. some (g t.0, t.1)))
       go none = refl
       go (some t) = refl
 
@@ -111,23 +111,23 @@ pub record Left (s : Bytes) (at depth : ℕ) (before : Members) (i : ℕ) : Type
   pub to : i ≤ length s
   pub bound : ℕ
   pub enough : length s - i ≤ bound
-  pub is : readObject depth (drop at s) ≡ readMembers (read_node (depth - 1)) bound before (drop i s)
+  pub is : read_object depth (drop at s) ≡ read_members (read_node (depth - 1)) bound before (drop i s)
 
 object-open : (depth : ℕ) → (depth ≡ 0 → ⊥) → (s s₁ : Bytes) → token (0x7B ∷ []) s ≡ some s₁
-    → readObject depth s ≡ readMembers (read_node (depth - 1)) (length s₁) noMembers s₁
-unfolding readObject text ◌>>=◌
+    → read_object depth s ≡ read_members (read_node (depth - 1)) (length s₁) no_members s₁
+unfolding read_object text ◌>>=◌
 object-open zero f s s₁ h = absurd (f refl)
 object-open (suc d) f s s₁ h =
     let q : d ≡ suc d - 1 = omega arith in
-    rw h (ap (λ (j : ℕ). readMembers (read_node j) (length s₁) noMembers s₁) q)
+    rw h (ap (λ (j : ℕ). read_members (read_node j) (length s₁) no_members s₁) q)
 
 -- no object is read where no brace stands
-pub unopened : (s : Bytes) → readToken 0x7B s ≡ none → (d : ℕ) → readObject d s ≡ none
-unfolding readObject text ◌>>=◌
+pub unopened : (s : Bytes) → read_token 0x7B s ≡ none → (d : ℕ) → read_object d s ≡ none
+unfolding read_object text ◌>>=◌
 unopened s h zero = refl
 unopened s h (suc d) = rw (token-none 0x7B s h)
 
-pub left-start : (s : Bytes) (at depth : ℕ) → (depth ≡ 0 → ⊥) → (o : ℕ) → Reads (readToken 0x7B) s at tt o → Left s at depth noMembers o
+pub left-start : (s : Bytes) (at depth : ℕ) → (depth ≡ 0 → ⊥) → (o : ℕ) → Reads (read_token 0x7B) s at tt o → Left s at depth no_members o
 left-start s at depth f o r = record {
   from = r.from;
   to = r.to;
@@ -138,43 +138,43 @@ left-start s at depth f o r = record {
 
 -- ── What an object is answered as, where g makes the answer of its members ──
 module _ {B : Type 0} (g : Members → B) (s : Bytes) (at depth : ℕ) where
-  pub object-none : depth ≡ 0 → none ≡ placed (mapped g (readObject depth)) s at
-  unfolding readObject
+  pub object-none : depth ≡ 0 → none ≡ placed (mapped g (read_object depth)) s at
+  unfolding read_object
   object-none e = mapped-none g _ s at (rw e)
 
-  pub object-unopened : readToken 0x7B (drop at s) ≡ none → none ≡ placed (mapped g (readObject depth)) s at
+  pub object-unopened : read_token 0x7B (drop at s) ≡ none → none ≡ placed (mapped g (read_object depth)) s at
   object-unopened h = mapped-none g _ s at (unopened (drop at s) h depth)
 
 module _ (s : Bytes) (at depth : ℕ) (before : Members) (i : ℕ) (left : Left s at depth before i) where
-  pub left-no-member : {B : Type 0} (g : Members → B) → readMember (drop i s) ≡ none → none ≡ placed (mapped g (readObject depth)) s at
+  pub left-no-member : {B : Type 0} (g : Members → B) → read_member (drop i s) ≡ none → none ≡ placed (mapped g (read_object depth)) s at
   left-no-member g h = mapped-none g _ s at (left.is ∙ members-none _ _ _ _ h)
 
-  module _ (name : Bytes) (v : ℕ) (key : Reads readMember s i name v) where
-    pub left-no-value : {B : Type 0} (g : Members → B) → read_node (depth - 1) (drop v s) ≡ none → none ≡ placed (mapped g (readObject depth)) s at
+  module _ (name : Bytes) (v : ℕ) (key : Reads read_member s i name v) where
+    pub left-no-value : {B : Type 0} (g : Members → B) → read_node (depth - 1) (drop v s) ≡ none → none ≡ placed (mapped g (read_object depth)) s at
     left-no-value g h = mapped-none g _ s at (left.is ∙ members-no-value _ _ _ _ _ key.is _ h)
 
     module _ (a : Node) (e : ℕ) (node : Reads (read_node (depth - 1)) s v a e) where
-      next : readObject depth (drop at s) ≡ readMore (readMembers (read_node (depth - 1)) (left.bound - 1) (member before name a)) (member before name a) (drop e s)
+      next : read_object depth (drop at s) ≡ read_more (read_members (read_node (depth - 1)) (left.bound - 1) (member before name a)) (member before name a) (drop e s)
       next =
           left.is
           ∙ members-next _ _ _ _ _ key.is left.bound (omega (arith, left.enough, member-moves s i name v key, key.to)) a (drop e s) node.is
 
       -- behind the last member the closing brace stands, or none does
-      module _ {B : Type 0} (g : Members → B) (h : readToken 0x2C (drop e s) ≡ none) where
-        pub left-unclosed : readToken 0x7D (drop e s) ≡ none → none ≡ placed (mapped g (readObject depth)) s at
-        unfolding readMore text ifAfter ◌>>=◌
+      module _ {B : Type 0} (g : Members → B) (h : read_token 0x2C (drop e s) ≡ none) where
+        pub left-unclosed : read_token 0x7D (drop e s) ≡ none → none ≡ placed (mapped g (read_object depth)) s at
+        unfolding read_more text if_after ◌>>=◌
         left-unclosed k = mapped-none g _ s at (next ∙ rw (token-none 0x2C _ h, token-none 0x7D _ k))
 
-        pub left-last : (close : ℕ) → Reads (readToken 0x7D) s e tt close → some (g (member before name a), close) ≡ placed (mapped g (readObject depth)) s at
-        unfolding readMore text ifAfter ◌>>=◌
-        left-last close r = mapped-is g (readObject depth) s at _ close (record {
+        pub left-last : (close : ℕ) → Reads (read_token 0x7D) s e tt close → some (g (member before name a), close) ≡ placed (mapped g (read_object depth)) s at
+        unfolding read_more text if_after ◌>>=◌
+        left-last close r = mapped-is g (read_object depth) s at _ close (record {
           from = omega (arith, left.from, key.from, node.from, r.from);
           to = r.to;
           is = next ∙ rw (token-none 0x2C _ h, token-some 0x7D _ _ r.is);
         })
 
-      pub left-again : (j : ℕ) → Reads (readToken 0x2C) s e tt j → Left s at depth (member before name a) j
-      unfolding readMore text ifAfter
+      pub left-again : (j : ℕ) → Reads (read_token 0x2C) s e tt j → Left s at depth (member before name a) j
+      unfolding read_more text if_after
       left-again j comma = record {
         from = omega (arith, left.from, key.from, node.from, comma.from);
         to = comma.to;

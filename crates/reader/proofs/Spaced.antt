@@ -10,42 +10,42 @@ use denote.Enum.Declared.{tag_of}
 use borrow.Author.Tests.{eq-eqb, eqb-true, not-true}
 use lib.Dec.{eqb}
 use lib.ListN.{length, get_or, take, drop, length-drop}
-use Rattle.rows.specs.Positions.{Reader, Reads, behind, placed, runEnd, LeavesEnd}
+use Rattle.rows.specs.Positions.{Reader, Reads, behind, placed, run_end, LeavesEnd}
 use Rattle.rows.proofs.Positions.{here, over, run-within, placed-reads, placed-none, none-placed, reads-placed}
 use Rattle.model.specs.Base.{Bytes, text, any, if◌then◌else◌, ◌>>=◌, ◌>>◌, check, after, span}
-use Rattle.model.specs.Names.{nameByte, is_key}
-use Rattle.model.specs.Values.{readValue}
-use Rattle.model.specs.Paths.{readQuoted}
-use Rattle.model.specs.RecordText.{isBlank, skip, token, readKey}
+use Rattle.model.specs.Names.{name_byte, is_key}
+use Rattle.model.specs.Values.{read_value}
+use Rattle.model.specs.Paths.{read_quoted}
+use Rattle.model.specs.RecordText.{is_blank, skip, token, read_key}
 use Rattle.model.proofs.Lists.{by_cases, none-some}
 use Rattle.model.proofs.Reading.{bind-some, some_same, after-some, span-joins}
 use Rattle.lexical.specs.declared.class.Class.TheVariants.{Name}
 use Rattle.values.specs.declared.value.Scalar.{Scalar}
 use Rattle.values.specs.declared.value.ValueAt.{ValueAt}
 use Rattle.values.specs.declared.value.ValueAt.TheVariants as value-at
-use Rattle.lexical.specs.Classes.{readBetween}
-use Rattle.values.specs.Scalars.{valueIn, valueAnswer}
+use Rattle.lexical.specs.Classes.{read_between}
+use Rattle.values.specs.Scalars.{value_in, value_answer}
 use Rattle.lexical.proofs.Classes.{differs, keyed}
 use Rattle.lexical.proofs.Runs.{span-at, rest_of, bind-same, bind-bind, check_bind}
 use Rattle.lexical.proofs.Between.{Stands, Quoted, between-gives, between-leaves, quoted-between}
 use Rattle.values.proofs.Values.{told, value-leaves}
 use Rattle.lexical.proofs.Readers.{rest-on, leaves-bind, leaves_word, leaves-some}
-use Rattle.reader.specs.Tokens.{isStructural, readStructural, readToken, readScalar, readMember, tokenAnswer, keyAnswer, MemberInText}
+use Rattle.reader.specs.Tokens.{is_structural, read_structural, read_token, read_scalar, read_member, token_answer, key_answer, MemberInText}
 use Rattle.reader.specs.declared.tokens.TokenAt.{TokenAt}
 use Rattle.reader.specs.declared.tokens.TokenAt.TheVariants.{Open, Close, Colon, Comma, Bad}
 use Rattle.reader.specs.contracts.tokens.TokenAt.{the_type}
 use Rattle.reader.specs.declared.tokens.KeyAt.{KeyAt}
 use Rattle.reader.specs.declared.tokens.KeyAt.TheVariants as key-at
-use Rattle.model.specs.Limits.{maxKey}
+use Rattle.model.specs.Limits.{max_key}
 
 -- ── Blanks ──
-pub skip_at : (s : Bytes) (at e : ℕ) → e ≡ runEnd isBlank s at → skip (drop at s) ≡ drop e s
+pub skip_at : (s : Bytes) (at e : ℕ) → e ≡ run_end is_blank s at → skip (drop at s) ≡ drop e s
 unfolding skip
-skip_at s at e is = ap (λ (t : Bytes × Bytes). t.1) (span-at isBlank s at e is)
+skip_at s at e is = ap (λ (t : Bytes × Bytes). t.1) (span-at is_blank s at e is)
 
 pub skip-leaves : (s : Bytes) → (n : ℕ) × (n ≤ length s) × (skip s ≡ drop n s)
 unfolding skip
-skip-leaves s = rest_of s (span isBlank s).0 (span isBlank s).1 (sym (span-joins isBlank s))
+skip-leaves s = rest_of s (span is_blank s).0 (span is_blank s).1 (sym (span-joins is_blank s))
 
 leaves-skip : {A : Type 0} (a : A) → LeavesEnd (λ (x : Bytes). some (a, skip x))
 leaves-skip {A} a s t h =
@@ -59,10 +59,10 @@ module _ {A : Type 0} (f g : Reader ℕ A) (spaced : (x : Bytes) → g x ≡ (f 
     unfolding ◌>>=◌
     spaced-none h = sym (placed-none g s at (spaced (drop at s) ∙ rw h))
 
-    pub spaced-reads : (a : A) (e : ℕ) → Reads f s at a e → (n : ℕ) → n ≡ runEnd isBlank s e → some (a, n) ≡ placed g s at
+    pub spaced-reads : (a : A) (e : ℕ) → Reads f s at a e → (n : ℕ) → n ≡ run_end is_blank s e → some (a, n) ≡ placed g s at
     unfolding ◌>>=◌
     spaced-reads a e r n is =
-        let w = run-within isBlank s e n is r.to in
+        let w = run-within is_blank s e n is r.to in
         sym (placed-reads g s at a n (record {
           from = omega (arith, r.from);
           to = w.1;
@@ -85,15 +85,15 @@ blanks-last a none = refl
 blanks-last a (some r) = refl
 
 -- ── One byte ──
-abbrev readByte : ℕ → Reader ℕ (Unit {0})
-readByte b s = after (b ∷ []) s >>= λ r. some (tt, r)
+abbrev read_byte : ℕ → Reader ℕ (Unit {0})
+read_byte b s = after (b ∷ []) s >>= λ r. some (tt, r)
 
 module _ (b : ℕ) where
-  byte-spaced : (s : Bytes) → readToken b s ≡ (readByte b s >>= λ t. some (t.0, skip t.1))
-  unfolding readToken token
+  byte-spaced : (s : Bytes) → read_token b s ≡ (read_byte b s >>= λ t. some (t.0, skip t.1))
+  unfolding read_token token
   byte-spaced s = blanks-last tt (after (b ∷ []) s)
 
-  pub token-leaves : LeavesEnd (readToken b)
+  pub token-leaves : LeavesEnd (read_token b)
   token-leaves = spaced-leaves _ _ byte-spaced (leaves_word (b ∷ []) _ (leaves-some tt))
 
 -- ── The tokens of one byte ──
@@ -101,17 +101,17 @@ module _ (b : ℕ) where
 abbrev only : ℕ → ℕ × Bytes → Option (Unit {0} × Bytes)
 only b t = if eqb b t.0 then some (tt, t.1) else none
 
-structural-given : (b : ℕ) → isStructural b ≡ true → (x : Bytes) → readToken b x ≡ (readStructural x >>= only b)
-unfolding readToken token after readStructural ◌>>=◌
+structural-given : (b : ℕ) → is_structural b ≡ true → (x : Bytes) → read_token b x ≡ (read_structural x >>= only b)
+unfolding read_token token after read_structural ◌>>=◌
 structural-given b h [] = refl
 structural-given b h (c ∷ s) = by_cases (eqb b c)
-    (λ e. let k : isStructural c ≡ true = rw (eqb-true b c e) at h in rw (k, e))
-    (λ e. by_cases (isStructural c) (λ k. rw (k, e)) (λ k. rw (k, e)))
+    (λ e. let k : is_structural c ≡ true = rw (eqb-true b c e) at h in rw (k, e))
+    (λ e. by_cases (is_structural c) (λ k. rw (k, e)) (λ k. rw (k, e)))
 
-structural-leaves : LeavesEnd readStructural
-unfolding readStructural
+structural-leaves : LeavesEnd read_structural
+unfolding read_structural
 structural-leaves [] t h = none-some h
-structural-leaves (b ∷ s) t h = by_cases (isStructural b)
+structural-leaves (b ∷ s) t h = by_cases (is_structural b)
     (λ k.
     let w = skip-leaves s in
     let same : ◌≡◌ {A = ℕ × Bytes} (b, skip s) t = some_same (rw k at h) in
@@ -119,47 +119,47 @@ structural-leaves (b ∷ s) t h = by_cases (isStructural b)
     (λ k. none-some (rw k at h))
 
 module _ (s : Bytes) (at : ℕ) where
-  pub structural-over : length s ≤ at → none ≡ placed readStructural s at
-  unfolding readStructural
-  structural-over h = sym (placed-none readStructural s at (rw (over s at h)))
+  pub structural-over : length s ≤ at → none ≡ placed read_structural s at
+  unfolding read_structural
+  structural-over h = sym (placed-none read_structural s at (rw (over s at h)))
 
-  pub structural-not : at < length s → isStructural (get_or s at 0) ≡ false → none ≡ placed readStructural s at
-  unfolding readStructural
-  structural-not h k = sym (placed-none readStructural s at (rw (here 0 s at h, k)))
+  pub structural-not : at < length s → is_structural (get_or s at 0) ≡ false → none ≡ placed read_structural s at
+  unfolding read_structural
+  structural-not h k = sym (placed-none read_structural s at (rw (here 0 s at h, k)))
 
-  pub structural-is : at < length s → (n : ℕ) → n ≡ runEnd isBlank s (at + 1) → (b : ℕ) → isStructural b ≡ true → get_or s at 0 ≡ b → some (b, n) ≡ placed readStructural s at
-  unfolding readStructural
+  pub structural-is : at < length s → (n : ℕ) → n ≡ run_end is_blank s (at + 1) → (b : ℕ) → is_structural b ≡ true → get_or s at 0 ≡ b → some (b, n) ≡ placed read_structural s at
+  unfolding read_structural
   structural-is h n is b k e =
-      let w = run-within isBlank s (at + 1) n is (omega arith) in
-      sym (placed-reads readStructural s at b n (record {
+      let w = run-within is_blank s (at + 1) n is (omega arith) in
+      sym (placed-reads read_structural s at b n (record {
         from = omega arith;
         to = w.1;
         is = rw (here 0 s at h, e, k, skip_at s (at + 1) n is);
       }))
 
 -- ── A key, and a value ──
-pub key-spaced : (s : Bytes) → readKey s ≡ (readBetween Name 0x22 1 maxKey s >>= λ t. some (t.0, skip t.1))
-unfolding readKey readQuoted token text
+pub key-spaced : (s : Bytes) → read_key s ≡ (read_between Name 0x22 1 max_key s >>= λ t. some (t.0, skip t.1))
+unfolding read_key read_quoted token text
 key-spaced s =
-    bind-same (after (0x22 ∷ []) s) _ _ (λ s₁. let (k, r) = span nameByte s₁ in ap (λ (o : Option (Bytes × Bytes)). check (is_key k) >> o) (blanks-last k (after (0x22 ∷ []) r)) ∙ sym (check_bind (is_key k) _ _))
+    bind-same (after (0x22 ∷ []) s) _ _ (λ s₁. let (k, r) = span name_byte s₁ in ap (λ (o : Option (Bytes × Bytes)). check (is_key k) >> o) (blanks-last k (after (0x22 ∷ []) r)) ∙ sym (check_bind (is_key k) _ _))
     ∙ sym (bind-bind (after (0x22 ∷ []) s) _ _)
     ∙ ap (λ (o : Option (Bytes × Bytes)). o >>= λ t. some (t.0, skip t.1)) (quoted-between 0x22 s)
 
-pub key-leaves : LeavesEnd readKey
-key-leaves = spaced-leaves _ _ key-spaced (between-leaves Name 0x22 1 maxKey)
+pub key-leaves : LeavesEnd read_key
+key-leaves = spaced-leaves _ _ key-spaced (between-leaves Name 0x22 1 max_key)
 
 module _ (s : Bytes) (at : ℕ) where
   -- a key that stands in quotes
-  pub key-is : (e : ℕ) → Stands Name 0x22 1 maxKey s at e → (n : ℕ) → n ≡ runEnd isBlank s e → keyAnswer s (key-at.At (at + 1) (e - 1) n) ≡ placed readKey s at
+  pub key-is : (e : ℕ) → Stands Name 0x22 1 max_key s at e → (n : ℕ) → n ≡ run_end is_blank s e → key_answer s (key-at.At (at + 1) (e - 1) n) ≡ placed read_key s at
   key-is e q n is =
       let m : e - 1 - (at + 1) ≡ e - 2 - at = omega arith in
       rw m (spaced-reads _ _ key-spaced s at _ e q.reads n is)
 
-pub scalar-spaced : (s : Bytes) → readScalar s ≡ (readValue s >>= λ t. some (t.0, skip t.1))
-unfolding readScalar
+pub scalar-spaced : (s : Bytes) → read_scalar s ≡ (read_value s >>= λ t. some (t.0, skip t.1))
+unfolding read_scalar
 scalar-spaced s = refl
 
-pub scalar-leaves : LeavesEnd readScalar
+pub scalar-leaves : LeavesEnd read_scalar
 scalar-leaves = spaced-leaves _ _ scalar-spaced value-leaves
 
 -- ── For a caller: what an answer says ──
@@ -172,7 +172,7 @@ answers : ℕ → Option (ℕ × ℕ) → Bool
 answers b none = false
 answers b (some p) = eqb b p.0
 
-variant-not : (b : ℕ) (x : TokenAt) → true ≡ not (eqb b (get_or structurals (tag_of the_type x) 0)) → answers b (tokenAnswer x) ≡ false
+variant-not : (b : ℕ) (x : TokenAt) → true ≡ not (eqb b (get_or structurals (tag_of the_type x) 0)) → answers b (token_answer x) ≡ false
 unfolding structurals answers
 variant-not b (Open e) h = not-true _ (sym h)
 variant-not b (Close e) h = not-true _ (sym h)
@@ -180,87 +180,87 @@ variant-not b (Colon e) h = not-true _ (sym h)
 variant-not b (Comma e) h = not-true _ (sym h)
 variant-not b Bad h = refl
 
-module _ (s : Bytes) (at : ℕ) (x : TokenAt) (answer : tokenAnswer x ≡ placed readStructural s at) where
-  module _ (b : ℕ) (k : isStructural b ≡ true) where
-    structural-stands : at ≤ length s → (e : ℕ) → tokenAnswer x ≡ some (b, e) → Reads (readToken b) s at tt e
+module _ (s : Bytes) (at : ℕ) (x : TokenAt) (answer : token_answer x ≡ placed read_structural s at) where
+  module _ (b : ℕ) (k : is_structural b ≡ true) where
+    structural-stands : at ≤ length s → (e : ℕ) → token_answer x ≡ some (b, e) → Reads (read_token b) s at tt e
     unfolding ◌>>=◌
     structural-stands h e i =
-        let r = reads-placed readStructural s at structural-leaves h b e (sym answer ∙ i) in
+        let r = reads-placed read_structural s at structural-leaves h b e (sym answer ∙ i) in
         record { from = r.from; to = r.to; is = structural-given b k (drop at s) ∙ rw (r.is, eq-eqb b b refl) }
 
-    structural-other : answers b (tokenAnswer x) ≡ false → readToken b (drop at s) ≡ none
+    structural-other : answers b (token_answer x) ≡ false → read_token b (drop at s) ≡ none
     unfolding ◌>>=◌ placed behind answers
-    structural-other n = structural-given b k (drop at s) ∙ go (readStructural (drop at s)) (sym answer)
+    structural-other n = structural-given b k (drop at s) ∙ go (read_structural (drop at s)) (sym answer)
       where
-        go : (o : Option (ℕ × Bytes)) → behind s o ≡ tokenAnswer x → (o >>= only b) ≡ none
+        go : (o : Option (ℕ × Bytes)) → behind s o ≡ token_answer x → (o >>= only b) ≡ none
         go none i = refl
         go (some t) i = rw (rw (← i) at n)
 
   -- a token that the code's `let` told
   module _ (h : at ≤ length s) (e : ℕ) where
-    pub open-stands : x ≡ Open e → Reads (readToken 0x7B) s at tt e
-    unfolding isStructural
-    open-stands i = structural-stands 0x7B refl h e (ap tokenAnswer i)
+    pub open-stands : x ≡ Open e → Reads (read_token 0x7B) s at tt e
+    unfolding is_structural
+    open-stands i = structural-stands 0x7B refl h e (ap token_answer i)
 
-    pub close-stands : x ≡ Close e → Reads (readToken 0x7D) s at tt e
-    unfolding isStructural
-    close-stands i = structural-stands 0x7D refl h e (ap tokenAnswer i)
+    pub close-stands : x ≡ Close e → Reads (read_token 0x7D) s at tt e
+    unfolding is_structural
+    close-stands i = structural-stands 0x7D refl h e (ap token_answer i)
 
-    pub colon-stands : x ≡ Colon e → Reads (readToken 0x3A) s at tt e
-    unfolding isStructural
-    colon-stands i = structural-stands 0x3A refl h e (ap tokenAnswer i)
+    pub colon-stands : x ≡ Colon e → Reads (read_token 0x3A) s at tt e
+    unfolding is_structural
+    colon-stands i = structural-stands 0x3A refl h e (ap token_answer i)
 
-    pub comma-stands : x ≡ Comma e → Reads (readToken 0x2C) s at tt e
-    unfolding isStructural
-    comma-stands i = structural-stands 0x2C refl h e (ap tokenAnswer i)
+    pub comma-stands : x ≡ Comma e → Reads (read_token 0x2C) s at tt e
+    unfolding is_structural
+    comma-stands i = structural-stands 0x2C refl h e (ap token_answer i)
 
   -- a token that is none of the variants that the code's `else` tells by their numbers
-  no-structural : (b : ℕ) → isStructural b ≡ true → (ks : List ℕ) → any (differs (λ n. not (eqb b (get_or structurals n 0))) true) ks ≡ false → OneOf ks (tag_of the_type x)
-      → readToken b (drop at s) ≡ none
+  no-structural : (b : ℕ) → is_structural b ≡ true → (ks : List ℕ) → any (differs (λ n. not (eqb b (get_or structurals n 0))) true) ks ≡ false → OneOf ks (tag_of the_type x)
+      → read_token b (drop at s) ≡ none
   no-structural b k ks t h = structural-other b k (variant-not b x (keyed (λ n. not (eqb b (get_or structurals n 0))) true ks t _ h))
 
-  pub no-open : OneOf (1 ∷ 2 ∷ 3 ∷ 4 ∷ []) (tag_of the_type x) → readToken 0x7B (drop at s) ≡ none
-  unfolding isStructural any structurals
+  pub no-open : OneOf (1 ∷ 2 ∷ 3 ∷ 4 ∷ []) (tag_of the_type x) → read_token 0x7B (drop at s) ≡ none
+  unfolding is_structural any structurals
   no-open = no-structural 0x7B refl (1 ∷ 2 ∷ 3 ∷ 4 ∷ []) refl
 
-  pub no-close : OneOf (0 ∷ 2 ∷ 3 ∷ 4 ∷ []) (tag_of the_type x) → readToken 0x7D (drop at s) ≡ none
-  unfolding isStructural any structurals
+  pub no-close : OneOf (0 ∷ 2 ∷ 3 ∷ 4 ∷ []) (tag_of the_type x) → read_token 0x7D (drop at s) ≡ none
+  unfolding is_structural any structurals
   no-close = no-structural 0x7D refl (0 ∷ 2 ∷ 3 ∷ 4 ∷ []) refl
 
-  pub no-colon : OneOf (0 ∷ 1 ∷ 3 ∷ 4 ∷ []) (tag_of the_type x) → readToken 0x3A (drop at s) ≡ none
-  unfolding isStructural any structurals
+  pub no-colon : OneOf (0 ∷ 1 ∷ 3 ∷ 4 ∷ []) (tag_of the_type x) → read_token 0x3A (drop at s) ≡ none
+  unfolding is_structural any structurals
   no-colon = no-structural 0x3A refl (0 ∷ 1 ∷ 3 ∷ 4 ∷ []) refl
 
-  pub no-comma : OneOf (0 ∷ 1 ∷ 2 ∷ 4 ∷ []) (tag_of the_type x) → readToken 0x2C (drop at s) ≡ none
-  unfolding isStructural any structurals
+  pub no-comma : OneOf (0 ∷ 1 ∷ 2 ∷ 4 ∷ []) (tag_of the_type x) → read_token 0x2C (drop at s) ≡ none
+  unfolding is_structural any structurals
   no-comma = no-structural 0x2C refl (0 ∷ 1 ∷ 2 ∷ 4 ∷ []) refl
 
-module _ (f : Reader ℕ Bytes) (s : Bytes) (at : ℕ) (x : KeyAt) (answer : keyAnswer s x ≡ placed f s at) where
+module _ (f : Reader ℕ Bytes) (s : Bytes) (at : ℕ) (x : KeyAt) (answer : key_answer s x ≡ placed f s at) where
   pub key-bad : x ≡ key-at.Bad → f (drop at s) ≡ none
-  key-bad i = none-placed f s at (told (keyAnswer s) answer i)
+  key-bad i = none-placed f s at (told (key_answer s) answer i)
 
   pub key_reads : LeavesEnd f → at ≤ length s → (a e n : ℕ) → x ≡ key-at.At a e n → Reads f s at (take (e - a) (drop a s)) n
-  key_reads leaves h a e n i = reads-placed f s at leaves h _ n (told (keyAnswer s) answer i)
+  key_reads leaves h a e n i = reads-placed f s at leaves h _ n (told (key_answer s) answer i)
 
-module _ (s : Bytes) (at : ℕ) (x : ValueAt) (answer : valueAnswer s x ≡ placed readScalar s at) where
-  pub scalar-bad : x ≡ value-at.Bad → readScalar (drop at s) ≡ none
-  scalar-bad i = none-placed readScalar s at (told (valueAnswer s) answer i)
+module _ (s : Bytes) (at : ℕ) (x : ValueAt) (answer : value_answer s x ≡ placed read_scalar s at) where
+  pub scalar-bad : x ≡ value-at.Bad → read_scalar (drop at s) ≡ none
+  scalar-bad i = none-placed read_scalar s at (told (value_answer s) answer i)
 
-  pub scalar-reads : at ≤ length s → (v : Scalar) (e : ℕ) → x ≡ value-at.At v e → Reads readScalar s at (valueIn s v) e
-  scalar-reads h v e i = reads-placed readScalar s at scalar-leaves h (valueIn s v) e (told (valueAnswer s) answer i)
+  pub scalar-reads : at ≤ length s → (v : Scalar) (e : ℕ) → x ≡ value-at.At v e → Reads read_scalar s at (value_in s v) e
+  scalar-reads h v e i = reads-placed read_scalar s at scalar-leaves h (value_in s v) e (told (value_answer s) answer i)
 
 -- a token as the model has it; it takes its byte
 module _ (b : ℕ) (s : Bytes) where
-  pub token-none : readToken b s ≡ none → token (b ∷ []) s ≡ none
-  unfolding readToken ◌>>=◌
+  pub token-none : read_token b s ≡ none → token (b ∷ []) s ≡ none
+  unfolding read_token ◌>>=◌
   token-none h = go (token (b ∷ []) s) h
     where
       go : (o : Option Bytes) → (o >>= with_rest {A = Unit {0}} tt) ≡ none → o ≡ none
       go none h = refl
       go (some r) h = none-some (sym h)
 
-  pub token-some : (r : Bytes) → readToken b s ≡ some (tt, r) → token (b ∷ []) s ≡ some r
-  unfolding readToken
+  pub token-some : (r : Bytes) → read_token b s ≡ some (tt, r) → token (b ∷ []) s ≡ some r
+  unfolding read_token
   token-some r h = bind-some _ _ _ h λ u i j. i ∙ ap (λ (t : Unit {0} × Bytes). some t.1) (some_same j)
 
   token-shortens : (r : Bytes) → token (b ∷ []) s ≡ some r → length r < length s
@@ -269,68 +269,68 @@ module _ (b : ℕ) (s : Bytes) where
       let w = skip-leaves u in
       omega (arith, ap length (after-some (b ∷ []) s u i), ap length (some_same j), ap length w.2, length-drop w.0 u)
 
-pub token-moves : (b : ℕ) (s : Bytes) (at e : ℕ) → Reads (readToken b) s at tt e → at < e
+pub token-moves : (b : ℕ) (s : Bytes) (at e : ℕ) → Reads (read_token b) s at tt e → at < e
 token-moves b s at e r = omega (arith, token-shortens b _ _ (token-some b _ _ r.is), length-drop at s, length-drop e s, r.to)
 
 pub token-rest : (b : ℕ) (s r : Bytes) → token (b ∷ []) s ≡ some r → (n : ℕ) × (n ≤ length s) × (r ≡ drop n s)
-unfolding readToken ◌>>=◌
+unfolding read_token ◌>>=◌
 token-rest b s r i = token-leaves b s (tt, r) (rw i)
 
 pub token-then : {A : Type 0} (b : ℕ) (f : Reader ℕ A) → LeavesEnd f → LeavesEnd (λ x. token (b ∷ []) x >>= f)
 token-then b f p s t h = bind-some (token (b ∷ []) s) f t h λ r i j. rest-on s r t.1 (token-rest b s r i) (p r t j)
 
 -- ── A key and its colon ──
-pub member-leaves : LeavesEnd readMember
-unfolding readMember text
-member-leaves = leaves-bind readKey (λ k x. token (0x3A ∷ []) x >>= λ y. some (k, y)) key-leaves (λ k. token-then 0x3A _ (leaves-some k))
+pub member-leaves : LeavesEnd read_member
+unfolding read_member text
+member-leaves = leaves-bind read_key (λ k x. token (0x3A ∷ []) x >>= λ y. some (k, y)) key-leaves (λ k. token-then 0x3A _ (leaves-some k))
 
 module _ (s : Bytes) (at : ℕ) where
-  pub member-no-key : readKey (drop at s) ≡ none → none ≡ placed readMember s at
-  unfolding readMember ◌>>=◌
-  member-no-key h = sym (placed-none readMember s at (rw h))
+  pub member-no-key : read_key (drop at s) ≡ none → none ≡ placed read_member s at
+  unfolding read_member ◌>>=◌
+  member-no-key h = sym (placed-none read_member s at (rw h))
 
-  module _ (name : Bytes) (k : ℕ) (key : Reads readKey s at name k) where
-    pub member-no-colon : readToken 0x3A (drop k s) ≡ none → none ≡ placed readMember s at
-    unfolding readMember text ◌>>=◌
-    member-no-colon h = sym (placed-none readMember s at (rw (key.is, token-none 0x3A _ h)))
+  module _ (name : Bytes) (k : ℕ) (key : Reads read_key s at name k) where
+    pub member-no-colon : read_token 0x3A (drop k s) ≡ none → none ≡ placed read_member s at
+    unfolding read_member text ◌>>=◌
+    member-no-colon h = sym (placed-none read_member s at (rw (key.is, token-none 0x3A _ h)))
 
-    pub member_is : (v : ℕ) → Reads (readToken 0x3A) s k tt v → some (name, v) ≡ placed readMember s at
-    unfolding readMember text ◌>>=◌
-    member_is v colon = sym (placed-reads readMember s at name v (record {
+    pub member_is : (v : ℕ) → Reads (read_token 0x3A) s k tt v → some (name, v) ≡ placed read_member s at
+    unfolding read_member text ◌>>=◌
+    member_is v colon = sym (placed-reads read_member s at name v (record {
       from = omega (arith, key.from, colon.from);
       to = colon.to;
       is = rw (key.is, token-some 0x3A _ _ colon.is);
     }))
 
 -- a member takes a byte
-pub member-moves : (s : Bytes) (at : ℕ) (name : Bytes) (v : ℕ) → Reads readMember s at name v → at < v
-unfolding readMember text
+pub member-moves : (s : Bytes) (at : ℕ) (name : Bytes) (v : ℕ) → Reads read_member s at name v → at < v
+unfolding read_member text
 member-moves s at name v r =
-    bind-some (readKey (drop at s)) _ _ r.is λ t i j.
+    bind-some (read_key (drop at s)) _ _ r.is λ t i j.
     bind-some _ _ _ j λ u m n.
     let w = key-leaves (drop at s) t i in
     let same : ◌≡◌ {A = Bytes × Bytes} (t.0, u) (name, drop v s) = some_same n in
     omega (arith, token-shortens 0x3A t.1 u m, ap length w.2, length-drop w.0 (drop at s), ap (λ (p : Bytes × Bytes). length p.1) same, length-drop at s, length-drop v s, r.to)
 
 -- a member's key stands between its quotes
-pub member-quoted : (l name r : Bytes) → readMember l ≡ some (name, r) → (r₁ : Bytes) × Quoted Name 0x22 1 maxKey l name r₁
-unfolding readMember
+pub member-quoted : (l name r : Bytes) → read_member l ≡ some (name, r) → (r₁ : Bytes) × Quoted Name 0x22 1 max_key l name r₁
+unfolding read_member
 member-quoted l name r h =
-    bind-some (readKey l) _ _ h λ t i j.
+    bind-some (read_key l) _ _ h λ t i j.
     bind-some _ _ _ j λ u m n.
-    bind-some (readBetween Name 0x22 1 maxKey l) _ _ (sym (key-spaced l) ∙ i) λ q v w.
+    bind-some (read_between Name 0x22 1 max_key l) _ _ (sym (key-spaced l) ∙ i) λ q v w.
     let e : q.0 ≡ name = ap (λ (p : Bytes × Bytes). p.0) (some_same w) ∙ ap (λ (p : Bytes × Bytes). p.0) (some_same n) in
-    (q.1, rw e at (between-gives Name 0x22 1 maxKey l q.0 q.1 v))
+    (q.1, rw e at (between-gives Name 0x22 1 max_key l q.0 q.1 v))
 
 -- a member whose key stands from `from` to `to`, and what it holds from v on
 pub record MemberStands (s : Bytes) (at from to v : ℕ) : Type 0 where
   pub quote : from ≡ at + 1
   pub least : from < to
   pub colon : to + 1 < v
-  pub reads : Reads readMember s at (take (to - from) (drop from s)) v
+  pub reads : Reads read_member s at (take (to - from) (drop from s)) v
 
-pub member-stands : (s : Bytes) (at : ℕ) (x : KeyAt) → keyAnswer s x ≡ placed readMember s at → MemberInText at x s → at ≤ length s
+pub member-stands : (s : Bytes) (at : ℕ) (x : KeyAt) → key_answer s x ≡ placed read_member s at → MemberInText at x s → at ≤ length s
     → (from to v : ℕ) → x ≡ key-at.At from to v → MemberStands s at from to v
 member-stands s at x answer inside h from to v i =
     let w = rw i at inside in
-    record { quote = w.0; least = w.1; colon = w.2; reads = key_reads readMember s at x answer member-leaves h from to v i }
+    record { quote = w.0; least = w.1; colon = w.2; reads = key_reads read_member s at x answer member-leaves h from to v i }

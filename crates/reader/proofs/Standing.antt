@@ -10,72 +10,72 @@ use lib.ListN.{length, get_or, take, drop, length-drop}
 use lib.Seq.{drop-drop, length-take-le, take-append-add}
 use Rattle.rows.proofs.Positions.{here, over}
 use Rattle.model.specs.Base.{Bytes, any, all, among, is_some, after, within, ◌==◌}
-use Rattle.model.specs.Names.{nameByte}
-use Rattle.model.specs.RecordText.{Node, Members, noMembers, member, keysIn}
+use Rattle.model.specs.Names.{name_byte}
+use Rattle.model.specs.RecordText.{Node, Members, no_members, member, keys_in}
 use Rattle.model.proofs.Lists.{by_cases, never, and_both}
 use Rattle.lexical.specs.declared.class.Class.TheVariants.{Name}
 use Rattle.lexical.proofs.Between.{Quoted}
 use Rattle.lexical.proofs.Slices.{after-short}
-use Rattle.reader.specs.Summaries.{standsAtOne}
-use Rattle.model.specs.Limits.{maxKey}
+use Rattle.reader.specs.Summaries.{stands_at_one}
+use Rattle.model.specs.Limits.{max_key}
 
 -- ── A loop over the positions: what stands at the next, and none left ──
 module _ (w s : Bytes) (at : List ℕ) (i : ℕ) where
   module _ (h : i < length at) where
-    pub stands-step : standsAtOne w s (drop i at) ≡ (is_some (after w (drop (get_or at i 0) s)) || standsAtOne w s (drop (i + 1) at))
-    unfolding standsAtOne any
+    pub stands-step : stands_at_one w s (drop i at) ≡ (is_some (after w (drop (get_or at i 0) s)) || stands_at_one w s (drop (i + 1) at))
+    unfolding stands_at_one any
     stands-step = rw (here 0 at i h)
 
     -- no word stands behind the end of the text
-    pub stands-past : 0 < length w → length s ≤ get_or at i 0 → standsAtOne w s (drop i at) ≡ standsAtOne w s (drop (i + 1) at)
+    pub stands-past : 0 < length w → length s ≤ get_or at i 0 → stands_at_one w s (drop i at) ≡ stands_at_one w s (drop (i + 1) at)
     stands-past p q = stands-step ∙ rw (over s (get_or at i 0) q, after-short w [] (omega arith))
 
-  pub stands-over : length at ≤ i → standsAtOne w s (drop i at) ≡ false
-  unfolding standsAtOne any
+  pub stands-over : length at ≤ i → stands_at_one w s (drop i at) ≡ false
+  unfolding stands_at_one any
   stands-over h = rw (over at i h)
 
 -- one position more
-stands-more : (w s : Bytes) (at : List ℕ) (a : ℕ) → standsAtOne w s (at ++ a ∷ []) ≡ (is_some (after w (drop a s)) || standsAtOne w s at)
-unfolding standsAtOne any
+stands-more : (w s : Bytes) (at : List ℕ) (a : ℕ) → stands_at_one w s (at ++ a ∷ []) ≡ (is_some (after w (drop a s)) || stands_at_one w s at)
+unfolding stands_at_one any
 stands-more w s [] a = refl
 stands-more w s (b ∷ at) a = by_cases (is_some (after w (drop b s)))
     (λ e. rw e (by_cases (is_some (after w (drop a s))) (λ f. rw f) (λ f. rw f)))
     (λ e. rw e (stands-more w s at a))
 
 -- ── A key and the quote behind it, which is in no key, say the key ──
-no-quote : (x : ℕ) → nameByte x ≡ true → x ≡ 0x22 → ⊥
-unfolding nameByte within
+no-quote : (x : ℕ) → name_byte x ≡ true → x ≡ 0x22 → ⊥
+unfolding name_byte within
 no-quote x h e = never (sym h ∙ rw e)
 
-same_key : (k b r : Bytes) → all nameByte k ≡ true → all nameByte b ≡ true → is_some (after (k ++ 0x22 ∷ []) (b ++ 0x22 ∷ r)) ≡ (k == b)
+same_key : (k b r : Bytes) → all name_byte k ≡ true → all name_byte b ≡ true → is_some (after (k ++ 0x22 ∷ []) (b ++ 0x22 ∷ r)) ≡ (k == b)
 unfolding after all is_some ◌==◌
 same_key [] [] r p q = refl
-same_key [] (y ∷ b) r p q = rw (ne_eqb 0x22 y (λ e. no-quote y (and_both (nameByte y) _ q).0 (sym e)))
-same_key (x ∷ k) [] r p q = rw (ne_eqb x 0x22 (no-quote x (and_both (nameByte x) _ p).0))
+same_key [] (y ∷ b) r p q = rw (ne_eqb 0x22 y (λ e. no-quote y (and_both (name_byte y) _ q).0 (sym e)))
+same_key (x ∷ k) [] r p q = rw (ne_eqb x 0x22 (no-quote x (and_both (name_byte x) _ p).0))
 same_key (x ∷ k) (y ∷ b) r p q = by_cases (eqb x y)
-    (λ e. rw e (same_key k b r (and_both (nameByte x) _ p).1 (and_both (nameByte y) _ q).1))
+    (λ e. rw e (same_key k b r (and_both (name_byte x) _ p).1 (and_both (name_byte y) _ q).1))
     (λ e. rw e)
 
 -- ── The positions xs of keys in s are those of the keys of m ──
 abbrev pub Names : Bytes → List ℕ → Members → Type 0
-Names s xs m = (k : Bytes) → all nameByte k ≡ true → standsAtOne (k ++ 0x22 ∷ []) s xs ≡ among k (keysIn m)
+Names s xs m = (k : Bytes) → all name_byte k ≡ true → stands_at_one (k ++ 0x22 ∷ []) s xs ≡ among k (keys_in m)
 
-pub names-none : (s : Bytes) → Names s [] noMembers
-unfolding standsAtOne among keysIn any
+pub names-none : (s : Bytes) → Names s [] no_members
+unfolding stands_at_one among keys_in any
 names-none s k h = refl
 
 module _ (s : Bytes) (xs : List ℕ) (m : Members) (named : Names s xs m)
-    (name r : Bytes) (i : ℕ) (q : Quoted Name 0x22 1 maxKey (drop i s) name r) (from : ℕ) (next : from ≡ i + 1) where
+    (name r : Bytes) (i : ℕ) (q : Quoted Name 0x22 1 max_key (drop i s) name r) (from : ℕ) (next : from ≡ i + 1) where
   behind-quote : drop from s ≡ name ++ 0x22 ∷ r
   behind-quote = rw next (sym (drop-drop 1 i s) ∙ ap (drop 1) q.is)
 
   pub names_more : (a : Node) → Names s (xs ++ from ∷ []) (member m name a)
-  unfolding among keysIn any
+  unfolding among keys_in any
   names_more a k h = stands-more (k ++ 0x22 ∷ []) s xs from ∙ rw (behind-quote, same_key k name r h q.passes, named k h)
 
   -- a key and its quote, as a part of the text
   pub word-seen : (to : ℕ) → from ≤ to → to ≤ length s → name ≡ take (to - from) (drop from s)
-      → standsAtOne (take (to + 1 - from) (drop from s)) s xs ≡ among name (keysIn m)
+      → stands_at_one (take (to + 1 - from) (drop from s)) s xs ≡ among name (keys_in m)
   word-seen to f t e =
       let l : length name ≡ to - from = ap length e ∙ length-take-le _ _ (rw length-drop (omega arith)) in
       let n : to + 1 - from ≡ length name + 1 = omega arith in

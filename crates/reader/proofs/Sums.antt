@@ -10,24 +10,24 @@ use lib.ListN.{length, take, drop, set}
 use lib.Seq.{take-take, take-set-le, take-suc-set, drop-append-le, length-take-le}
 use Rattle.rows.proofs.Rows.{drop-take}
 use Rattle.model.specs.Base.{Bytes, among}
-use Rattle.model.specs.RecordText.{Node, Members, noMembers, member, keysIn, twiceIn, twice, countIn, count}
-use Rattle.reader.specs.Summaries.{memberBytes, HaveRoom, standsAtOne, summary, FieldsWithin}
+use Rattle.model.specs.RecordText.{Node, Members, no_members, member, keys_in, twice_in, twice, count_in, count}
+use Rattle.reader.specs.Summaries.{member_bytes, HaveRoom, stands_at_one, summary, FieldsWithin}
 use Rattle.reader.specs.declared.grammar.ObjectAt.{ObjectAt}
 use Rattle.reader.specs.declared.grammar.ObjectAt.TheVariants.{At, Bad}
 use Rattle.reader.proofs.Spaced.{MemberStands, member-quoted}
 use Rattle.reader.proofs.Standing.{Names, names-none, names_more, word-seen}
 
 -- of what a key holds: how many fields it has, and whether a key stands in it twice
-unfoldable pub nodeSummary : Node → ℕ × Bool
-nodeSummary a = (countIn a, twiceIn a)
+unfoldable pub node_summary : Node → ℕ × Bool
+node_summary a = (count_in a, twice_in a)
 
 -- the summary with one member more
 summary-more : (m : Members) (name : Bytes) (a : Node) (fields more : ℕ) (doubled again : Bool)
-    → summary m ≡ (fields, doubled) → nodeSummary a ≡ (more, again)
-    → summary (member m name a) ≡ (fields + more, among name (keysIn m) || again || doubled)
-unfolding summary nodeSummary count twice
+    → summary m ≡ (fields, doubled) → node_summary a ≡ (more, again)
+    → summary (member m name a) ≡ (fields + more, among name (keys_in m) || again || doubled)
+unfolding summary node_summary count twice
 summary-more m name a fields more doubled again p q =
-    ap₂ (λ (x y : ℕ × Bool). (x.0 + y.0, among name (keysIn m) || (y.1 || x.1))) p q ∙ rw or_assoc
+    ap₂ (λ (x y : ℕ × Bool). (x.0 + y.0, among name (keys_in m) || (y.1 || x.1))) p q ∙ rw or_assoc
 
 -- one position more in the table, whose places behind that one may be others
 positions-more : (top : ℕ) (keys now : List ℕ) (n a : ℕ) → top ≤ n → n < length keys → take (n + 1) now ≡ take (n + 1) (set keys n a)
@@ -41,13 +41,13 @@ positions-more top keys now n a above room same =
 pub record Sums (s : Bytes) (at top : ℕ) (keys₀ keys : List ℕ) (n fields : ℕ) (doubled : Bool) (m : Members) (i : ℕ) : Type 0 where
   pub long : length keys ≡ length keys₀
   pub above : top ≤ n
-  pub room : memberBytes * n ≤ i
+  pub room : member_bytes * n ≤ i
   pub kept : take top keys ≡ take top keys₀
   pub names : Names s (take (n - top) (drop top keys)) m
   pub within : at + fields ≤ i
   pub sums : summary m ≡ (fields, doubled)
 
-pub sums-start : (s : Bytes) (at top : ℕ) (keys : List ℕ) (o : ℕ) → memberBytes * top ≤ at → at ≤ o → Sums s at top keys keys top 0 false noMembers o
+pub sums-start : (s : Bytes) (at top : ℕ) (keys : List ℕ) (o : ℕ) → member_bytes * top ≤ at → at ≤ o → Sums s at top keys keys top 0 false no_members o
 unfolding summary count twice
 sums-start s at top keys o r f = record {
   long = refl;
@@ -82,14 +82,14 @@ module _ (s : Bytes) (at top : ℕ) (keys₀ keys : List ℕ) (n fields : ℕ) (
     pub sums-room : n < length keys
     sums-room = omega (arith, before.long, before.room, key.quote, key.least, key.colon, key.reads.to)
 
-    sums-seen : standsAtOne (take (to + 1 - from) (drop from s)) s (take (n - top) (drop top keys)) ≡ among (take (to - from) (drop from s)) (keysIn m)
+    sums-seen : stands_at_one (take (to + 1 - from) (drop from s)) s (take (n - top) (drop top keys)) ≡ among (take (to - from) (drop from s)) (keys_in m)
     sums-seen =
         let q = member-quoted _ _ _ key.reads.is in
         word-seen s _ m before.names _ q.0 i q.1 from key.quote to (omega (arith, key.least)) (omega (arith, key.colon, key.reads.to)) refl
 
-    pub sums-more : (seen : Bool) → seen ≡ standsAtOne (take (to + 1 - from) (drop from s)) s (take (n - top) (drop top keys))
+    pub sums-more : (seen : Bool) → seen ≡ stands_at_one (take (to + 1 - from) (drop from s)) s (take (n - top) (drop top keys))
         → (now : List ℕ) → length now ≡ length keys₀ → take (n + 1) now ≡ take (n + 1) (set keys n from)
-        → (a : Node) (e more : ℕ) (again : Bool) → v ≤ e → i + more ≤ e → nodeSummary a ≡ (more, again)
+        → (a : Node) (e more : ℕ) (again : Bool) → v ≤ e → i + more ≤ e → node_summary a ≡ (more, again)
         → Sums s at top keys₀ now (n + 1) (fields + more) (seen || again || doubled) (member m (take (to - from) (drop from s)) a) e
     sums-more seen is now l same a e more again f w is_sum =
         let q = member-quoted _ _ _ key.reads.is in

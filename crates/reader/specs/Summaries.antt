@@ -11,25 +11,25 @@ use Rattle.reader.specs.declared.grammar.RecordRead.TheVariants as record-read
 
 -- ── Keys of a text ──
 -- a key, its quotes and its colon take at least these bytes
-abbrev pub memberBytes : ℕ
-memberBytes = 4
+abbrev pub member_bytes : ℕ
+member_bytes = 4
 
 -- so the keys of a text s have room in a table
 abbrev pub HaveRoom : Bytes → List ℕ → Type 0
-HaveRoom s keys = length s ≤ memberBytes * length keys
+HaveRoom s keys = length s ≤ member_bytes * length keys
 
 -- ── Meanings ──
 -- the word w stands in s at one of the positions
-unfoldable pub standsAtOne : Bytes → Bytes → List ℕ → Bool
-standsAtOne w s at = any (λ i. is_some (after w (drop i s))) at
+unfoldable pub stands_at_one : Bytes → Bytes → List ℕ → Bool
+stands_at_one w s at = any (λ i. is_some (after w (drop i s))) at
 
 -- of an object: how many fields it has, and whether a key stands in it, or in an object in it, twice
 unfoldable pub summary : Members → ℕ × Bool
 summary m = (count m, twice m)
 
-abbrev pub objectAnswer : ObjectAt → Option ((ℕ × Bool) × ℕ)
-objectAnswer (object-at.At e n t) = some ((n, t), e)
-objectAnswer object-at.Bad = none
+abbrev pub object_answer : ObjectAt → Option ((ℕ × Bool) × ℕ)
+object_answer (object-at.At e n t) = some ((n, t), e)
+object_answer object-at.Bad = none
 
 -- an object has no more fields than bytes
 abbrev pub FieldsWithin : ℕ → ObjectAt → Type 0
@@ -43,7 +43,7 @@ reading_of s = do
   refuse 6 if twice m
   done (count m)
 
-abbrev pub readAnswer : RecordRead → Result ℕ ℕ
-readAnswer record-read.NotRecord = refused 8
-readAnswer record-read.KeyTwice = refused 6
-readAnswer (record-read.Fields n) = done n
+abbrev pub read_answer : RecordRead → Result ℕ ℕ
+read_answer record-read.NotRecord = refused 8
+read_answer record-read.KeyTwice = refused 6
+read_answer (record-read.Fields n) = done n

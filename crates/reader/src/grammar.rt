@@ -1,10 +1,10 @@
 // The grammar of records: whether a text is one, how many fields it has, and whether a key stands twice in one object.
 ghost use Rattle.std.specs.Prelude.{◌≡◌, ◌*◌, ◌≤◌, length, take};
 ghost use Rattle.rows.specs.Positions.{placed};
-ghost use Rattle.model.specs.Limits.{maxText};
-ghost use Rattle.model.specs.RecordText.{readObject};
-ghost use Rattle.reader.specs.Tokens.{mapped, readTop};
-ghost use Rattle.reader.specs.Summaries.{memberBytes, HaveRoom, summary, objectAnswer, FieldsWithin, reading_of, readAnswer};
+ghost use Rattle.model.specs.Limits.{max_text};
+ghost use Rattle.model.specs.RecordText.{read_object};
+ghost use Rattle.reader.specs.Tokens.{mapped, read_top};
+ghost use Rattle.reader.specs.Summaries.{member_bytes, HaveRoom, summary, object_answer, FieldsWithin, reading_of, read_answer};
 
 use crate::keys::note_key;
 use crate::tokens::{KeyAt, TokenAt, leaf_at, member_at, token_at};
@@ -39,8 +39,8 @@ pub enum RecordRead {
 
 // An object with members, in which at most `depth` keys stand one inside the other; `keys` has those of the objects around it before `top`.
 fn object_at(s: &[u8], at: usize, depth: usize, keys: &mut [u16], top: usize) -> ObjectAt
-    requires { (at ≤ length s.now) × (length s.now ≤ maxText) × HaveRoom s.now keys.old × (memberBytes * top ≤ at) }
-    ensures result_value { objectAnswer result ≡ placed (mapped summary (readObject depth)) s.now at }
+    requires { (at ≤ length s.now) × (length s.now ≤ max_text) × HaveRoom s.now keys.old × (member_bytes * top ≤ at) }
+    ensures result_value { object_answer result ≡ placed (mapped summary (read_object depth)) s.now at }
     ensures fields_within { FieldsWithin at result }
     ensures keys_unchanged { take top keys.new ≡ take top keys.old }
 {
@@ -83,8 +83,8 @@ fn object_at(s: &[u8], at: usize, depth: usize, keys: &mut [u16], top: usize) ->
 
 // The object of a record, which may be empty.
 fn top_at(s: &[u8], at: usize) -> ObjectAt
-    requires { (at ≤ length s.now) × (length s.now ≤ maxText) }
-    ensures { objectAnswer result ≡ placed (mapped summary readTop) s.now at }
+    requires { (at ≤ length s.now) × (length s.now ≤ max_text) }
+    ensures { object_answer result ≡ placed (mapped summary read_top) s.now at }
 {
     let TokenAt::Open(open) = token_at(s, at) else {
         return ObjectAt::Bad;
@@ -102,8 +102,8 @@ fn top_at(s: &[u8], at: usize) -> ObjectAt
 
 // What a text says of itself as a record.
 pub fn read_summary(s: &[u8]) -> RecordRead
-    requires { length s.now ≤ maxText }
-    ensures { readAnswer result ≡ reading_of s.now }
+    requires { length s.now ≤ max_text }
+    ensures { read_answer result ≡ reading_of s.now }
 {
     let at = run(s, 0, Class::Blank);
     let ObjectAt::At(e, fields, twice) = top_at(s, at) else {

@@ -1,9 +1,9 @@
 // Tokens of record text, each with the blanks behind it.
 ghost use Rattle.std.specs.Prelude.{◌≡◌, ◌≤◌, length};
 ghost use Rattle.rows.specs.Positions.{placed};
-ghost use Rattle.model.specs.RecordText.{readKey};
-ghost use Rattle.values.specs.Scalars.{valueAnswer, AnswerInText};
-ghost use Rattle.reader.specs.Tokens.{readStructural, readScalar, tokenAnswer, keyAnswer, readMember, KeyInText, MemberInText};
+ghost use Rattle.model.specs.RecordText.{read_key};
+ghost use Rattle.values.specs.Scalars.{value_answer, AnswerInText};
+ghost use Rattle.reader.specs.Tokens.{read_structural, read_scalar, token_answer, key_answer, read_member, KeyInText, MemberInText};
 
 use lexical::class::{Class, End, between, run};
 use lexical::limits::MAX_KEY;
@@ -29,7 +29,7 @@ pub enum KeyAt {
 // The token of one byte that stands at a position.
 pub fn token_at(s: &[u8], at: usize) -> TokenAt
     requires { at ≤ length s.now }
-    ensures { tokenAnswer result ≡ placed readStructural s.now at }
+    ensures { token_answer result ≡ placed read_structural s.now at }
 {
     if s.len() <= at {
         return TokenAt::Bad;
@@ -48,7 +48,7 @@ pub fn token_at(s: &[u8], at: usize) -> TokenAt
 // A key in quotes.
 pub fn key_at(s: &[u8], at: usize) -> KeyAt
     requires { at ≤ length s.now }
-    ensures result_value { keyAnswer s.now result ≡ placed readKey s.now at }
+    ensures result_value { key_answer s.now result ≡ placed read_key s.now at }
     ensures key_in_text { KeyInText at result s.now }
 {
     let End::At(e) = between(s, at, b'"', Class::Name, 1, MAX_KEY) else {
@@ -61,7 +61,7 @@ pub fn key_at(s: &[u8], at: usize) -> KeyAt
 // A key and the colon behind it: at least four bytes.
 pub fn member_at(s: &[u8], at: usize) -> KeyAt
     requires { at ≤ length s.now }
-    ensures result_value { keyAnswer s.now result ≡ placed readMember s.now at }
+    ensures result_value { key_answer s.now result ≡ placed read_member s.now at }
     ensures member_in_text { MemberInText at result s.now }
 {
     let KeyAt::At(from, to, e) = key_at(s, at) else {
@@ -76,7 +76,7 @@ pub fn member_at(s: &[u8], at: usize) -> KeyAt
 // A value.
 pub fn leaf_at(s: &[u8], at: usize) -> ValueAt
     requires { at ≤ length s.now }
-    ensures result_value { valueAnswer s.now result ≡ placed readScalar s.now at }
+    ensures result_value { value_answer s.now result ≡ placed read_scalar s.now at }
     ensures answer_in_text { AnswerInText result s.now }
 {
     let ValueAt::At(v, e) = value_at(s, at) else {

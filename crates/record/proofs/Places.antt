@@ -7,10 +7,10 @@ use mathlib.Core.Bool.{true, false}
 use mathlib.Core.List.{[], ◌∷◌}
 use native.Mathlib.Omega.{arith}
 use lib.ListN.{length, get_or, set}
-use Rattle.rows.specs.Rows.{insertAt}
+use Rattle.rows.specs.Rows.{insert_at}
 use Rattle.model.specs.Base.{is_some}
 use Rattle.model.specs.Values.{Value, truth}
-use Rattle.model.specs.Fields.{Keys, Field, Fields, orderPath, by_order, value_at, holds, put, field_of}
+use Rattle.model.specs.Fields.{Keys, Field, Fields, order_path, by_order, value_at, holds, put, field_of}
 use Rattle.model.proofs.Order.{by_three, path-orders, put-less, put_same, put-more, value-less, value_same, value-more}
 use Rattle.record.specs.declared.table.Place.TheVariants.{At, Before}
 use Rattle.record.specs.Search.{place_in}
@@ -29,28 +29,28 @@ record FoundBefore (p : Keys) (fs : Fields) (j i : ℕ) : Type 0 where
   place : i ≡ j + d
   within : d ≤ length fs
   value : value_at p fs ≡ none
-  stored : (v : Value) → put (field_of p v) fs ≡ insertAt d (field_of p v) fs
+  stored : (v : Value) → put (field_of p v) fs ≡ insert_at d (field_of p v) fs
 
 at_before : {C : Type 0} (i j : ℕ) → At i ≡ Before j → C
 at_before i j h = let z : ◌≡◌ {A = ℕ} 0 1 = cc in absurd (omega arith)
 
 module _ (p : Keys) where
   module _ (g : Field) (gs : Fields) (j : ℕ) where
-    place-less : orderPath p g.path ≡ Ordering.lt → place_in j p (g ∷ gs) ≡ Before j
+    place-less : order_path p g.path ≡ Ordering.lt → place_in j p (g ∷ gs) ≡ Before j
     unfolding place_in by_order
     place-less o = rw o
 
-    place_same : orderPath p g.path ≡ Ordering.eq → place_in j p (g ∷ gs) ≡ At j
+    place_same : order_path p g.path ≡ Ordering.eq → place_in j p (g ∷ gs) ≡ At j
     unfolding place_in by_order
     place_same o = rw o
 
-    place-more : orderPath p g.path ≡ Ordering.gt → place_in j p (g ∷ gs) ≡ place_in (suc j) p gs
+    place-more : order_path p g.path ≡ Ordering.gt → place_in j p (g ∷ gs) ≡ place_in (suc j) p gs
     unfolding place_in by_order
     place-more o = rw o
 
   found_at : (fs : Fields) (j i : ℕ) → place_in j p fs ≡ At i → FoundAt p fs j i
   found_at [] j i e = at_before i j (sym e ∙ (unfold place_in in refl))
-  found_at (g ∷ gs) j i e = by_three (orderPath p g.path)
+  found_at (g ∷ gs) j i e = by_three (order_path p g.path)
       (λ o. at_before i j (sym e ∙ place-less g gs j o))
       (λ o. let h = sym (place_same g gs j o) ∙ e in
       let s : j ≡ i = cc in
@@ -70,7 +70,7 @@ module _ (p : Keys) where
       let h : Before j ≡ Before i = unfold place_in in e in
       let s : j ≡ i = cc in
       record { d = 0; place = omega arith; within = omega arith; value = unfold value_at in refl; stored = λ v. unfold put in refl }
-  found_before (g ∷ gs) j i e = by_three (orderPath p g.path)
+  found_before (g ∷ gs) j i e = by_three (order_path p g.path)
       (λ o. let h = sym (place-less g gs j o) ∙ e in
       let s : j ≡ i = cc in
       record { d = 0; place = omega arith; within = omega arith; value = value-less p g gs o; stored = λ v. put-less (field_of p v) g gs o })
@@ -116,7 +116,7 @@ module _ (p : Keys) (fs : Fields) (i : ℕ) where
     pub before-within : i ≤ length fs
     before-within = omega (arith, before-place, before-found.within)
 
-    pub before-put : (v : Value) → put (field_of p v) fs ≡ insertAt i (field_of p v) fs
+    pub before-put : (v : Value) → put (field_of p v) fs ≡ insert_at i (field_of p v) fs
     before-put v = before-found.stored v ∙ rw before-place
 
     pub before-holds : holds p fs ≡ false

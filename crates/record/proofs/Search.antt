@@ -7,46 +7,46 @@ use mathlib.Core.List.{◌∷◌}
 use native.Mathlib.Numerals.{add-one}
 use native.Mathlib.Omega.{arith}
 use lib.ListN.{length, take, drop}
-use Rattle.layout.specs.Layout.{is_empty, inUse}
+use Rattle.layout.specs.Layout.{is_empty, in_use}
 use Rattle.layout.proofs.Used.{length-table, used-last, used-more, row-left}
 use Rattle.model.specs.Base.{Bytes}
-use Rattle.model.specs.Limits.{maxFields}
-use Rattle.model.specs.Fields.{Keys, orderPath, by_order}
+use Rattle.model.specs.Limits.{max_fields}
+use Rattle.model.specs.Fields.{Keys, order_path, by_order}
 use Rattle.lexical.specs.Orders.{order_of}
 use Rattle.lexical.specs.declared.slice.Order.{Order}
 use Rattle.lexical.specs.declared.slice.Order.TheVariants.{Greater}
 use Rattle.lexical.proofs.Slices.{order_in, order-told}
-use Rattle.paths.specs.Layout.{pathIn}
+use Rattle.paths.specs.Layout.{path_in}
 use Rattle.record.specs.declared.table.Place.TheVariants.{At, Before}
-use Rattle.record.specs.Slots.{slotBytes, fieldIn, fieldsIn}
+use Rattle.record.specs.Slots.{slot_bytes, field_in, fields_in}
 use Rattle.record.specs.Search.{place_in, SearchedTo}
 
 module _ (s : Bytes) where
   -- each slot in use holds one
-  pub fields-used : length (fieldsIn s) ≡ length (inUse slotBytes maxFields s)
-  unfolding fieldsIn
-  fields-used = length-table fieldIn slotBytes maxFields s
+  pub fields-used : length (fields_in s) ≡ length (in_use slot_bytes max_fields s)
+  unfolding fields_in
+  fields-used = length-table field_in slot_bytes max_fields s
 
   -- a loop that has passed i slots, all of them in use, by whether the slot at i is empty
-  module _ (i : ℕ) {slot : Bytes} (here : slot ≡ take slotBytes (drop (i * slotBytes) s)) (h : i < maxFields) (passed : i ≤ length (fieldsIn s)) where
-    pub fields-last : is_empty slot ≡ true → length (fieldsIn s) ≤ i
-    fields-last e = omega (arith, fields-used, used-last slotBytes maxFields s i h (omega (arith, fields-used)) here e)
+  module _ (i : ℕ) {slot : Bytes} (here : slot ≡ take slot_bytes (drop (i * slot_bytes) s)) (h : i < max_fields) (passed : i ≤ length (fields_in s)) where
+    pub fields-last : is_empty slot ≡ true → length (fields_in s) ≤ i
+    fields-last e = omega (arith, fields-used, used-last slot_bytes max_fields s i h (omega (arith, fields-used)) here e)
 
-    pub fields-more : is_empty slot ≡ false → i < length (fieldsIn s)
-    fields-more e = omega (arith, fields-used, used-more slotBytes maxFields s i h (omega (arith, fields-used)) here e)
+    pub fields-more : is_empty slot ≡ false → i < length (fields_in s)
+    fields-more e = omega (arith, fields-used, used-more slot_bytes max_fields s i h (omega (arith, fields-used)) here e)
 
-    pub fields-step : is_empty slot ≡ false → drop i (fieldsIn s) ≡ fieldIn slot ∷ drop (i + 1) (fieldsIn s)
-    unfolding fieldsIn
-    fields-step e = row-left fieldIn slotBytes maxFields s refl i (omega (arith, fields-used, fields-more e)) here
+    pub fields-step : is_empty slot ≡ false → drop i (fields_in s) ≡ field_in slot ∷ drop (i + 1) (fields_in s)
+    unfolding fields_in
+    fields-step e = row-left field_in slot_bytes max_fields s refl i (omega (arith, fields-used, fields-more e)) here
 
     -- the answer r of the comparison with the slot's path was matched with v
-    pub place-step : (p : Keys) {r v : Order} → is_empty slot ≡ false → r ≡ order_of (orderPath p (pathIn slot)) → r ≡ v
-        → place_in i p (drop i (fieldsIn s)) ≡ by_order (order_in v) (Before i) (At i) (place_in (i + 1) p (drop (i + 1) (fieldsIn s)))
-    unfolding place_in fieldIn
-    place-step p e q t = rw (fields-step e, order-told (orderPath p (pathIn slot)) q t, add-one)
+    pub place-step : (p : Keys) {r v : Order} → is_empty slot ≡ false → r ≡ order_of (order_path p (path_in slot)) → r ≡ v
+        → place_in i p (drop i (fields_in s)) ≡ by_order (order_in v) (Before i) (At i) (place_in (i + 1) p (drop (i + 1) (fields_in s)))
+    unfolding place_in field_in
+    place-step p e q t = rw (fields-step e, order-told (order_path p (path_in slot)) q t, add-one)
 
     -- the path is behind the slot's: a search that has come to the slot goes on behind it
-    pub searched-on : (p : Keys) → is_empty slot ≡ false → orderPath p (pathIn slot) ≡ Ordering.gt → place_in 0 p (fieldsIn s) ≡ place_in i p (drop i (fieldsIn s))
-        → SearchedTo (i + 1) p (fieldsIn s)
+    pub searched-on : (p : Keys) → is_empty slot ≡ false → order_path p (path_in slot) ≡ Ordering.gt → place_in 0 p (fields_in s) ≡ place_in i p (drop i (fields_in s))
+        → SearchedTo (i + 1) p (fields_in s)
     unfolding by_order
     searched-on p e o q = (omega (arith, fields-more e), q ∙ place-step p {v = Greater} e (ap order_of (sym o)) refl)

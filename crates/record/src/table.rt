@@ -1,10 +1,10 @@
 // A table of slots, sorted by path: the slots before the first empty one are in use.
 ghost use Rattle.std.specs.Prelude.{◌≡◌, false, ◌*◌, ◌≤◌, ◌<◌, length, take, drop};
-ghost use Rattle.model.specs.Limits.{maxFields};
+ghost use Rattle.model.specs.Limits.{max_fields};
 ghost use Rattle.layout.specs.Layout.{is_empty, Keeps};
-ghost use Rattle.paths.specs.Layout.{pathSlot, pathIn};
-ghost use Rattle.record.specs.Slots.{slotBytes, maskIn, fieldsIn, masksIn, CanonicalField, CanonicalFields};
-ghost use Rattle.record.specs.Search.{place_in, SearchedTo, storedBytes, storedSlot, storedMasks, storedIn};
+ghost use Rattle.paths.specs.Layout.{path_slot, path_in};
+ghost use Rattle.record.specs.Slots.{slot_bytes, mask_in, fields_in, masks_in, CanonicalField, CanonicalFields};
+ghost use Rattle.record.specs.Search.{place_in, SearchedTo, stored_bytes, stored_slot, stored_masks, stored_in};
 
 use crate::insert::insert_slot;
 use layout::table::{is_empty, replace_row, row_at, row_count};
@@ -36,23 +36,23 @@ pub enum Place {
 
 // The i-th slot.
 pub fn slot_at(table: &[u8; RECORD], i: usize) -> &[u8]
-    requires { i < maxFields }
-    ensures { (result.now ≡ take slotBytes (drop (i * slotBytes) table.now)) × (length result.now ≡ slotBytes) }
+    requires { i < max_fields }
+    ensures { (result.now ≡ take slot_bytes (drop (i * slot_bytes) table.now)) × (length result.now ≡ slot_bytes) }
 {
     row_at(table, SLOT, i)
 }
 
 // How many fields a table holds.
 pub fn count(table: &[u8; RECORD]) -> usize
-    ensures { result ≡ length (fieldsIn table.now) }
+    ensures { result ≡ length (fields_in table.now) }
 {
     row_count(table, SLOT, SLOTS)
 }
 
 // How far the search for a path comes by first words of first keys alone.
 fn passed_by_words(table: &[u8; RECORD], path: &[u8]) -> usize
-    requires { (pathSlot ≤ length path.now) × (is_empty path.now ≡ false) }
-    ensures { SearchedTo result (pathIn path.now) (fieldsIn table.now) }
+    requires { (path_slot ≤ length path.now) × (is_empty path.now ≡ false) }
+    ensures { SearchedTo result (path_in path.now) (fields_in table.now) }
 {
     let word = first_word(key_at(path, 0));
     let mut i: usize = 0;
@@ -71,8 +71,8 @@ fn passed_by_words(table: &[u8; RECORD], path: &[u8]) -> usize
 
 // How far the search for a path comes by first keys alone: most slots that it passes have a first key before the path's.
 fn passed(table: &[u8; RECORD], path: &[u8]) -> usize
-    requires { pathSlot ≤ length path.now }
-    ensures { SearchedTo result (pathIn path.now) (fieldsIn table.now) }
+    requires { path_slot ≤ length path.now }
+    ensures { SearchedTo result (path_in path.now) (fields_in table.now) }
 {
     if is_empty(path) {
         return 0;
@@ -94,8 +94,8 @@ fn passed(table: &[u8; RECORD], path: &[u8]) -> usize
 
 // Where the path of a slot stands in a table, or before which place it belongs.
 pub fn find(table: &[u8; RECORD], path: &[u8]) -> Place
-    requires { pathSlot ≤ length path.now }
-    ensures { result ≡ place_in 0 (pathIn path.now) (fieldsIn table.now) }
+    requires { path_slot ≤ length path.now }
+    ensures { result ≡ place_in 0 (path_in path.now) (fields_in table.now) }
 {
     let mut i: usize = passed(table, path);
     while i < SLOTS {
@@ -115,10 +115,10 @@ pub fn find(table: &[u8; RECORD], path: &[u8]) -> Place
 
 // The field of a slot, in the place of the one of its path or where it belongs, which a search has found.
 pub fn store_at(table: &mut [u8; RECORD], place: Place, slot: &[u8; SLOT])
-    requires { (is_empty slot.now ≡ false) × (place ≡ place_in 0 (pathIn slot.now) (fieldsIn table.old)) }
-    ensures table_after { fieldsIn table.new ≡ storedIn slot.now (fieldsIn table.old) }
-    ensures table_after_2 { masksIn table.new ≡ storedMasks place (maskIn slot.now) (masksIn table.old) }
-    ensures table_after_3 { table.new ≡ storedBytes place slot.now table.old }
+    requires { (is_empty slot.now ≡ false) × (place ≡ place_in 0 (path_in slot.now) (fields_in table.old)) }
+    ensures table_after { fields_in table.new ≡ stored_in slot.now (fields_in table.old) }
+    ensures table_after_2 { masks_in table.new ≡ stored_masks place (mask_in slot.now) (masks_in table.old) }
+    ensures table_after_3 { table.new ≡ stored_bytes place slot.now table.old }
 {
     match place {
         Place::At(at) => replace_row(table, SLOT, SLOTS, at, slot),
@@ -132,9 +132,9 @@ pub fn store_at(table: &mut [u8; RECORD], place: Place, slot: &[u8; SLOT])
 
 // The field of a slot, in the place of the one of its path or where it belongs: an empty slot changes nothing.
 pub fn store(table: &mut [u8; RECORD], slot: &[u8; SLOT])
-    ensures table_after { fieldsIn table.new ≡ storedIn slot.now (fieldsIn table.old) }
+    ensures table_after { fields_in table.new ≡ stored_in slot.now (fields_in table.old) }
     ensures keeps { CanonicalField slot.now → Keeps CanonicalFields table.old table.new }
-    ensures table_after_2 { table.new ≡ storedSlot slot.now table.old }
+    ensures table_after_2 { table.new ≡ stored_slot slot.now table.old }
 {
     if is_empty(slot) {
         return;

@@ -6,29 +6,29 @@ use mathlib.Core.Option.{Option, none, some}
 use mathlib.Core.List.{[], ◌∷◌, ◌++◌}
 use native.Mathlib.Omega.{arith}
 use lib.ListN.{length, take, drop}
-use Rattle.rows.specs.Positions.{placed, runEnd}
+use Rattle.rows.specs.Positions.{placed, run_end}
 use Rattle.rows.proofs.Positions.{here, over, run-within}
 use Rattle.model.specs.Base.{Bytes, text, if◌then◌else◌, ◌>>=◌, ◌>>◌, ◌==◌, check, between, after, number}
-use Rattle.model.specs.Limits.{maxSession}
-use Rattle.model.specs.Names.{isName}
-use Rattle.model.specs.Values.{Value, readValue, value_of}
+use Rattle.model.specs.Limits.{max_session}
+use Rattle.model.specs.Names.{is_name}
+use Rattle.model.specs.Values.{Value, read_value, value_of}
 use Rattle.model.specs.Fields.{Keys}
 use Rattle.model.specs.Paths.{keys_of}
-use Rattle.model.specs.Requests.{Request, login, inSession, push, sessionOf, readLogin, readPush}
+use Rattle.model.specs.Requests.{Request, login, in_session, push, session_of, read_login, read_push}
 use Rattle.values.specs.declared.value.Scalar.{Scalar}
 use Rattle.values.specs.declared.value.ValueAt.{ValueAt}
 use Rattle.values.specs.declared.value.ValueAt.TheVariants as value
-use Rattle.values.specs.Scalars.{valueIn, valueAnswer}
+use Rattle.values.specs.Scalars.{value_in, value_answer}
 use Rattle.values.proofs.Values.{value-bad, value-reads}
 use Rattle.paths.specs.declared.field.PathRead.{PathRead}
-use Rattle.paths.specs.Layout.{pathIn}
-use Rattle.paths.specs.Fields.{pathAnswer}
-use Rattle.lexical.specs.Classes.{isNot}
+use Rattle.paths.specs.Layout.{path_in}
+use Rattle.paths.specs.Fields.{path_answer}
+use Rattle.lexical.specs.Classes.{is_not}
 use Rattle.lexical.specs.declared.class.End.{End}
 use Rattle.lexical.specs.declared.class.End.TheVariants as end
 use Rattle.model.proofs.Reading.{cut-some}
 use Rattle.model.proofs.Spelling.{keys-as-written, value-as-written}
-use Rattle.requests.specs.Lines.{pushedText, PushStands, Behind, ReadsAs, SlotAfter}
+use Rattle.requests.specs.Lines.{pushed_text, PushStands, Behind, ReadsAs, SlotAfter}
 use Rattle.requests.specs.declared.Ask.TheVariants.{Get, Push, Logout}
 use Rattle.requests.specs.declared.Request.TheVariants.{Login, InSession}
 use Rattle.requests.specs.declared.Parsed.{Parsed}
@@ -52,25 +52,25 @@ other_word w s f h = rw h
 pub record UserEnds (s : Bytes) (from m : ℕ) : Type 0 where
   pub starts : from ≤ m
   pub to : m < length s
-  pub read : {u k : Bool} → isName (take (m - from) (drop from s)) ≡ u → isName (drop (m + 1) s) ≡ k
-      → (check (u && k) >> some (login (take (m - from) (drop from s)) (drop (m + 1) s))) ≡ readLogin s
+  pub read : {u k : Bool} → is_name (take (m - from) (drop from s)) ≡ u → is_name (drop (m + 1) s) ≡ k
+      → (check (u && k) >> some (login (take (m - from) (drop from s)) (drop (m + 1) s))) ≡ read_login s
 
-module _ (s : Bytes) (from : ℕ) (begins : after (text "LOGIN;") s ≡ some (drop from s)) (m : ℕ) (is : m ≡ runEnd (isNot 0x3B) s from) where
-  pub user-last : m ≡ length s → none ≡ readLogin s
-  unfolding readLogin ◌>>=◌
+module _ (s : Bytes) (from : ℕ) (begins : after (text "LOGIN;") s ≡ some (drop from s)) (m : ℕ) (is : m ≡ run_end (is_not 0x3B) s from) where
+  pub user-last : m ≡ length s → none ≡ read_login s
+  unfolding read_login ◌>>=◌
   user-last h = rw (begins, cut-none 0x3B s from m is (omega arith))
 
   pub user-ends : from ≤ length s → (m ≡ length s → ⊥) → UserEnds s from m
-  unfolding readLogin ◌>>=◌
+  unfolding read_login ◌>>=◌
   user-ends long f =
-      let w = run-within (isNot 0x3B) s from m is long in
+      let w = run-within (is_not 0x3B) s from m is long in
       let to : m < length s = omega (arith, f) in
       record { starts = w.0; to = to; read = λ p q. rw (begins, cut-here 0x3B s from m is to, p, q) }
 
 -- ── `PUSH;session;path;value` ──
 -- what is read of the three together
-unfoldable pub pushOf : Option ℕ → Option Keys → Option Value → Option Request
-pushOf n p v = n >>= λ n. p >>= λ p. v >>= λ v. some (inSession n (push p v))
+unfoldable pub push_of : Option ℕ → Option Keys → Option Value → Option Request
+push_of n p v = n >>= λ n. p >>= λ p. v >>= λ v. some (in_session n (push p v))
 
 -- the session ends at a and the path at b, and what is read goes by what each of the three is
 pub record PathEnds (s : Bytes) (from a b : ℕ) : Type 0 where
@@ -78,29 +78,29 @@ pub record PathEnds (s : Bytes) (from a b : ℕ) : Type 0 where
   pub between : a < b
   pub to : b < length s
   pub parts : drop (a + 1) s ≡ take (b - (a + 1)) (drop (a + 1) s) ++ 0x3B ∷ drop (b + 1) s
-  pub read : {n : Option ℕ} {p : Option Keys} {v : Option Value} → number maxSession (take (a - from) (drop from s)) ≡ n
-      → keys_of (take (b - (a + 1)) (drop (a + 1) s)) ≡ p → value_of (drop (b + 1) s) ≡ v → pushOf n p v ≡ readPush s
+  pub read : {n : Option ℕ} {p : Option Keys} {v : Option Value} → number max_session (take (a - from) (drop from s)) ≡ n
+      → keys_of (take (b - (a + 1)) (drop (a + 1) s)) ≡ p → value_of (drop (b + 1) s) ≡ v → push_of n p v ≡ read_push s
 
-module _ (s : Bytes) (from : ℕ) (begins : after (text "PUSH;") s ≡ some (drop from s)) (a : ℕ) (is : a ≡ runEnd (isNot 0x3B) s from) where
-  pub session-last : a ≡ length s → none ≡ readPush s
-  unfolding readPush ◌>>=◌
+module _ (s : Bytes) (from : ℕ) (begins : after (text "PUSH;") s ≡ some (drop from s)) (a : ℕ) (is : a ≡ run_end (is_not 0x3B) s from) where
+  pub session-last : a ≡ length s → none ≡ read_push s
+  unfolding read_push ◌>>=◌
   session-last h = rw (begins, cut-none 0x3B s from a is (omega arith))
 
   module _ (long : from ≤ length s) (f : a ≡ length s → ⊥) where
     pub session-ends : (from ≤ a) × (a < length s)
-    session-ends = omega (arith, run-within (isNot 0x3B) s from a is long, f)
+    session-ends = omega (arith, run-within (is_not 0x3B) s from a is long, f)
 
-    module _ (b : ℕ) (is₁ : b ≡ runEnd (isNot 0x3B) s (a + 1)) where
-      pub path-last : b ≡ length s → none ≡ readPush s
-      unfolding readPush ◌>>=◌
+    module _ (b : ℕ) (is₁ : b ≡ run_end (is_not 0x3B) s (a + 1)) where
+      pub path-last : b ≡ length s → none ≡ read_push s
+      unfolding read_push ◌>>=◌
       path-last h =
           rw (begins, cut-here 0x3B s from a is session-ends.1, cut-none 0x3B s (a + 1) b is₁ (omega arith))
 
       pub path-ends : (b ≡ length s → ⊥) → PathEnds s from a b
-      unfolding readPush sessionOf pushOf ◌>>=◌
+      unfolding read_push session_of push_of ◌>>=◌
       path-ends g =
           let (starts, inside) = session-ends in
-          let w = run-within (isNot 0x3B) s (a + 1) b is₁ (omega arith) in
+          let w = run-within (is_not 0x3B) s (a + 1) b is₁ (omega arith) in
           let to : b < length s = omega (arith, g) in
           record {
             starts = starts;
@@ -113,7 +113,7 @@ module _ (s : Bytes) (from : ℕ) (begins : after (text "PUSH;") s ≡ some (dro
 -- path and value have one spelling each, so what is pushed stands behind the session
 pub push-stands : (s : Bytes) (from a b : ℕ) (p : Keys) (v : Value) → PathEnds s from a b → keys_of (take (b - (a + 1)) (drop (a + 1) s)) ≡ some p → value_of (drop (b + 1) s) ≡ some v
     → PushStands s p (a + 1) v
-unfolding pushedText text between
+unfolding pushed_text text between
 push-stands s from a b p v e k w = record { within = omega (arith, e.between, e.to); pushed = e.parts ∙ rw (keys-as-written _ _ k, value-as-written _ _ w) }
 
 -- ── The slot for a path ──
@@ -131,12 +131,12 @@ slot_same {r = Bad} h same = same
 
 -- ── A path ──
 -- what the function `read_path` answered, once it is known whether it is one
-pub path-told : (r : PathRead) {k : Bool} {o : Option Keys} → pathAnswer r ≡ o → r.ok ≡ k
-    → o ≡ (if k then some (pathIn r.slot) else none)
+pub path-told : (r : PathRead) {k : Bool} {o : Option Keys} → path_answer r ≡ o → r.ok ≡ k
+    → o ≡ (if k then some (path_in r.slot) else none)
 path-told r h e = sym h ∙ rw e
 
 -- ── A value that is the rest of a line ──
-module _ (s : Bytes) (at : ℕ) (r : ValueAt) (answer : valueAnswer s r ≡ placed readValue s at) where
+module _ (s : Bytes) (at : ℕ) (r : ValueAt) (answer : value_answer s r ≡ placed read_value s at) where
   pub whole-bad : r ≡ value.Bad → value_of (drop at s) ≡ none
   unfolding value_of ◌>>=◌
   whole-bad i = rw (value-bad s at r answer i)
@@ -148,6 +148,6 @@ module _ (s : Bytes) (at : ℕ) (r : ValueAt) (answer : valueAnswer s r ≡ plac
         let w = value-reads s at r answer h v e i in
         rw (w.is, here 0 s e (omega (arith, w.to, f)))
 
-    pub whole_is : e ≡ length s → value_of (drop at s) ≡ some (valueIn s v)
+    pub whole_is : e ≡ length s → value_of (drop at s) ≡ some (value_in s v)
     unfolding value_of ◌>>=◌ ◌>>◌ check ◌==◌
     whole_is f = rw ((value-reads s at r answer h v e i).is, over s e (omega arith))

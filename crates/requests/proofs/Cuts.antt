@@ -6,31 +6,31 @@ use mathlib.Core.List.{[], ◌∷◌}
 use lib.Dec.{eqb}
 use lib.ListN.{length, take, drop}
 use Rattle.rows.specs.Rows.{up_to}
-use Rattle.rows.specs.Positions.{run, runEnd}
+use Rattle.rows.specs.Positions.{run, run_end}
 use Rattle.rows.proofs.Positions.{here, over, run-part, run-rest}
-use Rattle.model.specs.Base.{Bytes, ◌>>=◌, inFront, cut}
+use Rattle.model.specs.Base.{Bytes, ◌>>=◌, in_front, cut}
 use Rattle.model.proofs.Lists.{by_cases}
-use Rattle.lexical.specs.Classes.{isNot}
+use Rattle.lexical.specs.Classes.{is_not}
 
 -- the bytes before the first c, and then the text's end or that c with what follows
 cut_of : Bytes → Bytes → Option (Bytes × Bytes)
 cut_of a [] = none
 cut_of a (x ∷ r) = some (a, r)
 
-one_more : (x : ℕ) (a r : Bytes) → (cut_of a r >>= λ p. some (inFront x p)) ≡ cut_of (x ∷ a) r
-unfolding cut_of ◌>>=◌ inFront
+one_more : (x : ℕ) (a r : Bytes) → (cut_of a r >>= λ p. some (in_front x p)) ≡ cut_of (x ∷ a) r
+unfolding cut_of ◌>>=◌ in_front
 one_more x a [] = refl
 one_more x a (y ∷ r) = refl
 
-cut-run : (c : ℕ) (s : Bytes) → cut c s ≡ cut_of (run (isNot c) s) (drop (length (run (isNot c) s)) s)
-unfolding cut cut_of up_to isNot
+cut-run : (c : ℕ) (s : Bytes) → cut c s ≡ cut_of (run (is_not c) s) (drop (length (run (is_not c) s)) s)
+unfolding cut cut_of up_to is_not
 cut-run c [] = refl
-cut-run c (x ∷ s) = by_cases (eqb x c) (λ e. rw e) (λ e. rw (e, cut-run c s) (one_more x (run (isNot c) s) (drop (length (run (isNot c) s)) s)))
+cut-run c (x ∷ s) = by_cases (eqb x c) (λ e. rw e) (λ e. rw (e, cut-run c s) (one_more x (run (is_not c) s) (drop (length (run (is_not c) s)) s)))
 
 -- the first c from the position `at` on stands at e, or there is none
-module _ (c : ℕ) (s : Bytes) (at e : ℕ) (is : e ≡ runEnd (isNot c) s at) where
+module _ (c : ℕ) (s : Bytes) (at e : ℕ) (is : e ≡ run_end (is_not c) s at) where
   cut_at : cut c (drop at s) ≡ cut_of (take (e - at) (drop at s)) (drop e s)
-  cut_at = cut-run c (drop at s) ∙ ap₂ cut_of (run-part (isNot c) s at e is) (run-rest (isNot c) s at e is)
+  cut_at = cut-run c (drop at s) ∙ ap₂ cut_of (run-part (is_not c) s at e is) (run-rest (is_not c) s at e is)
 
   pub cut-none : length s ≤ e → cut c (drop at s) ≡ none
   unfolding cut_of

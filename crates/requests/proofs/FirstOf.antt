@@ -6,12 +6,12 @@ use mathlib.Core.List.{List, [], ◌∷◌}
 use borrow.Author.Tests.{le-leb, lt-leb}
 use lib.ListN.{length}
 use Rattle.model.specs.Base.{Bytes, ◌>>◌, ◌<|>◌, check}
-use Rattle.model.specs.Limits.{maxLine}
+use Rattle.model.specs.Limits.{max_line}
 use Rattle.model.specs.Fields.{Keys}
-use Rattle.model.specs.Requests.{readers, first_of, requestOf}
+use Rattle.model.specs.Requests.{readers, first_of, request_of}
 use Rattle.model.specs.Requests as model
 use Rattle.values.proofs.Values.{told}
-use Rattle.requests.specs.Lines.{parsedAnswer, ReadsAs}
+use Rattle.requests.specs.Lines.{parsed_answer, ReadsAs}
 use Rattle.requests.specs.declared.Request.{Request}
 use Rattle.requests.specs.declared.Parsed.{Parsed}
 use Rattle.requests.specs.declared.Parsed.TheVariants.{Is, Bad}
@@ -24,27 +24,27 @@ last (some x) = refl
 
 -- ── The line ──
 module _ (s : Bytes) where
-  pub too_long : maxLine < length s → none ≡ requestOf s
-  unfolding requestOf check ◌>>◌
-  too_long h = rw (lt-leb (length s) maxLine h)
+  pub too_long_lem : max_line < length s → none ≡ request_of s
+  unfolding request_of check ◌>>◌
+  too_long_lem h = rw (lt-leb (length s) max_line h)
 
-  pub short : length s ≤ maxLine → first_of readers s ≡ requestOf s
-  unfolding requestOf check ◌>>◌
-  short h = rw (le-leb (length s) maxLine h)
+  pub short : length s ≤ max_line → first_of readers s ≡ request_of s
+  unfolding request_of check ◌>>◌
+  short h = rw (le-leb (length s) max_line h)
 
 -- ── Of the readers that decide the first reads, or the others decide, or it is the last ──
 module _ {read : Bytes → Option model.Request} {s : Bytes} {p : Keys} {r : Parsed} (h : ReadsAs read s p r) where
-  module _ (others : List (Bytes → Option model.Request)) (decide : first_of (read ∷ others) s ≡ requestOf s) where
-    pub first_reads : {q : Request} → r ≡ Is q → ReadsAs requestOf s p r
+  module _ (others : List (Bytes → Option model.Request)) (decide : first_of (read ∷ others) s ≡ request_of s) where
+    pub first_reads : {q : Request} → r ≡ Is q → ReadsAs request_of s p r
     unfolding first_of ◌<|>◌
     first_reads is =
-        let reads = told (parsedAnswer s p) h.asks is in
+        let reads = told (parsed_answer s p) h.asks is in
         record { asks = h.asks ∙ reads ∙ rw reads at decide; stands = h.stands }
 
-    pub first-fails : r ≡ Bad → first_of others s ≡ requestOf s
+    pub first-fails : r ≡ Bad → first_of others s ≡ request_of s
     unfolding first_of ◌<|>◌
-    first-fails is = rw (told (parsedAnswer s p) h.asks is) at decide
+    first-fails is = rw (told (parsed_answer s p) h.asks is) at decide
 
-  pub last-reads : first_of (read ∷ []) s ≡ requestOf s → ReadsAs requestOf s p r
+  pub last-reads : first_of (read ∷ []) s ≡ request_of s → ReadsAs request_of s p r
   unfolding first_of
   last-reads decide = record { asks = h.asks ∙ last (read s) ∙ decide; stands = h.stands }

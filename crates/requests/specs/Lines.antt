@@ -2,14 +2,14 @@
 use Rattle.std.specs.Prelude.{ℕ, ◌+◌, ◌-◌, ◌≤◌, ◌<◌, ◌≡◌, [], ◌∷◌, length, take, drop}
 use Rattle.std.proofs.Math.Option.{Option, none, some}
 use Rattle.model.specs.Base.{Bytes, text, between, after}
-use Rattle.model.specs.Values.{Value, valueText}
+use Rattle.model.specs.Values.{Value, value_text}
 use Rattle.model.specs.Fields.{Keys}
-use Rattle.model.specs.Paths.{keysText}
+use Rattle.model.specs.Paths.{keys_text}
 use Rattle.model.specs.Requests as model
 use Rattle.lexical.specs.declared.class.End.{End}
 use Rattle.lexical.specs.declared.class.End.TheVariants as end
 use Rattle.paths.specs.Layout.{CanonicalPath}
-use Rattle.values.specs.Scalars.{valueIn, InText}
+use Rattle.values.specs.Scalars.{value_in, InText}
 use Rattle.requests.specs.declared.Ask.{Ask}
 use Rattle.requests.specs.declared.Ask.TheVariants.{Get, Push, Logout}
 use Rattle.requests.specs.declared.Request.{Request}
@@ -19,33 +19,33 @@ use Rattle.requests.specs.declared.Parsed.TheVariants.{Is, Bad}
 
 -- ── What is asked for ──
 -- p is the path in the slot
-abbrev pub askIn : Bytes → Keys → Ask → model.Ask
-askIn s p Get = model.get
-askIn s p (Push at v) = model.push p (valueIn s v)
-askIn s p Logout = model.logout
+abbrev pub ask_in : Bytes → Keys → Ask → model.Ask
+ask_in s p Get = model.get
+ask_in s p (Push at v) = model.push p (value_in s v)
+ask_in s p Logout = model.logout
 
 -- the user stands from a position on, the key behind the `;` at m
-abbrev pub requestIn : Bytes → Keys → Request → model.Request
-requestIn s p (Login from m) = model.login (take (m - from) (drop from s)) (drop (m + 1) s)
-requestIn s p (InSession n a) = model.inSession n (askIn s p a)
+abbrev pub request_in : Bytes → Keys → Request → model.Request
+request_in s p (Login from m) = model.login (take (m - from) (drop from s)) (drop (m + 1) s)
+request_in s p (InSession n a) = model.in_session n (ask_in s p a)
 
-abbrev pub parsedAnswer : Bytes → Keys → Parsed → Option model.Request
-parsedAnswer s p (Is q) = some (requestIn s p q)
-parsedAnswer s p Bad = none
+abbrev pub parsed_answer : Bytes → Keys → Parsed → Option model.Request
+parsed_answer s p (Is q) = some (request_in s p q)
+parsed_answer s p Bad = none
 
 -- ── Where it stands ──
 -- a path and a value as a line has them
-unfoldable pub pushedText : Keys → Value → Bytes
-pushedText p v = between (text ";") (keysText p ∷ valueText v ∷ [])
+unfoldable pub pushed_text : Keys → Value → Bytes
+pushed_text p v = between (text ";") (keys_text p ∷ value_text v ∷ [])
 
 -- the position lies in the line, and from there on stands what is pushed
 pub record PushStands (s : Bytes) (p : Keys) (at : ℕ) (v : Value) : Type 0 where
   pub within : at ≤ length s
-  pub pushed : drop at s ≡ pushedText p v
+  pub pushed : drop at s ≡ pushed_text p v
 
 abbrev pub AskStands : Bytes → Keys → Ask → Type 0
 AskStands s p Get = Unit {0}
-AskStands s p (Push at v) = InText v s × PushStands s p at (valueIn s v)
+AskStands s p (Push at v) = InText v s × PushStands s p at (value_in s v)
 AskStands s p Logout = Unit {0}
 
 abbrev pub RequestStands : Bytes → Keys → Request → Type 0
@@ -64,12 +64,12 @@ Behind w s end.Bad = after w s ≡ none
 
 -- a reader of lines answers what the model's does, and says where it stands
 pub record ReadsAs (read : Bytes → Option model.Request) (s : Bytes) (p : Keys) (r : Parsed) : Type 0 where
-  pub asks : parsedAnswer s p r ≡ read s
+  pub asks : parsed_answer s p r ≡ read s
   pub stands : ParsedStands s p r
 
 -- a word with a session number behind it and nothing more asks for a, where a stands in the line
 abbrev pub AsksFor : Bytes → Ask → Bytes → Parsed → Type 0
-AsksFor w a s r = (p : Keys) → AskStands s p a → ReadsAs (model.readAsk w (askIn s p a)) s p r
+AsksFor w a s r = (p : Keys) → AskStands s p a → ReadsAs (model.read_ask w (ask_in s p a)) s p r
 
 -- the slot for a path keeps its bytes unless a push is read: then they are its path's, each of them
 abbrev pub SlotAfter : Parsed → Bytes → Bytes → Type 0

@@ -1,7 +1,7 @@
 // A request line taken apart.
 ghost use Rattle.model.specs.Fields.{Keys};
-ghost use Rattle.model.specs.Requests.{readLogin, readGet, readPush, readLogout, requestOf};
-ghost use Rattle.paths.specs.Layout.{pathIn};
+ghost use Rattle.model.specs.Requests.{read_login, read_get, read_push, read_logout, request_of};
+ghost use Rattle.paths.specs.Layout.{path_in};
 ghost use Rattle.requests.specs.Lines.{Behind, ReadsAs, AsksFor, SlotAfter};
 
 use lexical::class::{End, is_name};
@@ -45,7 +45,7 @@ fn behind(line: &[u8], word: &[u8]) -> End
 
 // `LOGIN;user;key`
 fn login_line(line: &[u8]) -> Parsed
-    ensures { (p : Keys) → ReadsAs readLogin line.now p result }
+    ensures { (p : Keys) → ReadsAs read_login line.now p result }
 {
     let End::At(from) = behind(line, b"LOGIN;") else {
         return Parsed::Bad;
@@ -79,14 +79,14 @@ fn ask_line(line: &[u8], word: &[u8], ask: Ask) -> Parsed
 
 // `GET;session`
 fn get_line(line: &[u8]) -> Parsed
-    ensures { (p : Keys) → ReadsAs readGet line.now p result }
+    ensures { (p : Keys) → ReadsAs read_get line.now p result }
 {
     ask_line(line, b"GET;", Ask::Get)
 }
 
 // `PUSH;session;path;value`, the path read into the slot
 fn push_line(line: &[u8], path: &mut [u8; PATH]) -> Parsed
-    ensures reads_as { ReadsAs readPush line.now (pathIn path.new) result }
+    ensures reads_as { ReadsAs read_push line.now (path_in path.new) result }
     ensures slot_after { SlotAfter result path.old path.new }
 {
     let End::At(from) = behind(line, b"PUSH;") else {
@@ -121,14 +121,14 @@ fn push_line(line: &[u8], path: &mut [u8; PATH]) -> Parsed
 
 // `LOGOUT;session`
 fn logout_line(line: &[u8]) -> Parsed
-    ensures { (p : Keys) → ReadsAs readLogout line.now p result }
+    ensures { (p : Keys) → ReadsAs read_logout line.now p result }
 {
     ask_line(line, b"LOGOUT;", Ask::Logout)
 }
 
 // What a line asks for.
 pub fn parse(line: &[u8], path: &mut [u8; PATH]) -> Parsed
-    ensures reads_as { ReadsAs requestOf line.now (pathIn path.new) result }
+    ensures reads_as { ReadsAs request_of line.now (path_in path.new) result }
     ensures slot_after { SlotAfter result path.old path.new }
 {
     if MAX_LINE < line.len() {

@@ -9,7 +9,7 @@ use lib.ListN.{length, get_or, take, drop, set, length-take, length-drop, length
 use lib.ListN.{get_or-append, drop_of_length-le}
 use lib.Seq.{take-suc, take_all, take-length, length-take-le, drop-cons, drop_at}
 use lib.Seq.{append_snoc, set_at, get_or-take, get_or-drop, get_or-append-add}
-use Rattle.rows.specs.Moves.{spliced, movedLater, movedEarlier}
+use Rattle.rows.specs.Moves.{spliced, moved_later, moved_earlier}
 
 module _ {ℓ} {A : Type ℓ} (z : A) where
   -- an element of the first list, and of the second
@@ -42,43 +42,43 @@ module _ {ℓ} {A : Type ℓ} (z : A) where
 
   -- a loop downwards that moves each element k places later
   pub later-step : (k i : ℕ) (d : List A) → k < i → i ≤ length d
-      → set (spliced i d (movedLater k d)) (i - 1) (get_or (spliced i d (movedLater k d)) (i - 1 - k) z)
-      ≡ spliced (i - 1) d (movedLater k d)
+      → set (spliced i d (moved_later k d)) (i - 1) (get_or (spliced i d (moved_later k d)) (i - 1 - k) z)
+      ≡ spliced (i - 1) d (moved_later k d)
   later-step k i d h l =
       let e : i - 1 + 1 ≡ i = omega arith in
-      let m : i - 1 < length (movedLater k d) = simp (length-append, length-take) (omega arith) in
+      let m : i - 1 < length (moved_later k d) = simp (length-append, length-take) (omega arith) in
       let j : i - 1 ≡ length (take k d) + (i - 1 - k) = omega (arith, length-take-le k d (omega arith)) in
-      let now = spliced-before i (i - 1 - k) d (movedLater k d) (omega arith) l in
+      let now = spliced-before i (i - 1 - k) d (moved_later k d) (omega arith) l in
       let then =
-      ap (λ (n : ℕ). get_or (movedLater k d) n z) j
+      ap (λ (n : ℕ). get_or (moved_later k d) n z) j
       ∙ get_or-append-add (take k d) (take (length d - k) d) (i - 1 - k) z
       ∙ get_or-take (length d - k) d (i - 1 - k) z (omega arith) in
-      rw (now ∙ sym then) (rw e at (splice-down (i - 1) d (movedLater k d) (omega arith) m))
+      rw (now ∙ sym then) (rw e at (splice-down (i - 1) d (moved_later k d) (omega arith) m))
 
   -- a loop upwards that moves each element k places earlier
   pub earlier_step : (k i : ℕ) (d : List A) → i + k < length d
-      → set (spliced i (movedEarlier k d) d) i (get_or (spliced i (movedEarlier k d) d) (i + k) z)
-      ≡ spliced (i + 1) (movedEarlier k d) d
+      → set (spliced i (moved_earlier k d) d) i (get_or (spliced i (moved_earlier k d) d) (i + k) z)
+      ≡ spliced (i + 1) (moved_earlier k d) d
   earlier_step k i d h =
-      let m : i < length (movedEarlier k d) = simp (length-append, length-drop) (omega arith) in
-      let now = spliced-after i (i + k) (movedEarlier k d) d (omega arith) (omega arith) in
+      let m : i < length (moved_earlier k d) = simp (length-append, length-drop) (omega arith) in
+      let now = spliced-after i (i + k) (moved_earlier k d) d (omega arith) (omega arith) in
       let then =
       get_or-append (drop k d) (drop (length d - k) d) z i (rw length-drop (omega arith))
       ∙ get_or-drop k d i z
       ∙ ap (λ (n : ℕ). get_or d n z) (add_comm k i) in
-      rw (now ∙ sym then) (splice_up i (movedEarlier k d) d m (omega arith))
+      rw (now ∙ sym then) (splice_up i (moved_earlier k d) d m (omega arith))
 
 -- where these loops begin and end
 module _ {ℓ} {A : Type ℓ} where
   pub splice-end : (i : ℕ) (s d : List A) → length s ≤ i → i ≤ length s → spliced i s d ≡ s ++ drop (length s) d
   splice-end i s d p q = let e : i ≡ length s = omega arith in rw (e, take_all (length s) s (omega arith))
 
-  pub later-start : (k : ℕ) (d : List A) → d ≡ spliced (length d) d (movedLater k d)
+  pub later-start : (k : ℕ) (d : List A) → d ≡ spliced (length d) d (moved_later k d)
   later-start k d =
-      let l : length (movedLater k d) ≤ length d = simp (length-append, length-take) (omega arith) in
-      rw (drop_of_length-le (movedLater k d) l, take-length, append-nil)
+      let l : length (moved_later k d) ≤ length d = simp (length-append, length-take) (omega arith) in
+      rw (drop_of_length-le (moved_later k d) l, take-length, append-nil)
 
-  pub later-end : (k i : ℕ) (d : List A) → i ≤ k → k ≤ i → k ≤ length d → spliced i d (movedLater k d) ≡ movedLater k d
+  pub later-end : (k i : ℕ) (d : List A) → i ≤ k → k ≤ i → k ≤ length d → spliced i d (moved_later k d) ≡ moved_later k d
   later-end k i d p q l =
       let e : i ≡ k = omega arith in
       rw (e, drop_at (take k d) (take (length d - k) d) k (length-take-le k d l))

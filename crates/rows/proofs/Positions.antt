@@ -9,8 +9,8 @@ use native.Mathlib.Omega.{arith}
 use lib.ListN.{length, get_or, get_elem?, take, drop, length-drop, drop_of_length-le}
 use lib.Seq.{drop-cons, drop-drop}
 use Rattle.rows.specs.Rows.{up_to}
-use Rattle.rows.specs.Positions.{Reader, Reads, behind, placed, LeavesEnd, run, runEnd}
-use Rattle.rows.proofs.Rows.{upTo-prefix, length-upTo}
+use Rattle.rows.specs.Positions.{Reader, Reads, behind, placed, LeavesEnd, run, run_end}
+use Rattle.rows.proofs.Rows.{up_to-prefix, length-up_to}
 
 module _ {ℓ} {A : Type ℓ} where
   -- within the text the rest has a first element; from its end on nothing is left
@@ -33,32 +33,32 @@ module _ {ℓ} {A : Type ℓ} where
 
 module _ {E : Type 0} (ok : E → Bool) (s : List E) where
   -- a loop that goes on while elements pass: an element that does, one that does not, and the end of the text
-  pub run_step : (z : E) (i : ℕ) → i < length s → ok (get_or s i z) ≡ true → runEnd ok s i ≡ runEnd ok s (i + 1)
-  unfolding runEnd up_to
+  pub run_step : (z : E) (i : ℕ) → i < length s → ok (get_or s i z) ≡ true → run_end ok s i ≡ run_end ok s (i + 1)
+  unfolding run_end up_to
   run_step z i h e = rw (here z s i h, e) (omega arith)
 
-  pub run-stop : (z : E) (i : ℕ) → i < length s → ok (get_or s i z) ≡ false → runEnd ok s i ≡ i
-  unfolding runEnd up_to
+  pub run-stop : (z : E) (i : ℕ) → i < length s → ok (get_or s i z) ≡ false → run_end ok s i ≡ i
+  unfolding run_end up_to
   run-stop z i h e = rw (here z s i h, e) (omega arith)
 
-  pub run-over : (i : ℕ) → length s ≤ i → runEnd ok s i ≡ i
-  unfolding runEnd up_to
+  pub run-over : (i : ℕ) → length s ≤ i → run_end ok s i ≡ i
+  unfolding run_end up_to
   run-over i h = rw (over s i h) (omega arith)
 
   -- where the run ends says what it is
-  module _ (at e : ℕ) (is : e ≡ runEnd ok s at) where
+  module _ (at e : ℕ) (is : e ≡ run_end ok s at) where
     pub run-within : at ≤ length s → (at ≤ e) × (e ≤ length s)
-    unfolding runEnd
-    run-within h = omega (arith, length-upTo (λ x. not (ok x)) (drop at s), length-drop at s)
+    unfolding run_end
+    run-within h = omega (arith, length-up_to (λ x. not (ok x)) (drop at s), length-drop at s)
 
     pub run-part : run ok (drop at s) ≡ take (e - at) (drop at s)
-    unfolding runEnd
+    unfolding run_end
     run-part =
         let n : length (run ok (drop at s)) ≡ e - at = omega arith in
-        upTo-prefix (λ x. not (ok x)) (drop at s) ∙ ap (λ (k : ℕ). take k (drop at s)) n
+        up_to-prefix (λ x. not (ok x)) (drop at s) ∙ ap (λ (k : ℕ). take k (drop at s)) n
 
     pub run-rest : drop (length (run ok (drop at s))) (drop at s) ≡ drop e s
-    unfolding runEnd
+    unfolding run_end
     run-rest =
         let n : length (run ok (drop at s)) ≡ e - at = omega arith in
         rw n (rest_from s at e (omega arith))

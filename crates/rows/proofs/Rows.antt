@@ -10,7 +10,7 @@ use native.Mathlib.Omega.{arith}
 use lib.ListN.{length, get_or, take, drop, set, length-take, length-drop, take-append-drop}
 use lib.Seq.{take-nil, take_all, take-take, take_at, take-append-le, take-append-add, length-take-le}
 use lib.Seq.{drop_at, drop-drop, drop-append-le, set_split}
-use Rattle.rows.specs.Rows.{rows, up_to, insertAt, replaced}
+use Rattle.rows.specs.Rows.{rows, up_to, insert_at, replaced}
 
 -- ---- parts of a list
 
@@ -24,13 +24,13 @@ module _ {ℓ} {A : Type ℓ} where
 
   -- the first n elements where one was put in: it is among them, or it is past them
   pub take-insert : (n i : ℕ) (a : A) (xs : List A) → i < n → i ≤ length xs
-      → take n (insertAt i a xs) ≡ take i xs ++ a ∷ take (n - suc i) (drop i xs)
+      → take n (insert_at i a xs) ≡ take i xs ++ a ∷ take (n - suc i) (drop i xs)
   take-insert n i a xs h l =
       let e : n ≡ length (take i xs) + suc (n - suc i) = omega (arith, length-take-le i xs l) in
-      ap (λ (m : ℕ). take m (insertAt i a xs)) e ∙ take-append-add (take i xs) (a ∷ drop i xs) (suc (n - suc i))
+      ap (λ (m : ℕ). take m (insert_at i a xs)) e ∙ take-append-add (take i xs) (a ∷ drop i xs) (suc (n - suc i))
 
   pub insert-past : (n i : ℕ) (a : A) (xs : List A) → i ≤ length xs → n ≤ i → length xs ≤ n
-      → take n (insertAt i a xs) ≡ xs
+      → take n (insert_at i a xs) ≡ xs
   insert-past n i a xs p q r =
       take-append-le n (take i xs) (a ∷ drop i xs) (rw (length-take-le i xs p) q) ∙ take-take n i xs q ∙ take_all n xs r
 
@@ -143,7 +143,7 @@ module _ {ℓ} {A : Type ℓ} (k : ℕ) where
     -- a row put in at i: the rows from there on move one place, and the last falls off
     pub rows-insert : n * k ≤ length xs
         → rows k n (take (i * k) xs ++ (row ++ take (length xs - i * k - k) (drop (i * k) xs)))
-        ≡ take n (insertAt i row (rows k n xs))
+        ≡ take n (insert_at i row (rows k n xs))
     rows-insert room =
         let p = rows-size k i n below in
         let q = rows_take (n - suc i) (length xs - i * k - k) (drop (i * k) xs) (omega arith) in
@@ -161,58 +161,58 @@ module _ {ℓ} {A : Type ℓ} (k : ℕ) where
 
 module _ {ℓ} {A : Type ℓ} (stop : A → Bool) where
   -- by cases: the first element is a stop, or it is none
-  upTo-cases : (x : A) (xs : List A) (P : List A → Type ℓ) → (stop x ≡ true → P [])
+  up_to-cases : (x : A) (xs : List A) (P : List A → Type ℓ) → (stop x ≡ true → P [])
       → (stop x ≡ false → P (x ∷ up_to stop xs)) → P (up_to stop (x ∷ xs))
   unfolding up_to
-  upTo-cases x xs P y n = go (stop x) refl
+  up_to-cases x xs P y n = go (stop x) refl
     where
       go : (t : Bool) → stop x ≡ t → P (cond t [] (x ∷ up_to stop xs))
       go true e = y e
       go false e = n e
 
   -- they are a beginning of the list
-  pub upTo-prefix : (xs : List A) → up_to stop xs ≡ take (length (up_to stop xs)) xs
+  pub up_to-prefix : (xs : List A) → up_to stop xs ≡ take (length (up_to stop xs)) xs
   unfolding up_to
-  upTo-prefix [] = refl
-  upTo-prefix (x ∷ xs) =
-      upTo-cases x xs (λ l. l ≡ take (length l) (x ∷ xs)) (λ e. refl) (λ e. ap (λ (l : List A). x ∷ l) (upTo-prefix xs))
+  up_to-prefix [] = refl
+  up_to-prefix (x ∷ xs) =
+      up_to-cases x xs (λ l. l ≡ take (length l) (x ∷ xs)) (λ e. refl) (λ e. ap (λ (l : List A). x ∷ l) (up_to-prefix xs))
 
-  pub length-upTo : (xs : List A) → length (up_to stop xs) ≤ length xs
-  length-upTo xs = omega (arith, ap length (upTo-prefix xs), length-take (length (up_to stop xs)) xs)
+  pub length-up_to : (xs : List A) → length (up_to stop xs) ≤ length xs
+  length-up_to xs = omega (arith, ap length (up_to-prefix xs), length-take (length (up_to stop xs)) xs)
 
   -- those of a beginning of the list
-  pub upTo-take : (n : ℕ) (xs : List A) → up_to stop (take n xs) ≡ take n (up_to stop xs)
+  pub up_to-take : (n : ℕ) (xs : List A) → up_to stop (take n xs) ≡ take n (up_to stop xs)
   unfolding up_to
-  upTo-take zero xs = refl
-  upTo-take (suc n) [] = refl
-  upTo-take (suc n) (x ∷ xs) =
-      upTo-cases x xs (λ l. up_to stop (x ∷ take n xs) ≡ take (suc n) l) (λ e. rw e) (λ e. rw (e, upTo-take n xs))
+  up_to-take zero xs = refl
+  up_to-take (suc n) [] = refl
+  up_to-take (suc n) (x ∷ xs) =
+      up_to-cases x xs (λ l. up_to stop (x ∷ take n xs) ≡ take (suc n) l) (λ e. rw e) (λ e. rw (e, up_to-take n xs))
 
   -- the first i stay where what follows them changes
-  pub upTo-keep : (i : ℕ) (xs ys : List A) → i ≤ length (up_to stop xs)
+  pub up_to-keep : (i : ℕ) (xs ys : List A) → i ≤ length (up_to stop xs)
       → up_to stop (take i xs ++ ys) ≡ take i (up_to stop xs) ++ up_to stop ys
   unfolding up_to
-  upTo-keep zero xs ys h = refl
-  upTo-keep (suc i) [] ys h = absurd (omega arith)
-  upTo-keep (suc i) (x ∷ xs) ys h =
-      upTo-cases x xs (λ l. suc i ≤ length l → up_to stop (x ∷ (take i xs ++ ys)) ≡ take (suc i) l ++ up_to stop ys)
-      (λ e l. absurd (omega arith)) (λ e l. rw (e, upTo-keep i xs ys (le_of_suc-le-suc l))) h
+  up_to-keep zero xs ys h = refl
+  up_to-keep (suc i) [] ys h = absurd (omega arith)
+  up_to-keep (suc i) (x ∷ xs) ys h =
+      up_to-cases x xs (λ l. suc i ≤ length l → up_to stop (x ∷ (take i xs ++ ys)) ≡ take (suc i) l ++ up_to stop ys)
+      (λ e l. absurd (omega arith)) (λ e l. rw (e, up_to-keep i xs ys (le_of_suc-le-suc l))) h
 
   -- those of an end of the list
-  pub upTo-drop : (i : ℕ) (xs : List A) → i ≤ length (up_to stop xs) → up_to stop (drop i xs) ≡ drop i (up_to stop xs)
-  upTo-drop i xs h =
-      let split = ap (up_to stop) (sym (take-append-drop i xs)) ∙ upTo-keep i xs (drop i xs) h in
+  pub up_to-drop : (i : ℕ) (xs : List A) → i ≤ length (up_to stop xs) → up_to stop (drop i xs) ≡ drop i (up_to stop xs)
+  up_to-drop i xs h =
+      let split = ap (up_to stop) (sym (take-append-drop i xs)) ∙ up_to-keep i xs (drop i xs) h in
       let l = length-take-le i (up_to stop xs) h in
       sym (ap (drop i) split ∙ drop_at (take i (up_to stop xs)) (up_to stop (drop i xs)) i l)
 
   -- an element that is no stop put in, or written over another
   module _ (i : ℕ) (a : A) (xs : List A) (kept : stop a ≡ false) where
-    pub upTo-insert : i ≤ length (up_to stop xs) → up_to stop (insertAt i a xs) ≡ insertAt i a (up_to stop xs)
+    pub up_to-insert : i ≤ length (up_to stop xs) → up_to stop (insert_at i a xs) ≡ insert_at i a (up_to stop xs)
     unfolding up_to
-    upTo-insert h = upTo-keep i xs (a ∷ drop i xs) h ∙ rw (kept, upTo-drop i xs h)
+    up_to-insert h = up_to-keep i xs (a ∷ drop i xs) h ∙ rw (kept, up_to-drop i xs h)
 
-    pub upTo-set : i < length (up_to stop xs) → up_to stop (set xs i a) ≡ set (up_to stop xs) i a
+    pub up_to-set : i < length (up_to stop xs) → up_to stop (set xs i a) ≡ set (up_to stop xs) i a
     unfolding up_to
-    upTo-set h =
-        rw (set_split xs i a (omega (arith, length-upTo xs)), set_split (up_to stop xs) i a h)
-        (upTo-keep i xs (a ∷ drop (suc i) xs) (omega arith) ∙ rw (kept, upTo-drop (suc i) xs h))
+    up_to-set h =
+        rw (set_split xs i a (omega (arith, length-up_to xs)), set_split (up_to stop xs) i a h)
+        (up_to-keep i xs (a ∷ drop (suc i) xs) (omega arith) ∙ rw (kept, up_to-drop (suc i) xs h))

@@ -7,9 +7,9 @@ module _ {ℓ} {A : Type ℓ} where
   spliced i s d = take i s ++ drop i d
 
   -- each element k places later: the last k fall off, and the first k stay as they were
-  abbrev pub movedLater : ℕ → List A → List A
-  movedLater k d = take k d ++ take (length d - k) d
+  abbrev pub moved_later : ℕ → List A → List A
+  moved_later k d = take k d ++ take (length d - k) d
 
   -- each element k places earlier: the first k are gone, and the last k stay as they were
-  abbrev pub movedEarlier : ℕ → List A → List A
-  movedEarlier k d = drop k d ++ drop (length d - k) d
+  abbrev pub moved_earlier : ℕ → List A → List A
+  moved_earlier k d = drop k d ++ drop (length d - k) d

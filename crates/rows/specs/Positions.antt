@@ -36,5 +36,5 @@ module _ {E : Type 0} (ok : E → Bool) where
   run xs = up_to (λ x. not (ok x)) xs
 
   -- where the elements that pass end, from the position `at` on
-  unfoldable pub runEnd : List E → ℕ → ℕ
-  runEnd s at = at + length (run (drop at s))
+  unfoldable pub run_end : List E → ℕ → ℕ
+  run_end s at = at + length (run (drop at s))

@@ -14,8 +14,8 @@ module _ {ℓ} {A : Type ℓ} where
   up_to stop (x ∷ xs) = let r = x ∷ up_to stop xs in cond (stop x) [] r
 
   -- a at the place i, and what stood from there on after it
-  abbrev pub insertAt : ℕ → A → List A → List A
-  insertAt i a xs = take i xs ++ a ∷ drop i xs
+  abbrev pub insert_at : ℕ → A → List A → List A
+  insert_at i a xs = take i xs ++ a ∷ drop i xs
 
   -- ys in the place of the k elements from a on: what a list is after a part of it was lent and came back as ys
   abbrev pub replaced : ℕ → ℕ → List A → List A → List A

@@ -1,13 +1,13 @@
 // One request line: taken apart, decided and answered.
 ghost use Rattle.std.specs.Prelude.{◌≡◌, ◌≤◌, ◌<◌, length};
-ghost use Rattle.values.specs.Scalars.{valueIn};
-ghost use Rattle.paths.specs.Layout.{pathIn};
-ghost use Rattle.masks.specs.Readers.{readersOf};
-ghost use Rattle.tables.specs.Memory.{tablesIn};
-ghost use Rattle.record.specs.Slots.{fieldsIn, masksIn};
+ghost use Rattle.values.specs.Scalars.{value_in};
+ghost use Rattle.paths.specs.Layout.{path_in};
+ghost use Rattle.masks.specs.Readers.{readers_of};
+ghost use Rattle.tables.specs.Memory.{tables_in};
+ghost use Rattle.record.specs.Slots.{fields_in, masks_in};
 ghost use Rattle.record.specs.Search.{place_in};
 ghost use Rattle.opening.specs.Memory.{arrays};
-ghost use Rattle.server.specs.Masked.{maskAt};
+ghost use Rattle.server.specs.Masked.{mask_at};
 ghost use Rattle.server.specs.Replies.{outputs, ServedByMasks, ServedByPolicy, LoginServed, GetServed, PushServed, LogoutServed, Storable};
 
 use crate::answer::Reply;
@@ -76,8 +76,8 @@ fn get(
 
 // The mask of a path, found at a place: the one beside the field that is held there, or made from the policy.
 fn mask_for(tables: &[u8; TABLES], fields: &[u8; RECORD], place: Place, path: &[u8; PATH]) -> u32
-    requires { place ≡ place_in 0 (pathIn path.now) (fieldsIn fields.now) }
-    ensures { result ≡ maskAt place (readersOf (tablesIn tables.now) (pathIn path.now)) (masksIn fields.now) }
+    requires { place ≡ place_in 0 (path_in path.now) (fields_in fields.now) }
+    ensures { result ≡ mask_at place (readers_of (tables_in tables.now) (path_in path.now)) (masks_in fields.now) }
 {
     match place {
         Place::At(at) => mask_of(slot_at(fields, at)),
@@ -100,7 +100,7 @@ fn push(
     requires { Storable path.now line.now at value }
     ensures { PushServed
         (arrays tables.now logins.old fields.old)
-        line.now n (pathIn path.now) (valueIn line.now value) list.old result
+        line.now n (path_in path.now) (value_in line.now value) list.old result
         (arrays tables.now logins.new fields.new) list.new }
 {
     if list.len() < LIST_ROOM {

@@ -7,67 +7,67 @@ use mathlib.Core.List.{List}
 use native.Mathlib.Omega.{arith}
 use lib.ListN.{length, get_or, take, drop}
 use Rattle.model.specs.Base.{Bytes}
-use Rattle.model.specs.Limits.{maxUsers}
+use Rattle.model.specs.Limits.{max_users}
 use Rattle.model.specs.Refusals.{refused, done, ◌>>=◌, ◌>>◌, refuse◌if◌, ◌or◌}
-use Rattle.model.specs.Tables.{User, userAt}
-use Rattle.model.specs.Opening.{LoginState, State, emptyLogin}
-use Rattle.model.specs.Serving.{indexIn, loginAt, asker}
+use Rattle.model.specs.Tables.{User, user_at}
+use Rattle.model.specs.Opening.{LoginState, State, empty_login}
+use Rattle.model.specs.Serving.{index_in, login_at, asker}
 use Rattle.model.proofs.Lists.{never, elem_below}
-use Rattle.layout.specs.Layout.{inUse}
-use Rattle.tables.specs.Memory.{userRow, usersBytes, userIn, usersIn}
+use Rattle.layout.specs.Layout.{in_use}
+use Rattle.tables.specs.Memory.{user_row, users_bytes, user_in, users_in}
 use Rattle.layout.proofs.Used.{length-table, counted-fit}
 use Rattle.tables.proofs.Users.{user-inside, user-some}
 use Rattle.sessions.specs.declared.SessionAt.{SessionAt}
 use Rattle.sessions.specs.declared.SessionAt.TheVariants.{Of, Unknown}
-use Rattle.sessions.specs.Logins.{sessionIs, hasSession, sessionAnswer}
+use Rattle.sessions.specs.Logins.{session_is, has_session, session_answer}
 
 -- 14, or the session's user
 module _ (s : State) (n : ℕ) where
-  pub no-session : hasSession s.tables.users s.loginStates n ≡ false → asker s n ≡ refused 14
-  unfolding hasSession sessionIs asker loginAt ◌>>=◌ ◌>>◌ ◌or◌ refuse◌if◌
-  no-session h = go (userAt s.tables.users (indexIn n)) refl
+  pub no-session : has_session s.tables.users s.login_states n ≡ false → asker s n ≡ refused 14
+  unfolding has_session session_is asker login_at ◌>>=◌ ◌>>◌ ◌or◌ refuse◌if◌
+  no-session h = go (user_at s.tables.users (index_in n)) refl
     where
-      go : (o : Option User) → userAt s.tables.users (indexIn n) ≡ o → asker s n ≡ refused 14
+      go : (o : Option User) → user_at s.tables.users (index_in n) ≡ o → asker s n ≡ refused 14
       go none e = rw e
       go (some u) e = rw (e, rw e at h)
 
-  pub in-session : {u : User} → userAt s.tables.users (indexIn n) ≡ some u → hasSession s.tables.users s.loginStates n ≡ true
-      → asker s n ≡ done (record { index = indexIn n; user = u; login = get_or s.loginStates (indexIn n) emptyLogin })
-  unfolding hasSession sessionIs asker loginAt ◌>>=◌ ◌>>◌ ◌or◌ refuse◌if◌
+  pub in-session : {u : User} → user_at s.tables.users (index_in n) ≡ some u → has_session s.tables.users s.login_states n ≡ true
+      → asker s n ≡ done (record { index = index_in n; user = u; login = get_or s.login_states (index_in n) empty_login })
+  unfolding has_session session_is asker login_at ◌>>=◌ ◌>>◌ ◌or◌ refuse◌if◌
   in-session e h = rw (e, rw e at h)
 
 -- o is what the search for the session answered
-module _ (s : Bytes) (ls : List LoginState) (n : ℕ) {o : SessionAt} (answer : o ≡ sessionAnswer (hasSession (usersIn s) ls n) n) where
-  pub session-unknown : o ≡ Unknown → hasSession (usersIn s) ls n ≡ false
-  session-unknown is = go (hasSession (usersIn s) ls n) (sym is ∙ answer)
+module _ (s : Bytes) (ls : List LoginState) (n : ℕ) {o : SessionAt} (answer : o ≡ session_answer (has_session (users_in s) ls n) n) where
+  pub session-unknown : o ≡ Unknown → has_session (users_in s) ls n ≡ false
+  session-unknown is = go (has_session (users_in s) ls n) (sym is ∙ answer)
     where
-      go : (b : Bool) → Unknown ≡ sessionAnswer b n → b ≡ false
+      go : (b : Bool) → Unknown ≡ session_answer b n → b ≡ false
       go true h = let z : ◌≡◌ {A = ℕ} 0 1 = cc in absurd (omega arith)
       go false h = refl
 
   module _ {i : ℕ} (is : o ≡ Of i) where
     -- a session of the user in the row at i
-    pub session-known : (hasSession (usersIn s) ls n ≡ true) × (i ≡ indexIn n)
-    session-known = go (hasSession (usersIn s) ls n) (sym is ∙ answer)
+    pub session-known : (has_session (users_in s) ls n ≡ true) × (i ≡ index_in n)
+    session-known = go (has_session (users_in s) ls n) (sym is ∙ answer)
       where
-        go : (b : Bool) → Of i ≡ sessionAnswer b n → (b ≡ true) × (i ≡ indexIn n)
+        go : (b : Bool) → Of i ≡ session_answer b n → (b ≡ true) × (i ≡ index_in n)
         go true h = (refl, (cc))
         go false h = let z : ◌≡◌ {A = ℕ} 0 1 = cc in absurd (omega arith)
 
-    session-counted : i < length (inUse userRow maxUsers s)
-    unfolding hasSession sessionIs userAt usersIn
-    session-counted = go (userAt (usersIn s) (indexIn n)) refl
+    session-counted : i < length (in_use user_row max_users s)
+    unfolding has_session session_is user_at users_in
+    session-counted = go (user_at (users_in s) (index_in n)) refl
       where
-        go : (o : Option User) → userAt (usersIn s) (indexIn n) ≡ o → i < length (inUse userRow maxUsers s)
+        go : (o : Option User) → user_at (users_in s) (index_in n) ≡ o → i < length (in_use user_row max_users s)
         go none e = never (sym session-known.0 ∙ rw e)
         go (some u) e =
-            omega (arith, session-known.1, elem_below (usersIn s) (indexIn n) u e, length-table userIn userRow maxUsers s)
+            omega (arith, session-known.1, elem_below (users_in s) (index_in n) u e, length-table user_in user_row max_users s)
 
-    pub session-below : i < maxUsers
-    session-below = omega (arith, session-counted, counted-fit userRow maxUsers s refl)
+    pub session-below : i < max_users
+    session-below = omega (arith, session-counted, counted-fit user_row max_users s refl)
 
-    pub session-inside : usersBytes ≤ length s → i * userRow + userRow ≤ length s
+    pub session-inside : users_bytes ≤ length s → i * user_row + user_row ≤ length s
     session-inside h = user-inside s refl i session-counted h
 
-    pub session-user : {row : Bytes} → row ≡ take userRow (drop (i * userRow) s) → userAt (usersIn s) (indexIn n) ≡ some (userIn row)
+    pub session-user : {row : Bytes} → row ≡ take user_row (drop (i * user_row) s) → user_at (users_in s) (index_in n) ≡ some (user_in row)
     session-user at = rw (← session-known.1) (user-some s refl i session-counted at)

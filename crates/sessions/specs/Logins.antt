@@ -3,13 +3,13 @@ use Rattle.std.specs.Prelude.{ℕ, ◌*◌, ◌≡◌, Bool, true, false, not, L
 use Rattle.std.proofs.Math.Option.{Option, none, some}
 use Rattle.rows.specs.Rows.{rows, written}
 use Rattle.model.specs.Base.{Bytes, if◌then◌else◌}
-use Rattle.model.specs.Limits.{maxUsers}
+use Rattle.model.specs.Limits.{max_users}
 use Rattle.model.specs.Refusals.{Result, refused, done}
-use Rattle.model.specs.Tables.{User, userAt}
-use Rattle.model.specs.Opening.{LoginState, emptyLogin}
+use Rattle.model.specs.Tables.{User, user_at}
+use Rattle.model.specs.Opening.{LoginState, empty_login}
 use Rattle.model.specs.Serving as serving
-use Rattle.model.specs.Serving.{Change, setsLogin, shows, stores, isSession, indexIn, countIn, sessionNumber, decideLogin}
-use Rattle.tables.specs.Memory.{usersIn}
+use Rattle.model.specs.Serving.{Change, sets_login, shows, stores, is_session, index_in, count_in, session_number, decide_login}
+use Rattle.tables.specs.Memory.{users_in}
 use Rattle.sessions.specs.declared.LoginState as code
 use Rattle.sessions.specs.declared.LoginReply.{LoginReply}
 use Rattle.sessions.specs.declared.LoginReply.TheVariants as login
@@ -19,49 +19,49 @@ use Rattle.sessions.specs.declared.SessionAt.TheVariants as session
 
 -- ── Sizes, in numbers ──
 -- a login state: the logins, whether a session is open, the fields created
-abbrev pub loginRow : ℕ
-loginRow = 3
+abbrev pub login_row : ℕ
+login_row = 3
 
-abbrev pub loginNumbers : ℕ
-loginNumbers = maxUsers * loginRow
+abbrev pub login_numbers : ℕ
+login_numbers = max_users * login_row
 
 -- ── Meanings ──
 -- a login state in three numbers
-unfoldable pub loginIn : List ℕ → LoginState
-loginIn row = record { logins = get_or row 0 0; isOpen = not (eqb (get_or row 1 0) 0); created = get_or row 2 0 }
+unfoldable pub login_in : List ℕ → LoginState
+login_in row = record { logins = get_or row 0 0; is_open = not (eqb (get_or row 1 0) 0); created = get_or row 2 0 }
 
 -- one for each user index
-unfoldable pub loginsIn : List ℕ → List LoginState
-loginsIn s = map loginIn (rows loginRow maxUsers s)
+unfoldable pub logins_in : List ℕ → List LoginState
+logins_in s = map login_in (rows login_row max_users s)
 
 unfoldable pub state_of : code.LoginState → LoginState
-state_of s = record { logins = s.logins; isOpen = s.is_open; created = s.created }
+state_of s = record { logins = s.logins; is_open = s.is_open; created = s.created }
 
 -- ── A login state stored ──
 -- its three numbers
-unfoldable pub numbersOf : LoginState → List ℕ
-numbersOf a = a.logins ∷ (if a.isOpen then 1 else 0) ∷ a.created ∷ []
+unfoldable pub numbers_of : LoginState → List ℕ
+numbers_of a = a.logins ∷ (if a.is_open then 1 else 0) ∷ a.created ∷ []
 
 -- they are written at the index i, and no other number is
-unfoldable pub withLogin : ℕ → LoginState → List ℕ → List ℕ
-withLogin i a s = written (i * loginRow) (numbersOf a) s
+unfoldable pub with_login : ℕ → LoginState → List ℕ → List ℕ
+with_login i a s = written (i * login_row) (numbers_of a) s
 
 -- the login state at the index i becomes this one, in numbers and in meaning
 pub record StateStored (before : List ℕ) (i : ℕ) (a : LoginState) (after : List ℕ) : Type 0 where
-  pub numbers : after ≡ withLogin i a before
-  pub states : loginsIn after ≡ set (loginsIn before) i a
+  pub numbers : after ≡ with_login i a before
+  pub states : logins_in after ≡ set (logins_in before) i a
 
 -- the numbers, once it is decided what a request changes
-abbrev pub numbersAfter : Result ℕ Change → List ℕ → List ℕ
-numbersAfter (refused e) s = s
-numbersAfter (done (setsLogin i a)) s = withLogin i a s
-numbersAfter (done (shows c)) s = s
-numbersAfter (done (stores i a f)) s = withLogin i a s
+abbrev pub numbers_after : Result ℕ Change → List ℕ → List ℕ
+numbers_after (refused e) s = s
+numbers_after (done (sets_login i a)) s = with_login i a s
+numbers_after (done (shows c)) s = s
+numbers_after (done (stores i a f)) s = with_login i a s
 
 -- ── A session opened or closed ──
 -- with n logins, and a session or none; the fields created stay counted
-unfoldable pub withSession : LoginState → ℕ → Bool → LoginState
-withSession a n t = record { logins = n; isOpen = t; created = a.created }
+unfoldable pub with_session : LoginState → ℕ → Bool → LoginState
+with_session a n t = record { logins = n; is_open = t; created = a.created }
 
 -- the login state after a login and after a logout, kept shut for the proofs
 unfoldable pub entered : LoginState → LoginState
@@ -72,46 +72,46 @@ closed a = serving.closed a
 
 -- ── A login ──
 -- a login looks at the users and the login states alone
-unfoldable pub loginDecided : List User → List LoginState → Bytes → Bytes → Result ℕ Change
-loginDecided us ls n k = decideLogin (record { tables = record { users = us; policy = [] }; loginStates = ls; fields = [] }) n k
+unfoldable pub login_decided : List User → List LoginState → Bytes → Bytes → Result ℕ Change
+login_decided us ls n k = decide_login (record { tables = record { users = us; policy = [] }; login_states = ls; fields = [] }) n k
 
 -- the number of a refusal, or the session's
-abbrev pub loginAnswer : Result ℕ Change → LoginReply
-loginAnswer (refused e) = login.Refused e
-loginAnswer (done (setsLogin i a)) = login.Session (sessionNumber i a)
-loginAnswer (done (shows c)) = login.Refused 0
-loginAnswer (done (stores i a f)) = login.Refused 0
+abbrev pub login_answer : Result ℕ Change → LoginReply
+login_answer (refused e) = login.Refused e
+login_answer (done (sets_login i a)) = login.Session (session_number i a)
+login_answer (done (shows c)) = login.Refused 0
+login_answer (done (stores i a f)) = login.Refused 0
 
 -- the login states once it is decided
-abbrev pub loginsAfter : List LoginState → Result ℕ Change → List LoginState
-loginsAfter ls (refused e) = ls
-loginsAfter ls (done (setsLogin i a)) = set ls i a
-loginsAfter ls (done (shows c)) = ls
-loginsAfter ls (done (stores i a f)) = ls
+abbrev pub logins_after : List LoginState → Result ℕ Change → List LoginState
+logins_after ls (refused e) = ls
+logins_after ls (done (sets_login i a)) = set ls i a
+logins_after ls (done (shows c)) = ls
+logins_after ls (done (stores i a f)) = ls
 
 -- a login of a name with a key: what is decided for it is answered and done, in meaning and in numbers
 pub record LoggedIn (tables : Bytes) (before : List ℕ) (name key : Bytes) (r : LoginReply) (after : List ℕ) : Type 0 where
-  pub answers : r ≡ loginAnswer (loginDecided (usersIn tables) (loginsIn before) name key)
-  pub leaves : loginsIn after ≡ loginsAfter (loginsIn before) (loginDecided (usersIn tables) (loginsIn before) name key)
-  pub numbers : after ≡ numbersAfter (loginDecided (usersIn tables) (loginsIn before) name key) before
+  pub answers : r ≡ login_answer (login_decided (users_in tables) (logins_in before) name key)
+  pub leaves : logins_in after ≡ logins_after (logins_in before) (login_decided (users_in tables) (logins_in before) name key)
+  pub numbers : after ≡ numbers_after (login_decided (users_in tables) (logins_in before) name key) before
 
 -- ── A session's number ──
 -- "The place and the count found are those of document 01's division, for every number a line may carry" (02, 3)
 abbrev pub parts_in : ℕ → NumberParts
-parts_in n = record { index = indexIn n; logins = countIn n }
+parts_in n = record { index = index_in n; logins = count_in n }
 
-unfoldable pub sessionIs : Option User → ℕ → LoginState → ℕ → Bool
-sessionIs none i a n = false
-sessionIs (some u) i a n = isSession i a n
+unfoldable pub session_is : Option User → ℕ → LoginState → ℕ → Bool
+session_is none i a n = false
+session_is (some u) i a n = is_session i a n
 
 -- whether an open session of a user has the number n
-unfoldable pub hasSession : List User → List LoginState → ℕ → Bool
-hasSession us ls n = sessionIs (userAt us (indexIn n)) (indexIn n) (get_or ls (indexIn n) emptyLogin) n
+unfoldable pub has_session : List User → List LoginState → ℕ → Bool
+has_session us ls n = session_is (user_at us (index_in n)) (index_in n) (get_or ls (index_in n) empty_login) n
 
-abbrev pub sessionAnswer : Bool → ℕ → SessionAt
-sessionAnswer true n = session.Of (indexIn n)
-sessionAnswer false n = session.Unknown
+abbrev pub session_answer : Bool → ℕ → SessionAt
+session_answer true n = session.Of (index_in n)
+session_answer false n = session.Unknown
 
 -- the user whose open session has the number n, by the arrays
-abbrev pub sessionOf : Bytes → List ℕ → ℕ → SessionAt
-sessionOf tables logins n = sessionAnswer (hasSession (usersIn tables) (loginsIn logins) n) n
+abbrev pub session_of : Bytes → List ℕ → ℕ → SessionAt
+session_of tables logins n = session_answer (has_session (users_in tables) (logins_in logins) n) n

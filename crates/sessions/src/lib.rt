@@ -1,9 +1,9 @@
 // Login states: for each user index the logins, whether a session is open, and the fields created.
 ghost use Rattle.std.specs.Prelude.{◌≡◌, ◌<◌, get_or};
-ghost use Rattle.model.specs.Limits.{maxUsers, maxLogins};
-ghost use Rattle.model.specs.Opening.{emptyLogin};
-ghost use Rattle.model.specs.Serving.{sessionNumber};
-ghost use Rattle.sessions.specs.Logins.{loginsIn, state_of, StateStored, withSession, entered, closed, LoggedIn, parts_in, sessionOf};
+ghost use Rattle.model.specs.Limits.{max_users, max_logins};
+ghost use Rattle.model.specs.Opening.{empty_login};
+ghost use Rattle.model.specs.Serving.{session_number};
+ghost use Rattle.sessions.specs.Logins.{logins_in, state_of, StateStored, with_session, entered, closed, LoggedIn, parts_in, session_of};
 
 use layout::name::{NAME_ROW, name_from};
 use layout::table::row_count;
@@ -49,8 +49,8 @@ pub enum SessionAt {
 
 // The login state at an index.
 pub fn state_at(logins: &[u16; LOGINS], i: usize) -> LoginState
-    requires { i < maxUsers }
-    ensures { state_of result ≡ get_or (loginsIn logins.now) i emptyLogin }
+    requires { i < max_users }
+    ensures { state_of result ≡ get_or (logins_in logins.now) i empty_login }
 {
     let at = i * LOGIN_ROW;
     LoginState {
@@ -62,7 +62,7 @@ pub fn state_at(logins: &[u16; LOGINS], i: usize) -> LoginState
 
 // The login state at an index becomes this one.
 pub fn put_state(logins: &mut [u16; LOGINS], i: usize, state: LoginState)
-    requires { i < maxUsers }
+    requires { i < max_users }
     ensures { StateStored logins.old i (state_of state) logins.new }
 {
     let numbers: &mut [u16] = logins; // a slice, of which the proof knows how long it is
@@ -74,8 +74,8 @@ pub fn put_state(logins: &mut [u16; LOGINS], i: usize, state: LoginState)
 
 // The session number of a login state at an index.
 pub fn number(i: usize, state: LoginState) -> u32
-    requires { i < maxUsers }
-    ensures { result ≡ sessionNumber i (state_of state) }
+    requires { i < max_users }
+    ensures { result ≡ session_number i (state_of state) }
 {
     ((i as u32) << LOGIN_BITS) | (state.logins as u32)
 }
@@ -92,7 +92,7 @@ pub fn split_number(n: u32) -> NumberParts
 
 // The login count and whether a session is open become these; the fields created stay counted.
 fn set_session(state: &mut LoginState, logins: u16, is_open: bool)
-    ensures { state_of state.new ≡ withSession (state_of state.old) logins is_open }
+    ensures { state_of state.new ≡ with_session (state_of state.old) logins is_open }
 {
     state.logins = logins;
     state.is_open = is_open;
@@ -100,7 +100,7 @@ fn set_session(state: &mut LoginState, logins: u16, is_open: bool)
 
 // The same for a caller that has the login state by value.
 fn with_session(state: LoginState, logins: u16, is_open: bool) -> LoginState
-    ensures { state_of result ≡ withSession (state_of state) logins is_open }
+    ensures { state_of result ≡ with_session (state_of state) logins is_open }
 {
     let mut next = state;
     set_session(&mut next, logins, is_open);
@@ -109,7 +109,7 @@ fn with_session(state: LoginState, logins: u16, is_open: bool) -> LoginState
 
 // A login: one more, and a session is open.
 fn entered(state: LoginState) -> LoginState
-    requires { state.logins < maxLogins }
+    requires { state.logins < max_logins }
     ensures { state_of result ≡ entered (state_of state) }
 {
     with_session(state, state.logins + 1, true)
@@ -152,7 +152,7 @@ pub fn login(
 
 // The user whose open session has the number n: the one at its index, with its count of logins.
 pub fn session(tables: &[u8; TABLES], logins: &[u16; LOGINS], n: u32) -> SessionAt
-    ensures { result ≡ sessionOf tables.now logins.now n }
+    ensures { result ≡ session_of tables.now logins.now n }
 {
     let parts = split_number(n);
     let i = parts.index;

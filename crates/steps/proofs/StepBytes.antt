@@ -5,31 +5,31 @@ use mathlib.Core.Option.{some}
 use mathlib.Core.List.{[], ◌∷◌}
 use lib.ListN.{replicate}
 use Rattle.model.specs.Base.{Bytes, joined}
-use Rattle.model.specs.Limits.{maxListed}
+use Rattle.model.specs.Limits.{max_listed}
 use Rattle.model.specs.Paths.{Step}
 use Rattle.model.proofs.Lists.{by_cases, none-some}
 use Rattle.model.proofs.Reading.{some_same}
-use Rattle.layout.specs.Layout.{keyRow, nameIn, encodeName, encodeCounted, encodeKeys, CanonicalKeys}
+use Rattle.layout.specs.Layout.{key_row, name_in, encode_name, encode_counted, encode_keys, CanonicalKeys}
 use Rattle.layout.proofs.Canonical.{counted-encoded}
 use Rattle.steps.specs.declared.step.Operator.TheVariants.{Equals, In}
 use Rattle.steps.specs.declared.step.Kind.{Kind}
 use Rattle.steps.specs.declared.step.Kind.TheVariants.{Names, Wildcard, Environment}
 use Rattle.steps.specs.declared.step.StepRead.{StepRead}
-use Rattle.steps.specs.Steps.{namesSlot, namesIn, by_kind, byte_of, stepIn, step_of, row_of, stepAnswer, encodeStep, CanonicalStep}
+use Rattle.steps.specs.Steps.{names_slot, names_in, by_kind, byte_of, step_in, step_of, row_of, step_answer, encode_step, CanonicalStep}
 use Rattle.steps.proofs.StepRows.{step-written}
 
-pub names-encoded : (s : Bytes) → CanonicalKeys maxListed s → s ≡ encodeKeys maxListed (namesIn s)
-unfolding namesIn
-names-encoded s h = counted-encoded (encodeName keyRow) nameIn keyRow maxListed s h
+pub names-encoded : (s : Bytes) → CanonicalKeys max_listed s → s ≡ encode_keys max_listed (names_in s)
+unfolding names_in
+names-encoded s h = counted-encoded (encode_name key_row) name_in key_row max_listed s h
 
 -- a list of the names in a slot
-pub list-canonical : (s : Bytes) → CanonicalKeys maxListed s → CanonicalStep (byte_of Names ∷ s)
-unfolding stepIn encodeStep
+pub list-canonical : (s : Bytes) → CanonicalKeys max_listed s → CanonicalStep (byte_of Names ∷ s)
+unfolding step_in encode_step
 list-canonical s h = ap (λ (r : Bytes). byte_of Names ∷ r) (names-encoded s h)
 
 -- a wildcard, beside no names
-pub wildcard-canonical : CanonicalStep (byte_of Wildcard ∷ replicate namesSlot 0)
-unfolding stepIn encodeStep encodeCounted joined
+pub wildcard-canonical : CanonicalStep (byte_of Wildcard ∷ replicate names_slot 0)
+unfolding step_in encode_step encode_counted joined
 wildcard-canonical = refl
 
 -- a step with one name beside it
@@ -38,18 +38,18 @@ Named Names = Unit {0}
 Named Wildcard = ⊥
 Named (Environment o) = Unit {0}
 
-one-encoded : (k : Kind) → Named k → (n : Bytes) → byte_of k ∷ encodeKeys maxListed (n ∷ []) ≡ encodeStep (by_kind k (n ∷ []))
-unfolding encodeStep
+one-encoded : (k : Kind) → Named k → (n : Bytes) → byte_of k ∷ encode_keys max_listed (n ∷ []) ≡ encode_step (by_kind k (n ∷ []))
+unfolding encode_step
 one-encoded Names h n = refl
 one-encoded Wildcard h n = absurd h
 one-encoded (Environment Equals) h n = refl
 one-encoded (Environment In) h n = refl
 
-answered : (r : StepRead) (t : Step) (e : ℕ) → stepAnswer r ≡ some (t, e) → step_of r.step ≡ t
+answered : (r : StepRead) (t : Step) (e : ℕ) → step_answer r ≡ some (t, e) → step_of r.step ≡ t
 answered r t e h = by_cases r.ok
     (λ ok. ap (λ (p : Step × ℕ). p.0) (some_same (rw ok at h)))
     (λ no. none-some (rw no at h))
 
-pub one-canonical : (r : StepRead) (k : Kind) → Named k → (n : Bytes) (e : ℕ) → stepAnswer r ≡ some (by_kind k (n ∷ []), e)
-    → row_of r.step ≡ byte_of k ∷ encodeKeys maxListed (n ∷ []) → CanonicalStep (row_of r.step)
-one-canonical r k named n e h is = is ∙ one-encoded k named n ∙ ap encodeStep (sym (answered r (by_kind k (n ∷ [])) e h) ∙ sym (step-written r.step))
+pub one-canonical : (r : StepRead) (k : Kind) → Named k → (n : Bytes) (e : ℕ) → step_answer r ≡ some (by_kind k (n ∷ []), e)
+    → row_of r.step ≡ byte_of k ∷ encode_keys max_listed (n ∷ []) → CanonicalStep (row_of r.step)
+one-canonical r k named n e h is = is ∙ one-encoded k named n ∙ ap encode_step (sym (answered r (by_kind k (n ∷ [])) e h) ∙ sym (step-written r.step))

@@ -10,20 +10,20 @@ use lib.Seq.{take_all}
 use borrow.Author.Tests.{le-leb, lt-leb}
 use Rattle.rows.specs.Positions.{Reads}
 use Rattle.model.specs.Base.{Bytes, ◌>>=◌, ◌>>◌, check}
-use Rattle.model.specs.Limits.{maxKey, maxDepth, maxPathText}
-use Rattle.model.specs.Paths.{Step, Steps, names, asSteps, stepsText, read_step, readPath, steps_of}
-use Rattle.paths.specs.Layout.{pathIn}
-use Rattle.layout.specs.Layout.{keyRow, nameIn}
-use Rattle.steps.specs.Steps.{stepsIn, stepsAnswer}
+use Rattle.model.specs.Limits.{max_key, max_depth, max_path_text}
+use Rattle.model.specs.Paths.{Step, Steps, names, as_steps, steps_text, read_step, read_path, steps_of}
+use Rattle.paths.specs.Layout.{path_in}
+use Rattle.layout.specs.Layout.{key_row, name_in}
+use Rattle.steps.specs.Steps.{steps_in, steps_answer}
 use Rattle.steps.specs.declared.policy.StepsRead.{StepsRead}
 use Rattle.layout.proofs.Counts.{counted-more}
 use Rattle.layout.proofs.Named.{name-length}
 use Rattle.paths.proofs.WholePaths.{left, left_step}
 
 -- a step is pushed behind the steps p where there is room: then they are p₁
-module _ (p p₁ : Steps) (a : Step) (pushed : p₁ ≡ take maxDepth (p ++ a ∷ [])) (room : length p < maxDepth) where
+module _ (p p₁ : Steps) (a : Step) (pushed : p₁ ≡ take max_depth (p ++ a ∷ [])) (room : length p < max_depth) where
   step_pushed : p₁ ≡ p ++ a ∷ []
-  step_pushed = pushed ∙ take_all maxDepth (p ++ a ∷ []) (rw length-append (omega arith))
+  step_pushed = pushed ∙ take_all max_depth (p ++ a ∷ []) (rw length-append (omega arith))
 
   -- it was read from `at` to e
   pub step-turn : (n : ℕ) → n ≡ length p → (s : Bytes) (at e : ℕ) → Reads read_step s at a e → at < length s
@@ -31,26 +31,26 @@ module _ (p p₁ : Steps) (a : Step) (pushed : p₁ ≡ take maxDepth (p ++ a �
   step-turn n is s at e r h = rw step_pushed (rw length-append (omega arith), left_step read_step s at p h room a e r)
 
 -- the steps p are the first i keys of a field's path, and the key behind them is pushed as a list of one
-pub key-step-turn : (slot : Bytes) (i : ℕ) → i < min (get_or slot 0 0) maxDepth → (p p₁ : Steps) → p ≡ asSteps (take i (pathIn slot))
-    → (key : Bytes) → key ≡ nameIn (take keyRow (drop (i * keyRow + 1) slot)) → (ns : List Bytes) → ns ≡ take maxKey key ∷ []
-    → p₁ ≡ take maxDepth (p ++ names ns ∷ []) → p₁ ≡ asSteps (take (i + 1) (pathIn slot))
-unfolding asSteps pathIn
+pub key-step-turn : (slot : Bytes) (i : ℕ) → i < min (get_or slot 0 0) max_depth → (p p₁ : Steps) → p ≡ as_steps (take i (path_in slot))
+    → (key : Bytes) → key ≡ name_in (take key_row (drop (i * key_row + 1) slot)) → (ns : List Bytes) → ns ≡ take max_key key ∷ []
+    → p₁ ≡ take max_depth (p ++ names ns ∷ []) → p₁ ≡ as_steps (take (i + 1) (path_in slot))
+unfolding as_steps path_in
 key-step-turn slot i h p p₁ inv key is ns one pushed =
-    let room : length p < maxDepth = rw inv (simp (length-map, length-take) (omega arith)) in
-    let whole = take_all maxKey key (name-length maxKey _ is (simp length-take (omega arith))) in
-    step_pushed p p₁ (names ns) pushed room ∙ rw (inv, one, whole, is, counted-more nameIn keyRow maxDepth slot i h, map-append)
+    let room : length p < max_depth = rw inv (simp (length-map, length-take) (omega arith)) in
+    let whole = take_all max_key key (name-length max_key _ is (simp length-take (omega arith))) in
+    step_pushed p p₁ (names ns) pushed room ∙ rw (inv, one, whole, is, counted-more name_in key_row max_depth slot i h, map-append)
 
 -- ── A path of at most 121 bytes in the standard spelling ──
-module _ (s : Bytes) (r : StepsRead) (answer : stepsAnswer r ≡ readPath read_step s) where
+module _ (s : Bytes) (r : StepsRead) (answer : steps_answer r ≡ read_path read_step s) where
   pub steps-none : r.ok ≡ false → none ≡ steps_of s
   unfolding steps_of ◌>>=◌
   steps-none h = rw (← answer, h)
 
-  module _ (h : r.ok ≡ true) (n : ℕ) (is : n ≡ 0 + length (stepsText (stepsIn r.slot))) where
-    pub steps-fit : n ≤ maxPathText → stepsAnswer r ≡ steps_of s
+  module _ (h : r.ok ≡ true) (n : ℕ) (is : n ≡ 0 + length (steps_text (steps_in r.slot))) where
+    pub steps-fit : n ≤ max_path_text → steps_answer r ≡ steps_of s
     unfolding steps_of ◌>>=◌ ◌>>◌ check
-    steps-fit l = let k : length (stepsText (stepsIn r.slot)) ≤ maxPathText = omega arith in rw (← answer, h, le-leb _ maxPathText k)
+    steps-fit l = let k : length (steps_text (steps_in r.slot)) ≤ max_path_text = omega arith in rw (← answer, h, le-leb _ max_path_text k)
 
-    pub steps-long : maxPathText < n → none ≡ steps_of s
+    pub steps-long : max_path_text < n → none ≡ steps_of s
     unfolding steps_of ◌>>=◌ ◌>>◌ check
-    steps-long l = let k : maxPathText < length (stepsText (stepsIn r.slot)) = omega arith in rw (← answer, h, lt-leb _ maxPathText k)
+    steps-long l = let k : max_path_text < length (steps_text (steps_in r.slot)) = omega arith in rw (← answer, h, lt-leb _ max_path_text k)

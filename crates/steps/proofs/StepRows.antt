@@ -14,7 +14,7 @@ use Rattle.steps.specs.declared.step.Operator.TheVariants.{Equals, In}
 use Rattle.steps.specs.declared.step.Kind.{Kind}
 use Rattle.steps.specs.declared.step.Kind.TheVariants.{Names, Wildcard, Environment}
 use Rattle.steps.specs.declared.step.Step as code
-use Rattle.steps.specs.Steps.{namesIn, by_kind, byte_of, kind_of, stepIn, step_of}
+use Rattle.steps.specs.Steps.{names_in, by_kind, byte_of, kind_of, step_in, step_of}
 
 -- a row that is written whole
 pub row-filled : (xs row : Bytes) → length xs ≡ length row → written 0 xs row ≡ xs
@@ -31,12 +31,12 @@ kind-said (Environment Equals) = refl
 kind-said (Environment In) = refl
 
 -- a step that was written into a row is read back
-pub step-written : (t : code.Step) → stepIn (byte_of t.kind ∷ t.names) ≡ step_of t
-unfolding stepIn step_of
+pub step-written : (t : code.Step) → step_in (byte_of t.kind ∷ t.names) ≡ step_of t
+unfolding step_in step_of
 step-written t = rw (kind-said t.kind)
 
 -- the step of a row whose first byte was matched with a kind: the names are the part behind that byte
 pub step-told : (row : Bytes) {r k : Kind} → r ≡ kind_of (get_or row 0 0) → r ≡ k
-    → stepIn row ≡ by_kind k (namesIn (take (length row - 1) (drop 1 row)))
-unfolding stepIn
+    → step_in row ≡ by_kind k (names_in (take (length row - 1) (drop 1 row)))
+unfolding step_in
 step-told row e t = rw (tail-part 1 row, ← e, t)

@@ -8,17 +8,17 @@ use lib.Dec.{ltb}
 use lib.ListN.{length, get_or, take, drop, length-take, length-append, length-map, get_or-eq_default}
 use borrow.Author.Tests.{ltb-true, ltb-false}
 use Rattle.model.specs.Base.{Bytes, text, between}
-use Rattle.model.specs.Paths.{Operator, equals, isIn, operatorText, nameText, stepText}
+use Rattle.model.specs.Paths.{Operator, equals, is_in, operator_text, name_text, step_text}
 use Rattle.model.proofs.Lists.{by_cases}
-use Rattle.layout.specs.Layout.{keyRow, nameIn, countedRows, counted}
+use Rattle.layout.specs.Layout.{key_row, name_in, counted_rows, counted}
 use Rattle.steps.specs.declared.step.Operator.TheVariants.{Equals, In}
 use Rattle.steps.specs.declared.step.Kind.{Kind}
 use Rattle.steps.specs.declared.step.Kind.TheVariants.{Names, Wildcard, Environment}
-use Rattle.steps.specs.Steps.{spelledStep, namesIn, by_kind, kind_of, stepIn}
+use Rattle.steps.specs.Steps.{spelled_step, names_in, by_kind, kind_of, step_in}
 use Rattle.layout.proofs.Counts.{length-rows-counted, counted-short, length-counted, counted-at, counted-more, counted-all}
 use Rattle.layout.proofs.Named.{name-length}
 use Rattle.steps.proofs.StepRows.{step-told}
-use Rattle.model.specs.Limits.{maxKey, maxListed}
+use Rattle.model.specs.Limits.{max_key, max_listed}
 
 -- ── Texts with a text between each two ──
 -- what stands before the text at the place i: nothing before the first
@@ -55,66 +55,66 @@ module _ (c : Bytes) (b : ℕ) (spell : Bytes → Bytes) (short : (r : Bytes) �
 
 -- ── Names ──
 -- in single quotes with commas between
-unfoldable pub spelledNames : List Bytes → Bytes
-spelledNames ns = between (text ",") (map nameText ns)
+unfoldable pub spelled_names : List Bytes → Bytes
+spelled_names ns = between (text ",") (map name_text ns)
 
 -- the first i of the names in a slot, and one more
-pub names-step : (s : Bytes) (i : ℕ) → i < min (get_or s 0 0) maxListed
-    → spelledNames (take (i + 1) (namesIn s))
-    ≡ spelledNames (take i (namesIn s)) ++ divider (text ",") i ++ nameText (nameIn (take keyRow (drop (i * keyRow + 1) s)))
-unfolding spelledNames namesIn
+pub names-step : (s : Bytes) (i : ℕ) → i < min (get_or s 0 0) max_listed
+    → spelled_names (take (i + 1) (names_in s))
+    ≡ spelled_names (take i (names_in s)) ++ divider (text ",") i ++ name_text (name_in (take key_row (drop (i * key_row + 1) s)))
+unfolding spelled_names names_in
 names-step s i h =
-    let ns = counted nameIn keyRow maxListed s in
+    let ns = counted name_in key_row max_listed s in
     let l : i < length ns = rw length-counted h in
-    let n : length (map nameText (take i ns)) ≡ i = simp (length-map, length-take) (omega arith) in
-    rw (counted-more nameIn keyRow maxListed s i h, map-append, between_more, n)
+    let n : length (map name_text (take i ns)) ≡ i = simp (length-map, length-take) (omega arith) in
+    rw (counted-more name_in key_row max_listed s i h, map-append, between_more, n)
 
 -- all of them
-pub names-all : (s : Bytes) (i : ℕ) → min (get_or s 0 0) maxListed ≤ i → take i (namesIn s) ≡ namesIn s
-unfolding namesIn
-names-all s i h = counted-all nameIn keyRow maxListed s i h
+pub names-all : (s : Bytes) (i : ℕ) → min (get_or s 0 0) max_listed ≤ i → take i (names_in s) ≡ names_in s
+unfolding names_in
+names-all s i h = counted-all name_in key_row max_listed s i h
 
 -- the names of a step, in quotes, with commas between
-pub names-length : (s : Bytes) → length (spelledNames (namesIn s)) ≤ maxListed * (maxKey + 3)
-unfolding spelledNames namesIn counted nameText text
+pub names-length : (s : Bytes) → length (spelled_names (names_in s)) ≤ max_listed * (max_key + 3)
+unfolding spelled_names names_in counted name_text text
 names-length s =
-    let rs = countedRows keyRow maxListed s in
-    let l : length rs ≤ maxListed = omega (arith, length-rows-counted keyRow maxListed s) in
-    rw (counted-short nameIn keyRow maxListed s, map-map nameText (λ r. nameIn (take keyRow r)))
-    (omega (arith, between-length (text ",") (maxKey + 3) (λ r. nameText (nameIn (take keyRow r))) short rs, mul-le-mul_right (maxKey + 3) l))
+    let rs = counted_rows key_row max_listed s in
+    let l : length rs ≤ max_listed = omega (arith, length-rows-counted key_row max_listed s) in
+    rw (counted-short name_in key_row max_listed s, map-map name_text (λ r. name_in (take key_row r)))
+    (omega (arith, between-length (text ",") (max_key + 3) (λ r. name_text (name_in (take key_row r))) short rs, mul-le-mul_right (max_key + 3) l))
   where
-    short : (r : Bytes) → length (nameText (nameIn (take keyRow r))) + length (text ",") ≤ (maxKey + 3)
-    short r = simp length-append (omega (arith, name-length maxKey (take keyRow r) refl (simp length-take (omega arith))))
+    short : (r : Bytes) → length (name_text (name_in (take key_row r))) + length (text ",") ≤ (max_key + 3)
+    short r = simp length-append (omega (arith, name-length max_key (take key_row r) refl (simp length-take (omega arith))))
 
 -- the first of them, if there is one
 module _ (s : Bytes) where
-  pub first-name : 0 < min (get_or s 0 0) maxListed → get_or (namesIn s) 0 [] ≡ nameIn (take keyRow (drop 1 s))
-  unfolding namesIn
-  first-name h = counted-at nameIn keyRow maxListed s 0 [] h
+  pub first-name : 0 < min (get_or s 0 0) max_listed → get_or (names_in s) 0 [] ≡ name_in (take key_row (drop 1 s))
+  unfolding names_in
+  first-name h = counted-at name_in key_row max_listed s 0 [] h
 
-  pub first-none : min (get_or s 0 0) maxListed ≤ 0 → get_or (namesIn s) 0 [] ≡ []
-  unfolding namesIn
-  first-none h = get_or-eq_default (counted nameIn keyRow maxListed s) [] (rw length-counted h)
+  pub first-none : min (get_or s 0 0) max_listed ≤ 0 → get_or (names_in s) 0 [] ≡ []
+  unfolding names_in
+  first-none h = get_or-eq_default (counted name_in key_row max_listed s) [] (rw length-counted h)
 
-  pub first-length : length (get_or (namesIn s) 0 []) ≤ maxKey
-  first-length = by_cases (ltb 0 (min (get_or s 0 0) maxListed))
-      (λ e. name-length maxKey _ (first-name (ltb-true _ _ e)) (simp length-take (omega arith)))
+  pub first-length : length (get_or (names_in s) 0 []) ≤ max_key
+  first-length = by_cases (ltb 0 (min (get_or s 0 0) max_listed))
+      (λ e. name-length max_key _ (first-name (ltb-true _ _ e)) (simp length-take (omega arith)))
       (λ e. rw (first-none (ltb-false _ _ e)) (omega arith))
 
 -- ── Steps ──
 -- the word of an operator has at most 3 bytes
-pub operator-length : (o : Operator) → length (operatorText o) ≤ 3
-unfolding operatorText text
+pub operator-length : (o : Operator) → length (operator_text o) ≤ 3
+unfolding operator_text text
 operator-length equals = omega arith
-operator-length isIn = omega arith
+operator-length is_in = omega arith
 
 -- a step is longest where it has four names
-kind-length : (k : Kind) (s : Bytes) → length (stepText (by_kind k (namesIn s))) ≤ spelledStep
-unfolding stepText operatorText text
-kind-length Names s = unfold spelledNames in simp length-append (omega (arith, names-length s))
+kind-length : (k : Kind) (s : Bytes) → length (step_text (by_kind k (names_in s))) ≤ spelled_step
+unfolding step_text operator_text text
+kind-length Names s = unfold spelled_names in simp length-append (omega (arith, names-length s))
 kind-length Wildcard s = omega arith
 kind-length (Environment Equals) s = simp length-append (omega (arith, first-length s))
 kind-length (Environment In) s = simp length-append (omega (arith, first-length s))
 
-pub step-length : (row : Bytes) → length (stepText (stepIn row)) ≤ spelledStep
+pub step-length : (row : Bytes) → length (step_text (step_in row)) ≤ spelled_step
 step-length row = rw (step-told row refl refl) (kind-length (kind_of (get_or row 0 0)) _)

@@ -2,10 +2,10 @@
 ghost use Rattle.std.specs.Prelude.{◌≡◌, [], ◌∷◌, ◌++◌, ◌+◌, ◌≤◌, ◌<◌, ◌^◌, length, get_or, take};
 ghost use Rattle.std.proofs.Math.Option.{none};
 ghost use Rattle.rows.specs.Rows.{Wrote};
-ghost use Rattle.model.specs.Paths.{environment, operatorText, stepText, stepsText, read_step, readPath, steps_of};
-ghost use Rattle.steps.specs.Steps.{namesSlot, stepRow, stepsSlot, spelledStep, spelledSteps, operatorOf, namesIn, by_kind, kind_of, byte_of, stepIn, stepsIn, step_of, row_of, CanonicalStep, CanonicalSteps, StepsAre};
+ghost use Rattle.model.specs.Paths.{environment, operator_text, step_text, steps_text, read_step, read_path, steps_of};
+ghost use Rattle.steps.specs.Steps.{names_slot, step_row, steps_slot, spelled_step, spelled_steps, operator_of, names_in, by_kind, kind_of, byte_of, step_in, steps_in, step_of, row_of, CanonicalStep, CanonicalSteps, StepsAre};
 ghost use Rattle.layout.specs.Layout.{Keeps};
-ghost use Rattle.model.specs.Limits.{maxDepth};
+ghost use Rattle.model.specs.Limits.{max_depth};
 
 use crate::step::{Kind, NAMES, Operator, Step, step_at};
 use buffers::{put, put_byte, put_quoted};
@@ -52,7 +52,7 @@ pub fn kind_of(b: u8) -> Kind
 
 // A step into its row.
 fn put_row(row: &mut [u8], step: Step)
-    requires { length row.old ≡ stepRow }
+    requires { length row.old ≡ step_row }
     ensures { row.new ≡ row_of step }
 {
     let kind = step.kind;
@@ -63,8 +63,8 @@ fn put_row(row: &mut [u8], step: Step)
 
 // One step more, where there is room for it.
 pub fn push_step(slot: &mut [u8], step: Step)
-    requires { stepsSlot ≤ length slot.old }
-    ensures slot_after { stepsIn slot.new ≡ take maxDepth (stepsIn slot.old ++ (step_of step ∷ [])) }
+    requires { steps_slot ≤ length slot.old }
+    ensures slot_after { steps_in slot.new ≡ take max_depth (steps_in slot.old ++ (step_of step ∷ [])) }
     ensures keeps { CanonicalStep (row_of step) → Keeps CanonicalSteps slot.old slot.new }
 {
     let mut row = [0u8; STEP];
@@ -74,8 +74,8 @@ pub fn push_step(slot: &mut [u8], step: Step)
 
 // The first of the names, or nothing.
 pub fn first_name(names: &[u8]) -> &[u8]
-    requires { namesSlot ≤ length names.now }
-    ensures { result.now ≡ get_or (namesIn names.now) 0 [] }
+    requires { names_slot ≤ length names.now }
+    ensures { result.now ≡ get_or (names_in names.now) 0 [] }
 {
     if 0 < count(names, MAX_LISTED) {
         return key_at(names, 0);
@@ -85,8 +85,8 @@ pub fn first_name(names: &[u8]) -> &[u8]
 
 // A list of names in the standard spelling: in single quotes, with commas between.
 fn put_list(out: &mut [u8], at: usize, names: &[u8]) -> usize
-    requires { (namesSlot ≤ length names.now) × (at + spelledStep < 2 ^ 64) }
-    ensures { Wrote at (stepText (by_kind Kind.Names (namesIn names.now))) out.old result out.new }
+    requires { (names_slot ≤ length names.now) × (at + spelled_step < 2 ^ 64) }
+    ensures { Wrote at (step_text (by_kind Kind.Names (names_in names.now))) out.old result out.new }
 {
     let n = count(names, MAX_LISTED);
     let mut to = put_byte(out, at, b'[');
@@ -104,7 +104,7 @@ fn put_list(out: &mut [u8], at: usize, names: &[u8]) -> usize
 // The opening bracket of an environment step, and the word of its operator.
 fn put_operator(out: &mut [u8], at: usize, operator: Operator) -> usize
     requires { at + 4 < 2 ^ 64 }
-    ensures { Wrote at (0x5B ∷ operatorText (operatorOf operator)) out.old result out.new }
+    ensures { Wrote at (0x5B ∷ operator_text (operator_of operator)) out.old result out.new }
 {
     match operator {
         Operator::Equals => put(out, at, b"[=~"),
@@ -115,7 +115,7 @@ fn put_operator(out: &mut [u8], at: usize, operator: Operator) -> usize
 // An environment step in the standard spelling.
 fn put_environment(out: &mut [u8], at: usize, operator: Operator, name: &[u8]) -> usize
     requires { at + length name.now + 5 < 2 ^ 64 }
-    ensures { Wrote at (stepText (environment (operatorOf operator) name.now)) out.old result out.new }
+    ensures { Wrote at (step_text (environment (operator_of operator) name.now)) out.old result out.new }
 {
     let from = put_operator(out, at, operator);
     let to = put(out, from, name);
@@ -124,8 +124,8 @@ fn put_environment(out: &mut [u8], at: usize, operator: Operator, name: &[u8]) -
 
 // A step in the standard spelling.
 fn put_step(out: &mut [u8], at: usize, row: &[u8]) -> usize
-    requires { (length row.now ≡ stepRow) × (at + spelledStep < 2 ^ 64) }
-    ensures { Wrote at (stepText (stepIn row.now)) out.old result out.new }
+    requires { (length row.now ≡ step_row) × (at + spelled_step < 2 ^ 64) }
+    ensures { Wrote at (step_text (step_in row.now)) out.old result out.new }
 {
     let names = &row[1..];
     match kind_of(row[0]) {
@@ -137,9 +137,9 @@ fn put_step(out: &mut [u8], at: usize, row: &[u8]) -> usize
 
 // A policy path in the standard spelling.
 pub fn put_steps(out: &mut [u8], at: usize, slot: &[u8]) -> usize
-    requires { (stepsSlot ≤ length slot.now) × (at + spelledSteps < 2 ^ 64) }
-    ensures wrote { Wrote at (stepsText (stepsIn slot.now)) out.old result out.new }
-    ensures upper_bound { result ≤ at + spelledSteps }
+    requires { (steps_slot ≤ length slot.now) × (at + spelled_steps < 2 ^ 64) }
+    ensures wrote { Wrote at (steps_text (steps_in slot.now)) out.old result out.new }
+    ensures upper_bound { result ≤ at + spelled_steps }
 {
     let n = count(slot, MAX_DEPTH);
     let mut to = put_byte(out, at, b'$');
@@ -162,7 +162,7 @@ fn no_steps() -> StepsRead
 
 // One to six steps behind a `$`, in any spelling, that are the whole text.
 fn read_all(s: &[u8]) -> StepsRead
-    ensures { StepsAre result (readPath read_step s.now) }
+    ensures { StepsAre result (read_path read_step s.now) }
 {
     if !is_at(s, 0, b'$') {
         return no_steps();

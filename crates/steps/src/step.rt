@@ -2,11 +2,11 @@
 ghost use Rattle.std.specs.Prelude.{◌≡◌, [], ◌∷◌, ◌≤◌, length, take};
 ghost use Rattle.std.proofs.Math.Option.{none, some};
 ghost use Rattle.rows.specs.Positions.{placed};
-ghost use Rattle.model.specs.Paths.{operatorText, readEither, inBrackets, readWildcard, readIdentifier, readEnvironment, readDotted, readList, readSelector, read_step};
-ghost use Rattle.lexical.specs.Classes.{textAnswer};
-ghost use Rattle.steps.specs.Steps.{operatorOf, namesIn, by_kind, byte_of, row_of, stepAnswer, HoldsNames, StepIs};
-ghost use Rattle.model.specs.Limits.{maxKey, maxListed};
-ghost use Rattle.layout.specs.Layout.{encodeKeys};
+ghost use Rattle.model.specs.Paths.{operator_text, read_either, in_brackets, read_wildcard, read_identifier, read_environment, read_dotted, read_list, read_selector, read_step};
+ghost use Rattle.lexical.specs.Classes.{text_answer};
+ghost use Rattle.steps.specs.Steps.{operator_of, names_in, by_kind, byte_of, row_of, step_answer, HoldsNames, StepIs};
+ghost use Rattle.model.specs.Limits.{max_key, max_listed};
+ghost use Rattle.layout.specs.Layout.{encode_keys};
 
 use layout::name::{KEY_ROW, NAME_ROW};
 use lexical::class::{Class, End, between, is_digit, scan};
@@ -53,7 +53,7 @@ pub struct StepRead {
 
 // A slot of one name.
 pub fn one_name(name: &[u8]) -> [u8; NAMES]
-    ensures { HoldsNames result (take maxKey name.now ∷ []) }
+    ensures { HoldsNames result (take max_key name.now ∷ []) }
 {
     let mut names = [0u8; NAMES];
     push_key(&mut names, name, MAX_LISTED);
@@ -62,7 +62,7 @@ pub fn one_name(name: &[u8]) -> [u8; NAMES]
 
 // A step that was read up to `to`.
 fn found(to: usize, kind: Kind, names: [u8; NAMES]) -> StepRead
-    ensures { (stepAnswer result ≡ some (by_kind kind (namesIn names), to)) × (row_of result.step ≡ byte_of kind ∷ names) }
+    ensures { (step_answer result ≡ some (by_kind kind (names_in names), to)) × (row_of result.step ≡ byte_of kind ∷ names) }
 {
     let step = Step {
         kind: kind,
@@ -77,7 +77,7 @@ fn found(to: usize, kind: Kind, names: [u8; NAMES]) -> StepRead
 
 // A step of one name that was read up to `to`.
 fn found_one(to: usize, kind: Kind, name: &[u8]) -> StepRead
-    ensures { (stepAnswer result ≡ some (by_kind kind (take maxKey name.now ∷ []), to)) × (row_of result.step ≡ byte_of kind ∷ encodeKeys maxListed (take maxKey name.now ∷ [])) }
+    ensures { (step_answer result ≡ some (by_kind kind (take max_key name.now ∷ []), to)) × (row_of result.step ≡ byte_of kind ∷ encode_keys max_listed (take max_key name.now ∷ [])) }
 {
     let names = one_name(name);
     found(to, kind, names)
@@ -100,7 +100,7 @@ fn no_step() -> StepRead
 // Any key.
 fn wildcard_at(s: &[u8], at: usize) -> StepRead
     requires { at ≤ length s.now }
-    ensures { StepIs result (placed readWildcard s.now at) }
+    ensures { StepIs result (placed read_wildcard s.now at) }
 {
     if is_at(s, at, b'*') {
         return found(at + 1, Kind::Wildcard, [0; NAMES]);
@@ -111,7 +111,7 @@ fn wildcard_at(s: &[u8], at: usize) -> StepRead
 // An identifier, no longer than a key, that begins with no digit.
 fn identifier_at(s: &[u8], at: usize) -> StepRead
     requires { at ≤ length s.now }
-    ensures { StepIs result (placed readIdentifier s.now at) }
+    ensures { StepIs result (placed read_identifier s.now at) }
 {
     let End::At(to) = scan(s, at, Class::Identifier, 1, MAX_KEY) else {
         return no_step();
@@ -124,8 +124,8 @@ fn identifier_at(s: &[u8], at: usize) -> StepRead
 
 // The word of an operator, and the plain name of an environment step behind it.
 fn environment_at(s: &[u8], at: usize, word: &[u8], operator: Operator) -> StepRead
-    requires { (at ≤ length s.now) × (word.now ≡ operatorText (operatorOf operator)) }
-    ensures { StepIs result (placed (readEnvironment (operatorOf operator)) s.now at) }
+    requires { (at ≤ length s.now) × (word.now ≡ operator_text (operator_of operator)) }
+    ensures { StepIs result (placed (read_environment (operator_of operator)) s.now at) }
 {
     if !starts(s, at, word) {
         return no_step();
@@ -140,7 +140,7 @@ fn environment_at(s: &[u8], at: usize, word: &[u8], operator: Operator) -> StepR
 // A name in either quote: where the closing one ends.
 fn either_at(s: &[u8], at: usize) -> End
     requires { at ≤ length s.now }
-    ensures { textAnswer s.now at result ≡ placed readEither s.now at }
+    ensures { text_answer s.now at result ≡ placed read_either s.now at }
 {
     if let End::At(e) = between(s, at, b'\'', Class::Name, 1, MAX_KEY) {
         return End::At(e);
@@ -151,7 +151,7 @@ fn either_at(s: &[u8], at: usize) -> End
 // One to four names with commas between.
 fn list_at(s: &[u8], at: usize) -> StepRead
     requires { at ≤ length s.now }
-    ensures { StepIs result (placed readList s.now at) }
+    ensures { StepIs result (placed read_list s.now at) }
 {
     let mut names = [0u8; NAMES];
     let mut from = at;
@@ -175,7 +175,7 @@ fn list_at(s: &[u8], at: usize) -> StepRead
 // What a step has between brackets.
 fn selector_at(s: &[u8], at: usize) -> StepRead
     requires { at ≤ length s.now }
-    ensures { StepIs result (placed readSelector s.now at) }
+    ensures { StepIs result (placed read_selector s.now at) }
 {
     let any = wildcard_at(s, at);
     if any.ok {
@@ -195,7 +195,7 @@ fn selector_at(s: &[u8], at: usize) -> StepRead
 // A wildcard or an identifier behind a dot.
 fn dotted_at(s: &[u8], at: usize) -> StepRead
     requires { at ≤ length s.now }
-    ensures { StepIs result (placed readDotted s.now at) }
+    ensures { StepIs result (placed read_dotted s.now at) }
 {
     if !is_at(s, at, b'.') {
         return no_step();
@@ -211,7 +211,7 @@ fn dotted_at(s: &[u8], at: usize) -> StepRead
 // A step in brackets.
 fn bracketed_at(s: &[u8], at: usize) -> StepRead
     requires { at ≤ length s.now }
-    ensures { StepIs result (placed (inBrackets readSelector) s.now at) }
+    ensures { StepIs result (placed (in_brackets read_selector) s.now at) }
 {
     if !is_at(s, at, b'[') {
         return no_step();

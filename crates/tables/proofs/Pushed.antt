@@ -11,17 +11,17 @@ use Rattle.rows.specs.Rows.{replaced, written}
 use Rattle.rows.proofs.Positions.{over}
 use Rattle.rows.proofs.Writing.{written-clipped, take-written}
 use Rattle.model.specs.Base.{Bytes, joined}
-use Rattle.model.specs.Limits.{maxName, maxKey, maxBindings, maxDepth}
+use Rattle.model.specs.Limits.{max_name, max_key, max_bindings, max_depth}
 use Rattle.model.specs.Tables.{Binding, User, Rule}
-use Rattle.layout.specs.Layout.{is_empty, nameRow, keyRow, encodeName, encodeTable, Canonical, CanonicalName}
+use Rattle.layout.specs.Layout.{is_empty, name_row, key_row, encode_name, encode_table, Canonical, CanonicalName}
 use Rattle.layout.proofs.Named.{Named, named}
 use Rattle.layout.proofs.Canonical.{name-encoded, counted-encoded, canonical-none}
 use Rattle.layout.proofs.Tight.{zeros, zero-at}
 use Rattle.layout.proofs.Used.{table_none}
-use Rattle.steps.specs.Steps.{stepRow, stepsSlot, stepIn, stepsIn, encodeStep, encodeSteps, CanonicalSteps}
-use Rattle.steps.specs.Environments.{bindingRow, bindingsBytes, bindingIn, bindingsIn, encodeBinding, encodeBindings}
-use Rattle.tables.specs.Memory.{userRow, ruleRow, role_at, key_at, quotaAt, linesAt, accessAt, pathAt, accessIn, accessByte, userIn, ruleIn}
-use Rattle.tables.specs.Memory.{encodeQuota, encodeUser, encodeRule, CanonicalUser}
+use Rattle.steps.specs.Steps.{step_row, steps_slot, step_in, steps_in, encode_step, encode_steps, CanonicalSteps}
+use Rattle.steps.specs.Environments.{binding_row, bindings_bytes, binding_in, bindings_in, encode_binding, encode_bindings}
+use Rattle.tables.specs.Memory.{user_row, rule_row, role_at, key_at, quota_at, lines_at, access_at, path_at, access_in, access_byte, user_in, rule_in}
+use Rattle.tables.specs.Memory.{encode_quota, encode_user, encode_rule, CanonicalUser}
 
 -- a text that was written inside, and what stands behind it
 written_from : (i : ℕ) (xs l : Bytes) → i + length xs ≤ length l → drop i (written i xs l) ≡ xs ++ drop (i + length xs) l
@@ -36,7 +36,7 @@ named-over name old = written 0 (min (length name) (length old - 1) ∷ take (le
 
 module _ (w : ℕ) (name : Bytes) where
   abbrev cut : Bytes
-  cut = encodeName (1 + w) (take w name)
+  cut = encode_name (1 + w) (take w name)
 
   -- such a name is read back, and no other bytes mean it
   cut-named : Named w name cut
@@ -65,127 +65,127 @@ module _ (w : ℕ) (name : Bytes) where
 -- ── An environment line ──
 module _ (name value : Bytes) where
   abbrev line : Binding
-  line = record { name = take maxName name; value = take maxKey value }
+  line = record { name = take max_name name; value = take max_key value }
 
   -- a value and a name written into zeros: nothing else is there
-  pub binding-put : {old n v : Bytes} → old ≡ zeros bindingRow
-      → v ≡ named-over value (take keyRow (drop nameRow old)) → n ≡ named-over name (take nameRow (replaced nameRow keyRow v old))
-      → replaced 0 nameRow n (replaced nameRow keyRow v old) ≡ encodeBinding line
-  unfolding encodeBinding
+  pub binding-put : {old n v : Bytes} → old ≡ zeros binding_row
+      → v ≡ named-over value (take key_row (drop name_row old)) → n ≡ named-over name (take name_row (replaced name_row key_row v old))
+      → replaced 0 name_row n (replaced name_row key_row v old) ≡ encode_binding line
+  unfolding encode_binding
   binding-put {old} {v = v} clean ve ne =
-      let ve = name-encoded maxKey value (take keyRow (drop nameRow old)) (rw clean) ve in
-      let ne = name-encoded maxName name (take nameRow (replaced nameRow keyRow v old)) (rw clean) ne in
+      let ve = name-encoded max_key value (take key_row (drop name_row old)) (rw clean) ve in
+      let ne = name-encoded max_name name (take name_row (replaced name_row key_row v old)) (rw clean) ne in
       rw (clean, ve, ne, append-nil)
 
   -- so the line is read back, and the row is in use
-  pub binding-read : bindingIn (encodeBinding line) ≡ line
-  unfolding bindingIn encodeBinding
+  pub binding-read : binding_in (encode_binding line) ≡ line
+  unfolding binding_in encode_binding
   binding-read =
-      let rest = cut maxKey value in
-      rw (take-cut maxName name rest, drop-cut maxName name rest, take_all keyRow rest (omega (arith, (cut-named maxKey value).long)), (cut-named maxName name).is, (cut-named maxKey value).is)
+      let rest = cut max_key value in
+      rw (take-cut max_name name rest, drop-cut max_name name rest, take_all key_row rest (omega (arith, (cut-named max_key value).long)), (cut-named max_name name).is, (cut-named max_key value).is)
 
-  pub binding-canonical : Canonical encodeBinding bindingIn (encodeBinding line)
-  binding-canonical = ap encodeBinding (sym binding-read)
+  pub binding-canonical : Canonical encode_binding binding_in (encode_binding line)
+  binding-canonical = ap encode_binding (sym binding-read)
 
-  pub binding-full : 0 < length name → is_empty (encodeBinding line) ≡ false
-  unfolding encodeBinding
-  binding-full some = cut-full maxName name (cut maxKey value) (omega arith) some
+  pub binding-full : 0 < length name → is_empty (encode_binding line) ≡ false
+  unfolding encode_binding
+  binding-full some = cut-full max_name name (cut max_key value) (omega arith) some
 
 -- ── A user ──
 module _ (name role key : Bytes) (quota : ℕ) where
   abbrev user : User
-  user = record { name = take maxName name; role = take maxName role; key = take maxName key; quota = quota; environment = [] }
+  user = record { name = take max_name name; role = take max_name role; key = take max_name key; quota = quota; environment = [] }
 
   -- behind the names: the quota, and no lines
   abbrev numbers : Bytes
-  numbers = quota % 256 ∷ quota / 256 ∷ zeros bindingsBytes
+  numbers = quota % 256 ∷ quota / 256 ∷ zeros bindings_bytes
 
-  apart : encodeUser user ≡ cut maxName name ++ (cut maxName role ++ (cut maxName key ++ numbers))
-  unfolding encodeUser encodeQuota encodeBindings encodeTable joined
+  apart : encode_user user ≡ cut max_name name ++ (cut max_name role ++ (cut max_name key ++ numbers))
+  unfolding encode_user encode_quota encode_bindings encode_table joined
   apart = simp append_assoc
 
   -- a quota and three names written into zeros: nothing else is there
-  pub user-put : {old s n r k : Bytes} → old ≡ zeros userRow → s ≡ written quotaAt (quota % 256 ∷ quota / 256 ∷ []) old
-      → let s₁ = replaced key_at nameRow k s in
-      let s₂ = replaced role_at nameRow r s₁ in
-      k ≡ named-over key (take nameRow (drop key_at s)) → r ≡ named-over role (take nameRow (drop role_at s₁)) → n ≡ named-over name (take nameRow s₂)
-      → replaced 0 nameRow n s₂ ≡ encodeUser user
+  pub user-put : {old s n r k : Bytes} → old ≡ zeros user_row → s ≡ written quota_at (quota % 256 ∷ quota / 256 ∷ []) old
+      → let s₁ = replaced key_at name_row k s in
+      let s₂ = replaced role_at name_row r s₁ in
+      k ≡ named-over key (take name_row (drop key_at s)) → r ≡ named-over role (take name_row (drop role_at s₁)) → n ≡ named-over name (take name_row s₂)
+      → replaced 0 name_row n s₂ ≡ encode_user user
   unfolding written
   user-put {s = s} {r = r} {k = k} clean e ke re ne =
-      let s₁ = replaced key_at nameRow k s in
-      let ke = name-encoded maxName key (take nameRow (drop key_at s)) (rw (e, clean)) ke in
-      let re = name-encoded maxName role (take nameRow (drop role_at s₁)) (rw (e, clean)) re in
-      let ne = name-encoded maxName name (take nameRow (replaced role_at nameRow r s₁)) (rw (e, clean)) ne in
+      let s₁ = replaced key_at name_row k s in
+      let ke = name-encoded max_name key (take name_row (drop key_at s)) (rw (e, clean)) ke in
+      let re = name-encoded max_name role (take name_row (drop role_at s₁)) (rw (e, clean)) re in
+      let ne = name-encoded max_name name (take name_row (replaced role_at name_row r s₁)) (rw (e, clean)) ne in
       rw (apart, e, clean, ke, re, ne)
 
   -- what stands from each part on
-  behind-name : drop role_at (encodeUser user) ≡ cut maxName role ++ (cut maxName key ++ numbers)
-  behind-name = rw apart (drop-cut maxName name _)
+  behind-name : drop role_at (encode_user user) ≡ cut max_name role ++ (cut max_name key ++ numbers)
+  behind-name = rw apart (drop-cut max_name name _)
 
-  behind-role : drop key_at (encodeUser user) ≡ cut maxName key ++ numbers
-  behind-role = sym (drop-drop nameRow role_at (encodeUser user)) ∙ rw behind-name (drop-cut maxName role _)
+  behind-role : drop key_at (encode_user user) ≡ cut max_name key ++ numbers
+  behind-role = sym (drop-drop name_row role_at (encode_user user)) ∙ rw behind-name (drop-cut max_name role _)
 
-  behind-key : drop quotaAt (encodeUser user) ≡ numbers
-  behind-key = sym (drop-drop nameRow key_at (encodeUser user)) ∙ rw behind-role (drop-cut maxName key _)
+  behind-key : drop quota_at (encode_user user) ≡ numbers
+  behind-key = sym (drop-drop name_row key_at (encode_user user)) ∙ rw behind-role (drop-cut max_name key _)
 
-  no_lines : drop linesAt (encodeUser user) ≡ zeros bindingsBytes
-  no_lines = sym (drop-drop 2 quotaAt (encodeUser user)) ∙ rw behind-key
+  no_lines : drop lines_at (encode_user user) ≡ zeros bindings_bytes
+  no_lines = sym (drop-drop 2 quota_at (encode_user user)) ∙ rw behind-key
 
   -- so the user is read back, and the row is in use
-  pub user-read : userIn (encodeUser user) ≡ user
-  unfolding userIn bindingsIn
+  pub user-read : user_in (encode_user user) ≡ user
+  unfolding user_in bindings_in
   user-read =
-      let row = encodeUser user in
-      let low : get_or row quotaAt 0 ≡ quota % 256 = sym (get_or-drop quotaAt row 0 0) ∙ rw behind-key in
-      let high : get_or row (quotaAt + 1) 0 ≡ quota / 256 = sym (get_or-drop quotaAt row 1 0) ∙ rw behind-key in
+      let row = encode_user user in
+      let low : get_or row quota_at 0 ≡ quota % 256 = sym (get_or-drop quota_at row 0 0) ∙ rw behind-key in
+      let high : get_or row (quota_at + 1) 0 ≡ quota / 256 = sym (get_or-drop quota_at row 1 0) ∙ rw behind-key in
       let both : quota % 256 + 256 * (quota / 256) ≡ quota = omega arith in
-      let lines = table_none bindingIn bindingRow maxBindings (zeros bindingsBytes) (omega arith) (zero-at bindingsBytes 0) in
-      rw (low, high, both, no_lines, lines, behind-name, behind-role, apart, take-cut maxName name _, take-cut maxName role _, take-cut maxName key _, (cut-named maxName name).is, (cut-named maxName role).is, (cut-named maxName key).is)
+      let lines = table_none binding_in binding_row max_bindings (zeros bindings_bytes) (omega arith) (zero-at bindings_bytes 0) in
+      rw (low, high, both, no_lines, lines, behind-name, behind-role, apart, take-cut max_name name _, take-cut max_name role _, take-cut max_name key _, (cut-named max_name name).is, (cut-named max_name role).is, (cut-named max_name key).is)
 
-  pub user-canonical : CanonicalUser (encodeUser user)
-  unfolding encodeQuota
+  pub user-canonical : CanonicalUser (encode_user user)
+  unfolding encode_quota
   user-canonical = record {
-    name = rw (apart, take-cut maxName name _) (cut-canonical maxName name);
-    role = rw (behind-name, take-cut maxName role _) (cut-canonical maxName role);
-    key = rw (behind-role, take-cut maxName key _) (cut-canonical maxName key);
+    name = rw (apart, take-cut max_name name _) (cut-canonical max_name name);
+    role = rw (behind-name, take-cut max_name role _) (cut-canonical max_name role);
+    key = rw (behind-role, take-cut max_name key _) (cut-canonical max_name key);
     quota = rw (behind-key, user-read);
-    environment = rw no_lines (canonical-none (Canonical encodeBinding bindingIn) bindingRow maxBindings (omega arith));
+    environment = rw no_lines (canonical-none (Canonical encode_binding binding_in) binding_row max_bindings (omega arith));
   }
 
-  pub user-full : 0 < length name → is_empty (encodeUser user) ≡ false
-  user-full some = rw apart (cut-full maxName name _ (omega arith) some)
+  pub user-full : 0 < length name → is_empty (encode_user user) ≡ false
+  user-full some = rw apart (cut-full max_name name _ (omega arith) some)
 
 -- ── A policy line ──
 module _ (role : Bytes) (access : ℕ) (steps : Bytes) where
   abbrev rule : Rule
-  rule = record { role = take maxName role; access = accessIn access; path = stepsIn steps }
+  rule = record { role = take max_name role; access = access_in access; path = steps_in steps }
 
   abbrev bytes : Bytes
-  bytes = cut maxName role ++ access ∷ steps
+  bytes = cut max_name role ++ access ∷ steps
 
   -- an access, steps and a role written into zeros: nothing else is there
-  pub rule-put : {old s n : Bytes} → old ≡ zeros ruleRow → length steps ≡ stepsSlot → s ≡ written accessAt (access ∷ steps) old
-      → n ≡ named-over role (take nameRow s) → replaced 0 nameRow n s ≡ bytes
+  pub rule-put : {old s n : Bytes} → old ≡ zeros rule_row → length steps ≡ steps_slot → s ≡ written access_at (access ∷ steps) old
+      → n ≡ named-over role (take name_row s) → replaced 0 name_row n s ≡ bytes
   rule-put {old} {s = s} clean ls e ne =
-      let l : length old ≡ ruleRow = ap length clean in
-      let ne = name-encoded maxName role (take nameRow s) (rw (e, take-written nameRow accessAt (access ∷ steps) old (omega arith), clean)) ne in
-      let none = over old (accessAt + length (access ∷ steps)) (omega arith) in
-      let text : drop accessAt (written accessAt (access ∷ steps) old) ≡ access ∷ steps = rw (written_from accessAt (access ∷ steps) old (omega arith), none) (append-nil (access ∷ steps)) in
+      let l : length old ≡ rule_row = ap length clean in
+      let ne = name-encoded max_name role (take name_row s) (rw (e, take-written name_row access_at (access ∷ steps) old (omega arith), clean)) ne in
+      let none = over old (access_at + length (access ∷ steps)) (omega arith) in
+      let text : drop access_at (written access_at (access ∷ steps) old) ≡ access ∷ steps = rw (written_from access_at (access ∷ steps) old (omega arith), none) (append-nil (access ∷ steps)) in
       rw (e, ne, text)
 
   -- so the line is read back, and the row is in use
-  pub rule-read : ruleIn bytes ≡ rule
-  unfolding ruleIn
+  pub rule-read : rule_in bytes ≡ rule
+  unfolding rule_in
   rule-read =
-      let tail = drop-cut maxName role (access ∷ steps) in
-      let byte : get_or bytes accessAt 0 ≡ access = sym (get_or-drop accessAt bytes 0 0) ∙ rw tail in
-      let path : drop pathAt bytes ≡ steps = sym (drop-drop 1 accessAt bytes) ∙ rw tail in
-      rw (take-cut maxName role (access ∷ steps), byte, path, (cut-named maxName role).is)
+      let tail = drop-cut max_name role (access ∷ steps) in
+      let byte : get_or bytes access_at 0 ≡ access = sym (get_or-drop access_at bytes 0 0) ∙ rw tail in
+      let path : drop path_at bytes ≡ steps = sym (drop-drop 1 access_at bytes) ∙ rw tail in
+      rw (take-cut max_name role (access ∷ steps), byte, path, (cut-named max_name role).is)
 
   -- where the access is a byte of one and the steps are written as their meaning is, so is the row
-  pub rule-canonical : CanonicalSteps steps → access ≡ accessByte (accessIn access) → Canonical encodeRule ruleIn bytes
-  unfolding encodeRule encodeSteps stepsIn
-  rule-canonical s a = rw (rule-read, ← a, ← counted-encoded encodeStep stepIn stepRow maxDepth steps s)
+  pub rule-canonical : CanonicalSteps steps → access ≡ access_byte (access_in access) → Canonical encode_rule rule_in bytes
+  unfolding encode_rule encode_steps steps_in
+  rule-canonical s a = rw (rule-read, ← a, ← counted-encoded encode_step step_in step_row max_depth steps s)
 
   pub rule-full : 0 < length role → is_empty bytes ≡ false
-  rule-full some = cut-full maxName role (access ∷ steps) (omega arith) some
+  rule-full some = cut-full max_name role (access ∷ steps) (omega arith) some

@@ -2,43 +2,43 @@
 use Rattle.std.specs.Prelude.{ℕ, ◌<◌, ◌^◌, ◌≡◌, Bool, true, false, ◌&&◌, List, [], length, get_or}
 use Rattle.std.proofs.Math.Option.{Option, none, some}
 use Rattle.model.specs.Base.{Bytes}
-use Rattle.model.specs.Limits.{maxDepth, maxUsers}
+use Rattle.model.specs.Limits.{max_depth, max_users}
 use Rattle.model.specs.Fields.{Keys}
 use Rattle.model.specs.Paths.{Steps}
-use Rattle.model.specs.Tables.{User, Rule, userAt}
-use Rattle.model.specs.Rights.{matches, isWrite, isFor}
+use Rattle.model.specs.Tables.{User, Rule, user_at}
+use Rattle.model.specs.Rights.{matches, is_write, is_for}
 use Rattle.masks.specs.Bits.{bit_at}
 use Rattle.matching.specs.Parts.{has_value}
 
 -- the path p may be read, by the line r, by the user u
-unfoldable pub givesRead : Keys → Rule → User → Bool
-givesRead p r u = isFor u r && matches u.environment r.path p
+unfoldable pub gives_read : Keys → Rule → User → Bool
+gives_read p r u = is_for u r && matches u.environment r.path p
 
 -- there is a user, who may read the path p by the line r
-unfoldable pub readsByLine : Keys → Rule → Option User → Bool
-readsByLine p r none = false
-readsByLine p r (some u) = givesRead p r u
+unfoldable pub reads_by_line : Keys → Rule → Option User → Bool
+reads_by_line p r none = false
+reads_by_line p r (some u) = gives_read p r u
 
 -- there is a user, one of whose environment lines has the value k
-unfoldable pub holdsValue : Bytes → Option User → Bool
-holdsValue k none = false
-holdsValue k (some u) = has_value u.environment k
+unfoldable pub holds_value : Bytes → Option User → Bool
+holds_value k none = false
+holds_value k (some u) = has_value u.environment k
 
 -- a number for each key of the path p: the mask of those who hold it, or, where that was not found out, a number that is no mask
 pub record Found (us : List User) (p : Keys) (found : List ℕ) : Type 0 where
-  pub long : length found ≡ maxDepth
-  pub holders : (i : ℕ) → i < maxDepth → get_or found i 0 < 2 ^ maxUsers → (k : ℕ) → bit_at (get_or found i 0) k ≡ holdsValue (get_or p i []) (userAt us k)
+  pub long : length found ≡ max_depth
+  pub holders : (i : ℕ) → i < max_depth → get_or found i 0 < 2 ^ max_users → (k : ℕ) → bit_at (get_or found i 0) k ≡ holds_value (get_or p i []) (user_at us k)
 
 -- a mask of users that leaves out nobody for whom the steps match the path
 pub record Covers (us : List User) (ts : Steps) (p : Keys) (mask : ℕ) : Type 0 where
   pub users : (k : ℕ) → bit_at mask k ≡ true → k < length us
-  pub all : (k : ℕ) (u : User) → userAt us k ≡ some u → bit_at mask k ≡ false → matches u.environment ts p ≡ false
+  pub all : (k : ℕ) (u : User) → user_at us k ≡ some u → bit_at mask k ≡ false → matches u.environment ts p ≡ false
 
 -- the user u may write the path p by the line r
-unfoldable pub givesWrite : User → Keys → Rule → Bool
-givesWrite u p r = isFor u r && isWrite r && matches u.environment r.path p
+unfoldable pub gives_write : User → Keys → Rule → Bool
+gives_write u p r = is_for u r && is_write r && matches u.environment r.path p
 
 -- a line's number, or 0 where there is none
-abbrev pub lineNumber : Option ℕ → ℕ
-lineNumber none = 0
-lineNumber (some n) = n
+abbrev pub line_number : Option ℕ → ℕ
+line_number none = 0
+line_number (some n) = n

@@ -1,16 +1,16 @@
 // Whom a policy line may admit: who holds the keys at its environment steps as values. Found out once for each key of a path, for all lines.
 ghost use Rattle.std.specs.Prelude.{◌≡◌, true, List, [], ℕ, ◌≤◌, ◌<◌, length, get_or};
-ghost use Rattle.model.specs.Limits.{maxDepth};
+ghost use Rattle.model.specs.Limits.{max_depth};
 ghost use Rattle.model.specs.Fields.{Keys};
-ghost use Rattle.model.specs.Tables.{User, userAt};
+ghost use Rattle.model.specs.Tables.{User, user_at};
 ghost use Rattle.masks.specs.Bits.{bit_at};
-ghost use Rattle.layout.specs.Layout.{slotCount};
-ghost use Rattle.paths.specs.Layout.{pathSlot, pathIn};
+ghost use Rattle.layout.specs.Layout.{slot_count};
+ghost use Rattle.paths.specs.Layout.{path_slot, path_in};
 ghost use Rattle.paths.specs.Fields.{shared};
-ghost use Rattle.steps.specs.Steps.{stepsSlot, stepsIn};
-ghost use Rattle.matching.specs.Parts.{mayMatch};
-ghost use Rattle.tables.specs.Memory.{usersIn, userCount};
-ghost use Rattle.tables.specs.Grants.{holdsValue, Found, Covers};
+ghost use Rattle.steps.specs.Steps.{steps_slot, steps_in};
+ghost use Rattle.matching.specs.Parts.{may_match};
+ghost use Rattle.tables.specs.Memory.{users_in, user_count};
+ghost use Rattle.tables.specs.Grants.{holds_value, Found, Covers};
 
 use crate::memory::{TABLES, USER, bindings};
 use layout::counted;
@@ -27,7 +27,7 @@ pub const NOT_ASKED: u64 = 1 << MAX_USERS;
 
 // What was found out of a path's keys, kept for a path that shares the first n of them: of the others it is forgotten.
 pub fn keep_first(found: &mut [u64; MAX_DEPTH], n: usize)
-    requires { length found.old ≡ maxDepth }
+    requires { length found.old ≡ max_depth }
     ensures { (us : List User) (p q : Keys) → n ≤ shared p q → Found us p found.old → Found us q found.new }
 {
     let mut i = n;
@@ -39,8 +39,8 @@ pub fn keep_first(found: &mut [u64; MAX_DEPTH], n: usize)
 
 // Who of the n users has an environment line with this value.
 fn holders(tables: &[u8; TABLES], n: usize, key: &[u8]) -> u32
-    requires { n ≡ userCount tables.now }
-    ensures { (k : ℕ) → bit_at result k ≡ holdsValue key.now (userAt (usersIn tables.now) k) }
+    requires { n ≡ user_count tables.now }
+    ensures { (k : ℕ) → bit_at result k ≡ holds_value key.now (user_at (users_in tables.now) k) }
 {
     let mut held: u32 = 0;
     let mut j: usize = 0;
@@ -61,10 +61,10 @@ fn holders_at(
     path: &[u8],
     i: usize,
 ) -> u32
-    requires path_slot_in_bounds { (pathSlot ≤ length path.now) × (i < slotCount maxDepth path.now) × (n ≡ userCount tables.now) }
-    requires found { Found (usersIn tables.now) (pathIn path.now) found.old }
-    ensures by_index { (k : ℕ) → bit_at result k ≡ holdsValue (get_or (pathIn path.now) i []) (userAt (usersIn tables.now) k) }
-    ensures found_2 { Found (usersIn tables.now) (pathIn path.now) found.new }
+    requires path_slot_in_bounds { (path_slot ≤ length path.now) × (i < slot_count max_depth path.now) × (n ≡ user_count tables.now) }
+    requires found { Found (users_in tables.now) (path_in path.now) found.old }
+    ensures by_index { (k : ℕ) → bit_at result k ≡ holds_value (get_or (path_in path.now) i []) (user_at (users_in tables.now) k) }
+    ensures found_2 { Found (users_in tables.now) (path_in path.now) found.new }
 {
     let held = found[i];
     if held < NOT_ASKED {
@@ -85,12 +85,12 @@ fn admitted(
     path: &[u8],
     i: usize,
 ) -> u32
-    requires steps_slot_in_bounds { (stepsSlot ≤ length steps.now) × (pathSlot ≤ length path.now) × (n ≡ userCount tables.now) }
-    requires path_value { (mayMatch (stepsIn steps.now) (pathIn path.now) ≡ true) × (i < slotCount maxDepth steps.now) }
-    requires found { Found (usersIn tables.now) (pathIn path.now) found.old }
-    requires covers { Covers (usersIn tables.now) (stepsIn steps.now) (pathIn path.now) mask }
-    ensures covers_2 { Covers (usersIn tables.now) (stepsIn steps.now) (pathIn path.now) result }
-    ensures found_2 { Found (usersIn tables.now) (pathIn path.now) found.new }
+    requires steps_slot_in_bounds { (steps_slot ≤ length steps.now) × (path_slot ≤ length path.now) × (n ≡ user_count tables.now) }
+    requires path_value { (may_match (steps_in steps.now) (path_in path.now) ≡ true) × (i < slot_count max_depth steps.now) }
+    requires found { Found (users_in tables.now) (path_in path.now) found.old }
+    requires covers { Covers (users_in tables.now) (steps_in steps.now) (path_in path.now) mask }
+    ensures covers_2 { Covers (users_in tables.now) (steps_in steps.now) (path_in path.now) result }
+    ensures found_2 { Found (users_in tables.now) (path_in path.now) found.new }
 {
     if !asks(counted::row_at(steps, STEP, i)) {
         return mask;
@@ -106,11 +106,11 @@ pub fn candidates(
     steps: &[u8],
     path: &[u8],
 ) -> u32
-    requires steps_slot_in_bounds { (stepsSlot ≤ length steps.now) × (pathSlot ≤ length path.now) × (n ≡ userCount tables.now) }
-    requires path_value { mayMatch (stepsIn steps.now) (pathIn path.now) ≡ true }
-    requires found { Found (usersIn tables.now) (pathIn path.now) found.old }
-    ensures covers { Covers (usersIn tables.now) (stepsIn steps.now) (pathIn path.now) result }
-    ensures found_2 { Found (usersIn tables.now) (pathIn path.now) found.new }
+    requires steps_slot_in_bounds { (steps_slot ≤ length steps.now) × (path_slot ≤ length path.now) × (n ≡ user_count tables.now) }
+    requires path_value { may_match (steps_in steps.now) (path_in path.now) ≡ true }
+    requires found { Found (users_in tables.now) (path_in path.now) found.old }
+    ensures covers { Covers (users_in tables.now) (steps_in steps.now) (path_in path.now) result }
+    ensures found_2 { Found (users_in tables.now) (path_in path.now) found.new }
 {
     let m = count(steps, MAX_DEPTH);
     let mut mask = first_places(n);

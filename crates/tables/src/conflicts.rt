@@ -1,11 +1,11 @@
 // Paths in conflict with WRITE lines of the policy.
 ghost use Rattle.std.specs.Prelude.{◌≡◌, [], ◌≤◌, length, take};
 ghost use Rattle.model.specs.Base.{any};
-ghost use Rattle.model.specs.Rights.{conflictsWith};
-ghost use Rattle.model.specs.Opening.{conflictFrom};
-ghost use Rattle.steps.specs.Steps.{stepsSlot, stepsIn};
-ghost use Rattle.tables.specs.Memory.{policyBytes, policyIn};
-ghost use Rattle.tables.specs.Grants.{lineNumber};
+ghost use Rattle.model.specs.Rights.{conflicts_with};
+ghost use Rattle.model.specs.Opening.{conflict_from};
+ghost use Rattle.steps.specs.Steps.{steps_slot, steps_in};
+ghost use Rattle.tables.specs.Memory.{policy_bytes, policy_in};
+ghost use Rattle.tables.specs.Grants.{line_number};
 
 use crate::memory::{RULE, RULES, is_write, rule_path};
 use layout::table::{row_at, row_count};
@@ -13,8 +13,8 @@ use matching::conflict::conflict;
 
 // Whether a path is in conflict with a WRITE line among the first n lines.
 pub fn has_conflict(policy: &[u8], n: usize, steps: &[u8]) -> bool
-    requires { (length policy.now ≡ policyBytes) × (stepsSlot ≤ length steps.now) }
-    ensures { result ≡ any (conflictsWith (stepsIn steps.now)) (take n (policyIn policy.now)) }
+    requires { (length policy.now ≡ policy_bytes) × (steps_slot ≤ length steps.now) }
+    ensures { result ≡ any (conflicts_with (steps_in steps.now)) (take n (policy_in policy.now)) }
 {
     let all = row_count(policy, RULE, RULES);
     let mut i: usize = 0;
@@ -35,8 +35,8 @@ pub fn has_conflict(policy: &[u8], n: usize, steps: &[u8]) -> bool
 
 // The number of the first WRITE line in conflict with an earlier one, the head being line 1; 0 where there is none.
 pub fn first_conflict(policy: &[u8]) -> usize
-    requires { length policy.now ≡ policyBytes }
-    ensures { result ≡ lineNumber (conflictFrom 2 [] (policyIn policy.now)) }
+    requires { length policy.now ≡ policy_bytes }
+    ensures { result ≡ line_number (conflict_from 2 [] (policy_in policy.now)) }
 {
     let n = row_count(policy, RULE, RULES);
     let mut i: usize = 0;

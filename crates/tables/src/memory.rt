@@ -1,10 +1,10 @@
 // Users in rows of a name, a role, a key, a quota and environment lines; policy lines in rows of a role, an access and steps.
 ghost use Rattle.std.specs.Prelude.{◌≡◌, ◌≤◌, length, drop};
-ghost use Rattle.model.specs.Rights.{isWrite, isFor};
-ghost use Rattle.model.specs.Tables.{userNamed};
-ghost use Rattle.steps.specs.Steps.{stepsSlot, stepsIn};
-ghost use Rattle.steps.specs.Environments.{bindingsBytes, bindingsIn};
-ghost use Rattle.tables.specs.Memory.{userRow, usersBytes, ruleRow, policyBytes, tablesBytes, userIn, usersIn, ruleIn, userAnswer};
+ghost use Rattle.model.specs.Rights.{is_write, is_for};
+ghost use Rattle.model.specs.Tables.{user_named};
+ghost use Rattle.steps.specs.Steps.{steps_slot, steps_in};
+ghost use Rattle.steps.specs.Environments.{bindings_bytes, bindings_in};
+ghost use Rattle.tables.specs.Memory.{user_row, users_bytes, rule_row, policy_bytes, tables_bytes, user_in, users_in, rule_in, user_answer};
 
 use layout::name::{NAME_ROW, name_from};
 use lexical::limits::{MAX_RULES, MAX_USERS};
@@ -51,42 +51,42 @@ pub enum UserAt {
 
 // The policy's rows, which stand behind the users'.
 pub fn policy_of(tables: &[u8]) -> &[u8]
-    requires { length tables.now ≡ tablesBytes }
-    ensures { (result.now ≡ drop usersBytes tables.now) × (length result.now ≡ policyBytes) }
+    requires { length tables.now ≡ tables_bytes }
+    ensures { (result.now ≡ drop users_bytes tables.now) × (length result.now ≡ policy_bytes) }
 {
     &tables[POLICY..]
 }
 
 // The quota of a user.
 pub fn quota(user: &[u8]) -> usize
-    requires { length user.now ≡ userRow }
-    ensures { result ≡ (userIn user.now).quota }
+    requires { length user.now ≡ user_row }
+    ensures { result ≡ (user_in user.now).quota }
 {
     (user[QUOTA] as usize) + 256 * (user[QUOTA_HIGH] as usize)
 }
 
 // The environment lines of a user.
 pub fn bindings(user: &[u8]) -> &[u8]
-    requires { length user.now ≡ userRow }
-    ensures result_value { bindingsIn result.now ≡ (userIn user.now).environment }
-    ensures result_len { length result.now ≡ bindingsBytes }
+    requires { length user.now ≡ user_row }
+    ensures result_value { bindings_in result.now ≡ (user_in user.now).environment }
+    ensures result_len { length result.now ≡ bindings_bytes }
 {
     &user[LINES..]
 }
 
 // The policy path of a line.
 pub fn rule_path(rule: &[u8]) -> &[u8]
-    requires { length rule.now ≡ ruleRow }
-    ensures result_value { stepsIn result.now ≡ (ruleIn rule.now).path }
-    ensures result_len { length result.now ≡ stepsSlot }
+    requires { length rule.now ≡ rule_row }
+    ensures result_value { steps_in result.now ≡ (rule_in rule.now).path }
+    ensures result_len { length result.now ≡ steps_slot }
 {
     &rule[STEPS_AT..]
 }
 
 // The user of a name.
 pub fn find_user(users: &[u8], name: &[u8]) -> UserAt
-    requires { usersBytes ≤ length users.now }
-    ensures { result ≡ userAnswer (userNamed name.now (usersIn users.now)) }
+    requires { users_bytes ≤ length users.now }
+    ensures { result ≡ user_answer (user_named name.now (users_in users.now)) }
 {
     let mut i: usize = 0;
     while i < USERS {
@@ -104,16 +104,16 @@ pub fn find_user(users: &[u8], name: &[u8]) -> UserAt
 
 // Whether a line is of the kind WRITE.
 pub fn is_write(rule: &[u8]) -> bool
-    requires { length rule.now ≡ ruleRow }
-    ensures { result ≡ isWrite (ruleIn rule.now) }
+    requires { length rule.now ≡ rule_row }
+    ensures { result ≡ is_write (rule_in rule.now) }
 {
     rule[ACCESS] == 1
 }
 
 // Whether a line is of the user's role or of every role.
 pub fn is_for(rule: &[u8], user: &[u8]) -> bool
-    requires { (length rule.now ≡ ruleRow) × (length user.now ≡ userRow) }
-    ensures { result ≡ isFor (userIn user.now) (ruleIn rule.now) }
+    requires { (length rule.now ≡ rule_row) × (length user.now ≡ user_row) }
+    ensures { result ≡ is_for (user_in user.now) (rule_in rule.now) }
 {
     let role = name_from(rule, 0, NAME_ROW);
     if same_bytes(role, name_from(user, ROLE, NAME_ROW)) {

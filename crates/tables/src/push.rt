@@ -1,10 +1,10 @@
 // A row more behind those in use, where there is room for it. A row is written from its last part to its first.
 ghost use Rattle.std.specs.Prelude.{◌≡◌, [], ◌∷◌, ◌++◌, ◌<◌, length, take, replicate};
-ghost use Rattle.model.specs.Limits.{maxName, maxKey, maxUsers, maxBindings, maxRules};
-ghost use Rattle.layout.specs.Layout.{nameRow, encodeName, Keeps};
-ghost use Rattle.steps.specs.Steps.{stepsSlot, stepsIn, CanonicalSteps};
-ghost use Rattle.steps.specs.Environments.{bindingRow, bindingsBytes, bindingsIn, encodeBinding, CanonicalBindings};
-ghost use Rattle.tables.specs.Memory.{userRow, usersBytes, ruleRow, policyBytes, accessIn, accessByte, usersIn, policyIn, encodeUser, CanonicalUsers, CanonicalPolicy};
+ghost use Rattle.model.specs.Limits.{max_name, max_key, max_users, max_bindings, max_rules};
+ghost use Rattle.layout.specs.Layout.{name_row, encode_name, Keeps};
+ghost use Rattle.steps.specs.Steps.{steps_slot, steps_in, CanonicalSteps};
+ghost use Rattle.steps.specs.Environments.{binding_row, bindings_bytes, bindings_in, encode_binding, CanonicalBindings};
+ghost use Rattle.tables.specs.Memory.{user_row, users_bytes, rule_row, policy_bytes, access_in, access_byte, users_in, policy_in, encode_user, CanonicalUsers, CanonicalPolicy};
 
 use crate::memory::{ACCESS, KEY, QUOTA, ROLE, RULE, RULES, USER, USERS};
 use buffers::{put, put_byte};
@@ -14,8 +14,8 @@ use steps::step::{BINDING, BINDINGS};
 
 // An environment line, into a row of zeros.
 fn put_binding(row: &mut [u8], name: &[u8], value: &[u8])
-    requires { row.old ≡ replicate bindingRow 0 }
-    ensures { row.new ≡ encodeBinding (record { name = take maxName name.entry.now; value = take maxKey value.now }) }
+    requires { row.old ≡ replicate binding_row 0 }
+    ensures { row.new ≡ encode_binding (record { name = take max_name name.entry.now; value = take max_key value.now }) }
 {
     put_name(&mut row[NAME_ROW..BINDING], value);
     put_name(&mut row[0..NAME_ROW], name);
@@ -23,8 +23,8 @@ fn put_binding(row: &mut [u8], name: &[u8], value: &[u8])
 
 // An environment line.
 pub fn push_binding(lines: &mut [u8], name: &[u8], value: &[u8])
-    requires { (length lines.old ≡ bindingsBytes) × (0 < length name.now) }
-    ensures lines_after { bindingsIn lines.new ≡ take maxBindings (bindingsIn lines.old ++ record { name = take maxName name.entry.now; value = take maxKey value.now } ∷ []) }
+    requires { (length lines.old ≡ bindings_bytes) × (0 < length name.now) }
+    ensures lines_after { bindings_in lines.new ≡ take max_bindings (bindings_in lines.old ++ record { name = take max_name name.entry.now; value = take max_key value.now } ∷ []) }
     ensures keeps { Keeps CanonicalBindings lines.old lines.new }
 {
     let mut row = [0u8; BINDING];
@@ -34,8 +34,8 @@ pub fn push_binding(lines: &mut [u8], name: &[u8], value: &[u8])
 
 // A user without environment lines, into a row of zeros.
 fn put_user(row: &mut [u8], name: &[u8], role: &[u8], key: &[u8], quota: u16)
-    requires { row.old ≡ replicate userRow 0 }
-    ensures { row.new ≡ encodeUser (record { name = take maxName name.entry.now; role = take maxName role.now; key = take maxName key.now; quota = quota; environment = [] }) }
+    requires { row.old ≡ replicate user_row 0 }
+    ensures { row.new ≡ encode_user (record { name = take max_name name.entry.now; role = take max_name role.now; key = take max_name key.now; quota = quota; environment = [] }) }
 {
     let high = put_byte(row, QUOTA, (quota % 256) as u8);
     put_byte(row, high, (quota / 256) as u8);
@@ -46,8 +46,8 @@ fn put_user(row: &mut [u8], name: &[u8], role: &[u8], key: &[u8], quota: u16)
 
 // A user.
 pub fn push_user(users: &mut [u8], name: &[u8], role: &[u8], key: &[u8], quota: u16)
-    requires { (length users.old ≡ usersBytes) × (0 < length name.now) }
-    ensures users_after { usersIn users.new ≡ take maxUsers (usersIn users.old ++ record { name = take maxName name.entry.now; role = take maxName role.now; key = take maxName key.now; quota = quota; environment = [] } ∷ []) }
+    requires { (length users.old ≡ users_bytes) × (0 < length name.now) }
+    ensures users_after { users_in users.new ≡ take max_users (users_in users.old ++ record { name = take max_name name.entry.now; role = take max_name role.now; key = take max_name key.now; quota = quota; environment = [] } ∷ []) }
     ensures keeps { Keeps CanonicalUsers users.old users.new }
 {
     let mut row = [0u8; USER];
@@ -57,8 +57,8 @@ pub fn push_user(users: &mut [u8], name: &[u8], role: &[u8], key: &[u8], quota: 
 
 // A policy line, into a row of zeros.
 fn put_rule(row: &mut [u8], role: &[u8], access: u8, steps: &[u8])
-    requires { (row.old ≡ replicate ruleRow 0) × (length steps.now ≡ stepsSlot) }
-    ensures { row.new ≡ encodeName nameRow (take maxName role.now) ++ access ∷ steps.now }
+    requires { (row.old ≡ replicate rule_row 0) × (length steps.now ≡ steps_slot) }
+    ensures { row.new ≡ encode_name name_row (take max_name role.now) ++ access ∷ steps.now }
 {
     let path = put_byte(row, ACCESS, access);
     put(row, path, steps);
@@ -67,9 +67,9 @@ fn put_rule(row: &mut [u8], role: &[u8], access: u8, steps: &[u8])
 
 // A policy line.
 pub fn push_rule(policy: &mut [u8], role: &[u8], access: u8, steps: &[u8])
-    requires { (length policy.old ≡ policyBytes) × (0 < length role.now) × (length steps.now ≡ stepsSlot) }
-    ensures policy_after { policyIn policy.new ≡ take maxRules (policyIn policy.old ++ record { role = take maxName role.entry.now; access = accessIn access; path = stepsIn steps.now } ∷ []) }
-    ensures keeps { CanonicalSteps steps.now → access ≡ accessByte (accessIn access) → Keeps CanonicalPolicy policy.old policy.new }
+    requires { (length policy.old ≡ policy_bytes) × (0 < length role.now) × (length steps.now ≡ steps_slot) }
+    ensures policy_after { policy_in policy.new ≡ take max_rules (policy_in policy.old ++ record { role = take max_name role.entry.now; access = access_in access; path = steps_in steps.now } ∷ []) }
+    ensures keeps { CanonicalSteps steps.now → access ≡ access_byte (access_in access) → Keeps CanonicalPolicy policy.old policy.new }
 {
     let mut row = [0u8; RULE];
     put_rule(&mut row, role, access, steps);

@@ -1,15 +1,15 @@
 // Who may read and who may write a path.
 ghost use Rattle.std.specs.Prelude.{◌≡◌, true, ◌||◌, ℕ, ◌≤◌, ◌<◌, length, drop};
 ghost use Rattle.std.proofs.Math.Option.{Option};
-ghost use Rattle.model.specs.Tables.{User, userAt};
+ghost use Rattle.model.specs.Tables.{User, user_at};
 ghost use Rattle.model.specs.Rights.{may_write};
-ghost use Rattle.model.specs.Serving.{readsBy};
+ghost use Rattle.model.specs.Serving.{reads_by};
 ghost use Rattle.masks.specs.Bits.{bit_at};
-ghost use Rattle.masks.specs.Readers.{readersOf};
-ghost use Rattle.paths.specs.Layout.{pathSlot, pathIn};
-ghost use Rattle.matching.specs.Parts.{mayMatch};
-ghost use Rattle.tables.specs.Memory.{userRow, ruleRow, policyBytes, userIn, usersIn, ruleIn, ruleAt, policyIn, ruleCount, tablesIn};
-ghost use Rattle.tables.specs.Grants.{givesRead, givesWrite, readsByLine, Found, Covers};
+ghost use Rattle.masks.specs.Readers.{readers_of};
+ghost use Rattle.paths.specs.Layout.{path_slot, path_in};
+ghost use Rattle.matching.specs.Parts.{may_match};
+ghost use Rattle.tables.specs.Memory.{user_row, rule_row, policy_bytes, user_in, users_in, rule_in, rule_at, policy_in, rule_count, tables_in};
+ghost use Rattle.tables.specs.Grants.{gives_read, gives_write, reads_by_line, Found, Covers};
 
 use crate::candidates::{NOT_ASKED, candidates};
 use crate::memory::{
@@ -22,8 +22,8 @@ use matching::path::{asks_lines, lines_match, matches, may_match};
 
 // Whether a line gives a user the right to write a path.
 fn gives_write(rule: &[u8], user: &[u8], path: &[u8]) -> bool
-    requires { (length rule.now ≡ ruleRow) × (length user.now ≡ userRow) × (pathSlot ≤ length path.now) }
-    ensures { result ≡ givesWrite (userIn user.now) (pathIn path.now) (ruleIn rule.now) }
+    requires { (length rule.now ≡ rule_row) × (length user.now ≡ user_row) × (path_slot ≤ length path.now) }
+    ensures { result ≡ gives_write (user_in user.now) (path_in path.now) (rule_in rule.now) }
 {
     if !is_write(rule) {
         return false;
@@ -36,8 +36,8 @@ fn gives_write(rule: &[u8], user: &[u8], path: &[u8]) -> bool
 
 // Whether a user may write a path.
 pub fn may_write(policy: &[u8], user: &[u8], path: &[u8]) -> bool
-    requires { (length policy.now ≡ policyBytes) × (length user.now ≡ userRow) × (pathSlot ≤ length path.now) }
-    ensures { result ≡ may_write (policyIn policy.now) (userIn user.now) (pathIn path.now) }
+    requires { (length policy.now ≡ policy_bytes) × (length user.now ≡ user_row) × (path_slot ≤ length path.now) }
+    ensures { result ≡ may_write (policy_in policy.now) (user_in user.now) (path_in path.now) }
 {
     let mut i: usize = 0;
     while i < RULES {
@@ -55,9 +55,9 @@ pub fn may_write(policy: &[u8], user: &[u8], path: &[u8]) -> bool
 
 // Whether a line that may match a path gives a user the right to read it. A path without environment steps asks no environment line.
 fn gives_read(rule: &[u8], user: &[u8], path: &[u8]) -> bool
-    requires rule_len { (length rule.now ≡ ruleRow) × (length user.now ≡ userRow) × (pathSlot ≤ length path.now) }
-    requires path_value { mayMatch (ruleIn rule.now).path (pathIn path.now) ≡ true }
-    ensures { result ≡ givesRead (pathIn path.now) (ruleIn rule.now) (userIn user.now) }
+    requires rule_len { (length rule.now ≡ rule_row) × (length user.now ≡ user_row) × (path_slot ≤ length path.now) }
+    requires path_value { may_match (rule_in rule.now).path (path_in path.now) ≡ true }
+    ensures { result ≡ gives_read (path_in path.now) (rule_in rule.now) (user_in user.now) }
 {
     if !is_for(rule, user) {
         return false;
@@ -72,10 +72,10 @@ fn gives_read(rule: &[u8], user: &[u8], path: &[u8]) -> bool
 // A mask with the bits set of those to whom a line that may match the path gives the right to read it.
 // Of the users of `able`, which leaves out nobody for whom the line matches, those are asked who are not marked yet.
 fn with_readers(mask: u32, able: u32, tables: &[u8; TABLES], rule: &[u8], path: &[u8]) -> u32
-    requires rule_len { (length rule.now ≡ ruleRow) × (pathSlot ≤ length path.now) }
-    requires path_value { mayMatch (ruleIn rule.now).path (pathIn path.now) ≡ true }
-    requires covers { Covers (usersIn tables.now) (ruleIn rule.now).path (pathIn path.now) able }
-    ensures { (k : ℕ) → bit_at result k ≡ (bit_at mask k || readsByLine (pathIn path.now) (ruleIn rule.now) (userAt (usersIn tables.now) k)) }
+    requires rule_len { (length rule.now ≡ rule_row) × (path_slot ≤ length path.now) }
+    requires path_value { may_match (rule_in rule.now).path (path_in path.now) ≡ true }
+    requires covers { Covers (users_in tables.now) (rule_in rule.now).path (path_in path.now) able }
+    ensures { (k : ℕ) → bit_at result k ≡ (bit_at mask k || reads_by_line (path_in path.now) (rule_in rule.now) (user_at (users_in tables.now) k)) }
 {
     let mut marked = mask;
     let mut rest = difference(able, mask);
@@ -91,10 +91,10 @@ fn with_readers(mask: u32, able: u32, tables: &[u8; TABLES], rule: &[u8], path: 
 
 // The next of the n lines, from a place on, that may match a path for somebody; n where none may. The lines before it let nobody read the path.
 fn next_line(policy: &[u8], n: usize, from: usize, path: &[u8]) -> usize
-    requires { (length policy.now ≡ policyBytes) × (pathSlot ≤ length path.now) × (n ≡ ruleCount policy.now) × (from ≤ n) }
+    requires { (length policy.now ≡ policy_bytes) × (path_slot ≤ length path.now) × (n ≡ rule_count policy.now) × (from ≤ n) }
     ensures lower_bound { (from ≤ result) × (result ≤ n) }
-    ensures path_value { result < n → mayMatch (ruleAt result policy.now).path (pathIn path.now) ≡ true }
-    ensures path_value_2 { (o : Option User) → readsBy (drop from (policyIn policy.now)) o (pathIn path.now) ≡ readsBy (drop result (policyIn policy.now)) o (pathIn path.now) }
+    ensures path_value { result < n → may_match (rule_at result policy.now).path (path_in path.now) ≡ true }
+    ensures path_value_2 { (o : Option User) → reads_by (drop from (policy_in policy.now)) o (path_in path.now) ≡ reads_by (drop result (policy_in policy.now)) o (path_in path.now) }
 {
     let mut i = from;
     while i < n {
@@ -110,10 +110,10 @@ fn next_line(policy: &[u8], n: usize, from: usize, path: &[u8]) -> usize
 // The mask of those who may read a path. A line that matches for nobody is passed over once, not for each user;
 // who holds a key of the path is found out once, not for each line, and kept in `found`.
 pub fn readers_by(found: &mut [u64; MAX_DEPTH], tables: &[u8; TABLES], path: &[u8]) -> u32
-    requires path_slot_in_bounds { pathSlot ≤ length path.now }
-    requires found { Found (usersIn tables.now) (pathIn path.now) found.old }
-    ensures value { result ≡ readersOf (tablesIn tables.now) (pathIn path.now) }
-    ensures found_2 { Found (usersIn tables.now) (pathIn path.now) found.new }
+    requires path_slot_in_bounds { path_slot ≤ length path.now }
+    requires found { Found (users_in tables.now) (path_in path.now) found.old }
+    ensures value { result ≡ readers_of (tables_in tables.now) (path_in path.now) }
+    ensures found_2 { Found (users_in tables.now) (path_in path.now) found.new }
 {
     let users = row_count(tables, USER, USERS);
     let policy = policy_of(tables);
@@ -131,8 +131,8 @@ pub fn readers_by(found: &mut [u64; MAX_DEPTH], tables: &[u8; TABLES], path: &[u
 
 // The same where nothing is found out yet.
 pub fn readers(tables: &[u8; TABLES], path: &[u8]) -> u32
-    requires { pathSlot ≤ length path.now }
-    ensures { result ≡ readersOf (tablesIn tables.now) (pathIn path.now) }
+    requires { path_slot ≤ length path.now }
+    ensures { result ≡ readers_of (tables_in tables.now) (path_in path.now) }
 {
     let mut found = [NOT_ASKED; MAX_DEPTH];
     readers_by(&mut found, tables, path)

@@ -7,27 +7,27 @@ use lib.ListN.{length, take, drop}
 use lib.Seq.{take-take}
 use Rattle.rows.proofs.Parts.{part-part}
 use Rattle.model.specs.Base.{Bytes, any, ◌==◌}
-use Rattle.model.specs.Limits.{maxBindings}
-use Rattle.model.specs.Tables.{Binding, sameBinding}
-use Rattle.layout.specs.Layout.{inUse, nameRow, keyRow, nameIn}
-use Rattle.steps.specs.Environments.{bindingRow, bindingsBytes, bindingIn, bindingsIn}
+use Rattle.model.specs.Limits.{max_bindings}
+use Rattle.model.specs.Tables.{Binding, same_binding}
+use Rattle.layout.specs.Layout.{in_use, name_row, key_row, name_in}
+use Rattle.steps.specs.Environments.{binding_row, bindings_bytes, binding_in, bindings_in}
 use Rattle.layout.proofs.Used.{used-fit, row-left, rows-over}
 
 -- m rows were counted
-module _ (s : Bytes) {m : ℕ} (counted : m ≡ length (inUse bindingRow maxBindings s)) (i : ℕ) where
-  pub binding-inside : i < m → i * bindingRow + bindingRow ≤ bindingsBytes
-  binding-inside h = omega (arith, counted, used-fit bindingRow maxBindings s)
+module _ (s : Bytes) {m : ℕ} (counted : m ≡ length (in_use binding_row max_bindings s)) (i : ℕ) where
+  pub binding-inside : i < m → i * binding_row + binding_row ≤ bindings_bytes
+  binding-inside h = omega (arith, counted, used-fit binding_row max_bindings s)
 
   -- b is looked for from the row i on: r says whether the row has its name
   module _ (b : Binding) where
-    pub binding-left : {n : Bytes} {r : Bool} → i < m → n ≡ nameIn (take nameRow (drop (i * bindingRow) s)) → r ≡ (b.name == n)
-        → any (sameBinding b) (drop i (bindingsIn s))
-        ≡ ((r && (b.value == nameIn (take keyRow (drop (i * bindingRow + nameRow) s)))) || any (sameBinding b) (drop (i + 1) (bindingsIn s)))
-    unfolding bindingsIn any sameBinding bindingIn
+    pub binding-left : {n : Bytes} {r : Bool} → i < m → n ≡ name_in (take name_row (drop (i * binding_row) s)) → r ≡ (b.name == n)
+        → any (same_binding b) (drop i (bindings_in s))
+        ≡ ((r && (b.value == name_in (take key_row (drop (i * binding_row + name_row) s)))) || any (same_binding b) (drop (i + 1) (bindings_in s)))
+    unfolding bindings_in any same_binding binding_in
     binding-left h e t =
-        let left = row-left bindingIn bindingRow maxBindings s counted i h refl in
-        rw (left, take-take nameRow bindingRow (drop (i * bindingRow) s) (omega arith), ← e, ← t, part-part (i * bindingRow) bindingRow s nameRow keyRow (omega arith))
+        let left = row-left binding_in binding_row max_bindings s counted i h refl in
+        rw (left, take-take name_row binding_row (drop (i * binding_row) s) (omega arith), ← e, ← t, part-part (i * binding_row) binding_row s name_row key_row (omega arith))
 
-    pub binding-over : m ≤ i → any (sameBinding b) (drop i (bindingsIn s)) ≡ false
-    unfolding bindingsIn any
-    binding-over h = rw (rows-over bindingIn bindingRow maxBindings s counted i h)
+    pub binding-over : m ≤ i → any (same_binding b) (drop i (bindings_in s)) ≡ false
+    unfolding bindings_in any
+    binding-over h = rw (rows-over binding_in binding_row max_bindings s counted i h)

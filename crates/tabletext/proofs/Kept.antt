@@ -11,57 +11,57 @@ use Rattle.model.specs.Base.{Bytes}
 use Rattle.model.specs.Refusals.{Result, refused, done, ◌>>=◌}
 use Rattle.model.specs.Table.{Table}
 use Rattle.model.specs.Tables.{User, Rule, Tables}
-use Rattle.tables.specs.Memory.{usersBytes, usersIn, policyIn, tablesIn}
+use Rattle.tables.specs.Memory.{users_bytes, users_in, policy_in, tables_in}
 use Rattle.tables.proofs.Users.{users-first}
 use Rattle.tabletext.specs.declared.row.RowRead.{RowRead}
-use Rattle.tabletext.specs.Reading.{rowAnswer, keptOr, inUsers, inPolicy}
+use Rattle.tabletext.specs.Reading.{row_answer, kept_or, in_users, in_policy}
 
 -- ── A result with what was read put into a whole ──
 module _ {A B : Type 0} (f : A → B) where
-  answer-in : (q : Result ℕ A) → rowAnswer q ≡ rowAnswer (q >>= λ a. done (f a))
+  answer-in : (q : Result ℕ A) → row_answer q ≡ row_answer (q >>= λ a. done (f a))
   unfolding ◌>>=◌
   answer-in (refused e) = refl
   answer-in (done a) = refl
 
-  kept_in : (a : A) (q : Result ℕ A) → f (keptOr a q) ≡ keptOr (f a) (q >>= λ b. done (f b))
-  unfolding ◌>>=◌ keptOr
+  kept_in : (a : A) (q : Result ℕ A) → f (kept_or a q) ≡ kept_or (f a) (q >>= λ b. done (f b))
+  unfolding ◌>>=◌ kept_or
   kept_in a (refused e) = refl
   kept_in a (done b) = refl
 
 -- ── The first 19104 bytes are the users', the rest is the policy's ──
-tables-joined : (us rs : Bytes) → length us ≡ usersBytes → tablesIn (us ++ rs) ≡ record { users = usersIn us; policy = policyIn rs }
-unfolding tablesIn
-tables-joined us rs l = rw (← users-first (us ++ rs), take_at us rs usersBytes l, drop_at us rs usersBytes l)
+tables-joined : (us rs : Bytes) → length us ≡ users_bytes → tables_in (us ++ rs) ≡ record { users = users_in us; policy = policy_in rs }
+unfolding tables_in
+tables-joined us rs l = rw (← users-first (us ++ rs), take_at us rs users_bytes l, drop_at us rs users_bytes l)
 
 -- what a line added to one of them, it added to both
 module _ (val : Bytes → Bytes) (s part : Bytes) {r : RowRead} where
-  pub row-users : (t : Table (List User)) → length part ≡ usersBytes
-      → r ≡ rowAnswer (t.row val (usersIn (take usersBytes s)))
-      → usersIn part ≡ keptOr (usersIn (take usersBytes s)) (t.row val (usersIn (take usersBytes s)))
-      → (r ≡ rowAnswer ((inUsers t).row val (tablesIn s)))
-      × (tablesIn (part ++ drop usersBytes s) ≡ keptOr (tablesIn s) ((inUsers t).row val (tablesIn s)))
-  unfolding inUsers tablesIn
+  pub row-users : (t : Table (List User)) → length part ≡ users_bytes
+      → r ≡ row_answer (t.row val (users_in (take users_bytes s)))
+      → users_in part ≡ kept_or (users_in (take users_bytes s)) (t.row val (users_in (take users_bytes s)))
+      → (r ≡ row_answer ((in_users t).row val (tables_in s)))
+      × (tables_in (part ++ drop users_bytes s) ≡ kept_or (tables_in s) ((in_users t).row val (tables_in s)))
+  unfolding in_users tables_in
   row-users t l a k =
-      let whole : List User → Tables = λ us. record { users = us; policy = policyIn (drop usersBytes s) } in
-      let q = t.row val (usersIn s) in
-      ((rw (users-first s) at a) ∙ answer-in whole q, rw (tables-joined part (drop usersBytes s) l, k, users-first s) (kept_in whole (usersIn s) q))
+      let whole : List User → Tables = λ us. record { users = us; policy = policy_in (drop users_bytes s) } in
+      let q = t.row val (users_in s) in
+      ((rw (users-first s) at a) ∙ answer-in whole q, rw (tables-joined part (drop users_bytes s) l, k, users-first s) (kept_in whole (users_in s) q))
 
-  pub row-policy : (t : Table (List Rule)) → usersBytes ≤ length s
-      → let old = take (length s - usersBytes) (drop usersBytes s) in
-      r ≡ rowAnswer (t.row val (policyIn old))
-      → policyIn part ≡ keptOr (policyIn old) (t.row val (policyIn old))
-      → (r ≡ rowAnswer ((inPolicy t).row val (tablesIn s)))
-      × (tablesIn (replaced usersBytes (length s - usersBytes) part s) ≡ keptOr (tablesIn s) ((inPolicy t).row val (tablesIn s)))
-  unfolding inPolicy tablesIn
+  pub row-policy : (t : Table (List Rule)) → users_bytes ≤ length s
+      → let old = take (length s - users_bytes) (drop users_bytes s) in
+      r ≡ row_answer (t.row val (policy_in old))
+      → policy_in part ≡ kept_or (policy_in old) (t.row val (policy_in old))
+      → (r ≡ row_answer ((in_policy t).row val (tables_in s)))
+      × (tables_in (replaced users_bytes (length s - users_bytes) part s) ≡ kept_or (tables_in s) ((in_policy t).row val (tables_in s)))
+  unfolding in_policy tables_in
   row-policy t l a k =
-      let whole : List Rule → Tables = λ rs. record { users = usersIn s; policy = rs } in
-      let q = t.row val (policyIn (drop usersBytes s)) in
-      let put = ap tablesIn (tail-replaced usersBytes s part) in
-      let joined = tables-joined (take usersBytes s) part (length-take-le usersBytes s l) in
-      let beside : List User → Tables = λ us. record { users = us; policy = policyIn part } in
+      let whole : List Rule → Tables = λ rs. record { users = users_in s; policy = rs } in
+      let q = t.row val (policy_in (drop users_bytes s)) in
+      let put = ap tables_in (tail-replaced users_bytes s part) in
+      let joined = tables-joined (take users_bytes s) part (length-take-le users_bytes s l) in
+      let beside : List User → Tables = λ us. record { users = us; policy = policy_in part } in
       let users = ap beside (users-first s) in
-      let policy = rw (tail-part usersBytes s) at k in
-      ((rw (tail-part usersBytes s) at a) ∙ answer-in whole q, put ∙ joined ∙ users ∙ ap whole policy ∙ kept_in whole (policyIn (drop usersBytes s)) q)
+      let policy = rw (tail-part users_bytes s) at k in
+      ((rw (tail-part users_bytes s) at a) ∙ answer-in whole q, put ∙ joined ∙ users ∙ ap whole policy ∙ kept_in whole (policy_in (drop users_bytes s)) q)
 
 -- ── What holds of the first n bytes, and what of the rest: it stays so where other bytes came back in the place of either ──
 module _ (P Q : Bytes → Type 0) (n : ℕ) (s part : Bytes) where

@@ -3,9 +3,9 @@ use Rattle.std.specs.Prelude.{ℕ, ◌≡◌, List, [], ◌∷◌}
 use Rattle.std.proofs.Math.Option.{Option, none, some}
 use Rattle.model.specs.Base.{Bytes, if◌then◌else◌}
 use Rattle.model.specs.Refusals.{Result, refused, done, ◌>>=◌}
-use Rattle.model.specs.Table.{Table, Line, ended, broken, lines, split, under, isHead, readRow, readTable}
-use Rattle.model.specs.Tables.{User, Access, Rule, Tables, usersTable, environmentsTable, policyTable}
-use Rattle.tables.specs.Memory.{accessByte}
+use Rattle.model.specs.Table.{Table, Line, ended, broken, lines, split, under, is_head, read_row, read_table}
+use Rattle.model.specs.Tables.{User, Access, Rule, Tables, users_table, environments_table, policy_table}
+use Rattle.tables.specs.Memory.{access_byte}
 use Rattle.tabletext.specs.declared.row.RowRead.{RowRead}
 use Rattle.tabletext.specs.declared.row.RowRead.TheVariants as row_read
 use Rattle.tabletext.specs.declared.row.AccessRead.{AccessRead}
@@ -15,67 +15,67 @@ use Rattle.tabletext.specs.declared.read.Table.TheVariants.{Users, Environments,
 use Rattle.tabletext.specs.declared.read.TableRead.{TableRead}
 use Rattle.tabletext.specs.declared.read.TableRead.TheVariants as table-read
 
-abbrev pub accessAnswer : Option Access → AccessRead
-accessAnswer none = access-read.Bad
-accessAnswer (some a) = access-read.Is (accessByte a)
+abbrev pub access_answer : Option Access → AccessRead
+access_answer none = access-read.Bad
+access_answer (some a) = access-read.Is (access_byte a)
 
-abbrev pub rowAnswer : {A : Type 0} → Result ℕ A → RowRead
-rowAnswer (refused e) = row_read.Refused e
-rowAnswer (done a) = row_read.Done
+abbrev pub row_answer : {A : Type 0} → Result ℕ A → RowRead
+row_answer (refused e) = row_read.Refused e
+row_answer (done a) = row_read.Done
 
 -- what was read, or what there was before a refusal
-unfoldable pub keptOr : {E A : Type 0} → A → Result E A → A
-keptOr a (refused e) = a
-keptOr a (done b) = b
+unfoldable pub kept_or : {E A : Type 0} → A → Result E A → A
+kept_or a (refused e) = a
+kept_or a (done b) = b
 
 -- the values of a line by their columns' names
-abbrev pub valuesIn : Bytes → Bytes → Bytes → Bytes
-valuesIn head line = under (split head) (split line)
+abbrev pub values_in : Bytes → Bytes → Bytes → Bytes
+values_in head line = under (split head) (split line)
 
 -- what a line adds to what there was before: the answer, and what there is then
 abbrev pub Adds : {A : Type 0} → (A → Result ℕ A) → A → RowRead → A → Type 0
-Adds row before r after = (r ≡ rowAnswer (row before)) × (after ≡ keptOr before (row before))
+Adds row before r after = (r ≡ row_answer (row before)) × (after ≡ kept_or before (row before))
 
 -- a table of users, or of policy lines, in the tables that hold both
-unfoldable pub inUsers : Table (List User) → Table Tables
-inUsers t = record {
+unfoldable pub in_users : Table (List User) → Table Tables
+in_users t = record {
   columns = t.columns;
   row = λ val m. t.row val m.users >>= λ us. done (record { users = us; policy = m.policy });
 }
 
-unfoldable pub inPolicy : Table (List Rule) → Table Tables
-inPolicy t = record {
+unfoldable pub in_policy : Table (List Rule) → Table Tables
+in_policy t = record {
   columns = t.columns;
   row = λ val m. t.row val m.policy >>= λ rs. done (record { users = m.users; policy = rs });
 }
 
 abbrev pub table_of : code.Table → Table Tables
-table_of Users = inUsers usersTable
-table_of Environments = inUsers environmentsTable
-table_of Policy = inPolicy policyTable
+table_of Users = in_users users_table
+table_of Environments = in_users environments_table
+table_of Policy = in_policy policy_table
 
-abbrev pub tableAnswer : {A : Type 0} → Result (ℕ × ℕ) A → TableRead
-tableAnswer (refused e) = table-read.Refused e.0 e.1
-tableAnswer (done a) = table-read.Done
+abbrev pub table_answer : {A : Type 0} → Result (ℕ × ℕ) A → TableRead
+table_answer (refused e) = table-read.Refused e.0 e.1
+table_answer (done a) = table-read.Done
 
 -- ── What the lines before the first refusal added ──
-unfoldable pub ifDone : {A : Type 0} → A → (A → A) → Result ℕ A → A
-ifDone a f (refused e) = a
-ifDone a f (done b) = f b
+unfoldable pub if_done : {A : Type 0} → A → (A → A) → Result ℕ A → A
+if_done a f (refused e) = a
+if_done a f (done b) = f b
 
 module _ {A : Type 0} (t : Table A) where
-  unfoldable pub rowsAsFar : List Bytes → A → List Line → A
-  rowsAsFar hs a [] = a
-  rowsAsFar hs a (l ∷ ls) = ifDone a (λ b. rowsAsFar hs b ls) (readRow t hs a l)
+  unfoldable pub rows_as_far : List Bytes → A → List Line → A
+  rows_as_far hs a [] = a
+  rows_as_far hs a (l ∷ ls) = if_done a (λ b. rows_as_far hs b ls) (read_row t hs a l)
 
-  unfoldable pub linesAsFar : A → List Line → A
-  linesAsFar a [] = a
-  linesAsFar a (broken h ∷ ls) = a
-  linesAsFar a (ended h ∷ ls) = if isHead t (split h) then rowsAsFar (split h) a ls else a
+  unfoldable pub lines_as_far : A → List Line → A
+  lines_as_far a [] = a
+  lines_as_far a (broken h ∷ ls) = a
+  lines_as_far a (ended h ∷ ls) = if is_head t (split h) then rows_as_far (split h) a ls else a
 
-  unfoldable pub tablesAsFar : A → Bytes → A
-  tablesAsFar a s = linesAsFar a (lines s)
+  unfoldable pub tables_as_far : A → Bytes → A
+  tables_as_far a s = lines_as_far a (lines s)
 
 -- a table's text: the answer r, and what the lines before a refusal made of what there was
 abbrev pub ReadsTable : {A : Type 0} → Table A → A → Bytes → TableRead → A → Type 0
-ReadsTable t a₀ s r a = (r ≡ tableAnswer (readTable t a₀ s)) × (a ≡ tablesAsFar t a₀ s)
+ReadsTable t a₀ s r a = (r ≡ table_answer (read_table t a₀ s)) × (a ≡ tables_as_far t a₀ s)

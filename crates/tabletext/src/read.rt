@@ -1,11 +1,11 @@
 // One reader for the three tables.
 ghost use Rattle.std.specs.Prelude.{◌≡◌, ◌&&◌, ◌≤◌, length};
 ghost use Rattle.model.specs.Base.{all, among};
-ghost use Rattle.model.specs.Limits.{maxText};
-ghost use Rattle.model.specs.Table.{split, sameLength, isHead, readRow, ended};
+ghost use Rattle.model.specs.Limits.{max_text};
+ghost use Rattle.model.specs.Table.{split, same_length, is_head, read_row, ended};
 ghost use Rattle.layout.specs.Layout.{Keeps};
-ghost use Rattle.tables.specs.Memory.{tablesBytes, tablesIn, CanonicalTables};
-ghost use Rattle.tabletext.specs.Reading.{valuesIn, Adds, table_of, ReadsTable};
+ghost use Rattle.tables.specs.Memory.{tables_bytes, tables_in, CanonicalTables};
+ghost use Rattle.tabletext.specs.Reading.{values_in, Adds, table_of, ReadsTable};
 
 use crate::row::{RowRead, add_binding, add_rule, add_user};
 use lexical::slice::until;
@@ -28,8 +28,8 @@ pub enum TableRead {
 
 // Whether a head has as many columns as a line names, and each of these.
 fn has_columns(columns: &[u8], head: &[u8]) -> bool
-    requires { (length columns.now ≤ maxText) × (length head.now ≤ maxText) }
-    ensures { result ≡ (sameLength (split head.now) (split columns.now) && all (λ c. among c (split head.now)) (split columns.now)) }
+    requires { (length columns.now ≤ max_text) × (length head.now ≤ max_text) }
+    ensures { result ≡ (same_length (split head.now) (split columns.now) && all (λ c. among c (split head.now)) (split columns.now)) }
 {
     let n = count(columns);
     if count(head) != n {
@@ -47,8 +47,8 @@ fn has_columns(columns: &[u8], head: &[u8]) -> bool
 
 // Whether a line has the columns of a table, each once, in any order.
 fn is_head(t: Table, head: &[u8]) -> bool
-    requires { length head.now ≤ maxText }
-    ensures { result ≡ isHead (table_of t) (split head.now) }
+    requires { length head.now ≤ max_text }
+    ensures { result ≡ is_head (table_of t) (split head.now) }
 {
     match t {
         Table::Users => has_columns(b"user;role;key;allowance", head),
@@ -59,9 +59,9 @@ fn is_head(t: Table, head: &[u8]) -> bool
 
 // What a line adds to the tables.
 fn add_row(t: Table, tables: &mut [u8], head: &[u8], line: &[u8]) -> RowRead
-    requires { (length tables.old ≡ tablesBytes) × (length head.now ≤ maxText) }
-    ensures adds { Adds ((table_of t).row (valuesIn head.now line.now))
-        (tablesIn tables.old) result (tablesIn tables.new) }
+    requires { (length tables.old ≡ tables_bytes) × (length head.now ≤ max_text) }
+    ensures adds { Adds ((table_of t).row (values_in head.now line.now))
+        (tables_in tables.old) result (tables_in tables.new) }
     ensures keeps { Keeps CanonicalTables tables.old tables.new }
 {
     match t {
@@ -73,9 +73,9 @@ fn add_row(t: Table, tables: &mut [u8], head: &[u8], line: &[u8]) -> RowRead
 
 // The same, if the line has as many values as the head.
 fn read_row(t: Table, tables: &mut [u8; TABLES], head: &[u8], line: &[u8]) -> RowRead
-    requires { (length head.now ≤ maxText) × (length line.now ≤ maxText) }
-    ensures adds { Adds (λ m. readRow (table_of t) (split head.now) m (ended line.now))
-        (tablesIn tables.old) result (tablesIn tables.new) }
+    requires { (length head.now ≤ max_text) × (length line.now ≤ max_text) }
+    ensures adds { Adds (λ m. read_row (table_of t) (split head.now) m (ended line.now))
+        (tables_in tables.old) result (tables_in tables.new) }
     ensures keeps { Keeps CanonicalTables tables.old tables.new }
 {
     if count(line) != count(head) {
@@ -86,8 +86,8 @@ fn read_row(t: Table, tables: &mut [u8; TABLES], head: &[u8], line: &[u8]) -> Ro
 
 // A table's text into the tables: what the lines before a refusal added stays.
 pub fn read_table(t: Table, tables: &mut [u8; TABLES], s: &[u8]) -> TableRead
-    requires { length s.now ≤ maxText }
-    ensures reads_table { ReadsTable (table_of t) (tablesIn tables.old) s.now result (tablesIn tables.new) }
+    requires { length s.now ≤ max_text }
+    ensures reads_table { ReadsTable (table_of t) (tables_in tables.old) s.now result (tables_in tables.new) }
     ensures keeps { Keeps CanonicalTables tables.old tables.new }
 {
     let end = until(s, 0, b'\n');

@@ -1,12 +1,12 @@
 // What a line of values adds to a table, or the number of its refusal.
 ghost use Rattle.std.specs.Prelude.{◌≡◌, ◌≤◌, length};
 ghost use Rattle.model.specs.Base.{any};
-ghost use Rattle.model.specs.Limits.{maxText};
-ghost use Rattle.model.specs.Tables.{usersTable, environmentsTable, policyTable, sameBinding, accessOf};
+ghost use Rattle.model.specs.Limits.{max_text};
+ghost use Rattle.model.specs.Tables.{users_table, environments_table, policy_table, same_binding, access_of};
 ghost use Rattle.layout.specs.Layout.{Keeps};
-ghost use Rattle.steps.specs.Environments.{bindingsBytes, bindingsIn};
-ghost use Rattle.tables.specs.Memory.{usersBytes, policyBytes, usersIn, policyIn, CanonicalUsers, CanonicalPolicy};
-ghost use Rattle.tabletext.specs.Reading.{accessAnswer, valuesIn, Adds};
+ghost use Rattle.steps.specs.Environments.{bindings_bytes, bindings_in};
+ghost use Rattle.tables.specs.Memory.{users_bytes, policy_bytes, users_in, policy_in, CanonicalUsers, CanonicalPolicy};
+ghost use Rattle.tabletext.specs.Reading.{access_answer, values_in, Adds};
 
 use layout::name::{KEY_ROW, NAME_ROW, name_from};
 use layout::table::row_count;
@@ -34,9 +34,9 @@ pub enum AccessRead {
 
 // A user.
 pub fn add_user(users: &mut [u8], head: &[u8], line: &[u8]) -> RowRead
-    requires { (length users.old ≡ usersBytes) × (length head.now ≤ maxText) }
-    ensures adds { Adds (usersTable.row (valuesIn head.now line.now))
-        (usersIn users.old) result (usersIn users.new) }
+    requires { (length users.old ≡ users_bytes) × (length head.now ≤ max_text) }
+    ensures adds { Adds (users_table.row (values_in head.now line.now))
+        (users_in users.old) result (users_in users.new) }
     ensures keeps { Keeps CanonicalUsers users.old users.new }
 {
     let name = value_under(head, line, b"user");
@@ -69,8 +69,8 @@ pub fn add_user(users: &mut [u8], head: &[u8], line: &[u8]) -> RowRead
 
 // Whether a user's environment lines have this one.
 fn has_binding(lines: &[u8], name: &[u8], value: &[u8]) -> bool
-    requires { length lines.now ≡ bindingsBytes }
-    ensures { result ≡ any (sameBinding (record { name = name.entry.now; value = value.now })) (bindingsIn lines.now) }
+    requires { length lines.now ≡ bindings_bytes }
+    ensures { result ≡ any (same_binding (record { name = name.entry.now; value = value.now })) (bindings_in lines.now) }
 {
     let n = row_count(lines, BINDING, BINDINGS);
     let mut i: usize = 0;
@@ -88,9 +88,9 @@ fn has_binding(lines: &[u8], name: &[u8], value: &[u8]) -> bool
 
 // An environment line, which joins those of its user.
 pub fn add_binding(users: &mut [u8], head: &[u8], line: &[u8]) -> RowRead
-    requires { (length users.old ≡ usersBytes) × (length head.now ≤ maxText) }
-    ensures adds { Adds (environmentsTable.row (valuesIn head.now line.now))
-        (usersIn users.old) result (usersIn users.new) }
+    requires { (length users.old ≡ users_bytes) × (length head.now ≤ max_text) }
+    ensures adds { Adds (environments_table.row (values_in head.now line.now))
+        (users_in users.old) result (users_in users.new) }
     ensures keeps { Keeps CanonicalUsers users.old users.new }
 {
     let user = value_under(head, line, b"user");
@@ -122,7 +122,7 @@ pub fn add_binding(users: &mut [u8], head: &[u8], line: &[u8]) -> RowRead
 
 // The byte of an access.
 fn access(s: &[u8]) -> AccessRead
-    ensures { result ≡ accessAnswer (accessOf s.now) }
+    ensures { result ≡ access_answer (access_of s.now) }
 {
     if same(s, b"READ") {
         return AccessRead::Is(0);
@@ -135,9 +135,9 @@ fn access(s: &[u8]) -> AccessRead
 
 // A policy line.
 pub fn add_rule(policy: &mut [u8], head: &[u8], line: &[u8]) -> RowRead
-    requires { (length policy.old ≡ policyBytes) × (length head.now ≤ maxText) }
-    ensures adds { Adds (policyTable.row (valuesIn head.now line.now))
-        (policyIn policy.old) result (policyIn policy.new) }
+    requires { (length policy.old ≡ policy_bytes) × (length head.now ≤ max_text) }
+    ensures adds { Adds (policy_table.row (values_in head.now line.now))
+        (policy_in policy.old) result (policy_in policy.new) }
     ensures keeps { Keeps CanonicalPolicy policy.old policy.new }
 {
     let role = value_under(head, line, b"role");

@@ -12,10 +12,10 @@ use lib.ListN.{length, get_or, take, drop}
 use mir.Syntax.{w32}
 use mir.Val.{SFits, to_z, of_z}
 use mir.Facts.{to_z_pos, to_z-of_z}
-use Rattle.rows.specs.Positions.{Reads, LeavesEnd, behind, placed, runEnd}
+use Rattle.rows.specs.Positions.{Reads, LeavesEnd, behind, placed, run_end}
 use Rattle.rows.proofs.Positions.{here, over, run-within, placed-reads, placed-none, none-placed, reads-placed}
-use Rattle.model.specs.Base.{Bytes, text, ◌>>=◌, ◌>>◌, ◌<|>◌, check, after, is_some, within, isDigit, isDecimal, worth, number}
-use Rattle.model.specs.Values.{Value, string, whole, readString, readPos, readNeg, readValue, valueText, Opened}
+use Rattle.model.specs.Base.{Bytes, text, ◌>>=◌, ◌>>◌, ◌<|>◌, check, after, is_some, within, is_digit, is_decimal, worth, number}
+use Rattle.model.specs.Values.{Value, string, whole, read_string, read_pos, read_neg, read_value, value_text, Opened}
 use Rattle.model.proofs.Lists.{by_cases, or-neither}
 use Rattle.model.proofs.Reading.{within-yes}
 use Rattle.model.proofs.Spelling.{value-spells}
@@ -27,9 +27,9 @@ use Rattle.values.specs.declared.value.Start.{Start}
 use Rattle.values.specs.declared.value.Start.TheVariants as start
 use Rattle.values.specs.declared.value.ValueAt.{ValueAt}
 use Rattle.values.specs.declared.value.ValueAt.TheVariants.{At, Bad}
-use Rattle.lexical.specs.Classes.{readBetween, textAnswer}
-use Rattle.values.specs.Scalars.{valueIn, valueAnswer, InText, AnswerInText}
-use Rattle.values.specs.Starts.{begins, readWord, readAs}
+use Rattle.lexical.specs.Classes.{read_between, text_answer}
+use Rattle.values.specs.Scalars.{value_in, value_answer, InText, AnswerInText}
+use Rattle.values.specs.Starts.{begins, read_word, read_as}
 use Rattle.lexical.proofs.Runs.{span-at, byte-stands, rest_of}
 use Rattle.lexical.proofs.Between.{string-between, between-at}
 use Rattle.lexical.proofs.Slices.{after-at, after-no}
@@ -60,57 +60,57 @@ module _ (n : ℕ) (f : n ≡ 0 → ⊥) (h : n ≤ 2147483647) where
 
 -- ── A number at a position ──
 -- the digits from `at` on, which end at `to`
-abbrev pub digitsTo : Bytes → ℕ → ℕ → Bytes
-digitsTo s at to = take (to - at) (drop at s)
+abbrev pub digits_to : Bytes → ℕ → ℕ → Bytes
+digits_to s at to = take (to - at) (drop at s)
 
 module _ (s : Bytes) (at : ℕ) where
   -- one of 0 and more
-  module _ (to : ℕ) (is : to ≡ runEnd isDigit s at) where
-    pub positive-bad : number 2147483647 (digitsTo s at to) ≡ none → none ≡ placed readPos s at
-    unfolding readPos check ◌>>◌
-    positive-bad m = sym (placed-none readPos s at (rw (span-at isDigit s at to is, number-none 2147483647 _ m)))
+  module _ (to : ℕ) (is : to ≡ run_end is_digit s at) where
+    pub positive-bad : number 2147483647 (digits_to s at to) ≡ none → none ≡ placed read_pos s at
+    unfolding read_pos check ◌>>◌
+    positive-bad m = sym (placed-none read_pos s at (rw (span-at is_digit s at to is, number-none 2147483647 _ m)))
 
-    pub positive-is : at ≤ length s → (n : ℕ) → number 2147483647 (digitsTo s at to) ≡ some n → some (whole (to_z w32 n), to) ≡ placed readPos s at
-    unfolding readPos check ◌>>◌
+    pub positive-is : at ≤ length s → (n : ℕ) → number 2147483647 (digits_to s at to) ≡ some n → some (whole (to_z w32 n), to) ≡ placed read_pos s at
+    unfolding read_pos check ◌>>◌
     positive-is h n m =
-        let w = run-within isDigit s at to is h in
+        let w = run-within is_digit s at to is h in
         let (d, v, l) = number-some 2147483647 _ n m in
-        rw (cast_is n l) (sym (placed-reads readPos s at _ to (record {
+        rw (cast_is n l) (sym (placed-reads read_pos s at _ to (record {
           from = w.0;
           to = w.1;
-          is = rw (span-at isDigit s at to is, d, v, le-leb n 2147483647 l);
+          is = rw (span-at is_digit s at to is, d, v, le-leb n 2147483647 l);
         })))
 
   -- one below 0: its digits stand behind the sign
-  pub negative-unsigned : is_some (after (0x2D ∷ []) (drop at s)) ≡ false → none ≡ placed readNeg s at
-  unfolding readNeg text ◌>>=◌
-  negative-unsigned m = sym (placed-none readNeg s at (rw (after-no (0x2D ∷ []) (drop at s) m)))
+  pub negative-unsigned : is_some (after (0x2D ∷ []) (drop at s)) ≡ false → none ≡ placed read_neg s at
+  unfolding read_neg text ◌>>=◌
+  negative-unsigned m = sym (placed-none read_neg s at (rw (after-no (0x2D ∷ []) (drop at s) m)))
 
-  module _ (o : is_some (after (0x2D ∷ []) (drop at s)) ≡ true) (to : ℕ) (is : to ≡ runEnd isDigit s (at + 1)) where
-    signed : let d = digitsTo s (at + 1) to in
-        readNeg (drop at s) ≡ (check (isDecimal d && within 1 2147483648 (worth 0 d)) >> some (whole (negsuc (worth 0 d - 1)), drop to s))
-    unfolding readNeg text ◌>>=◌
-    signed = rw ((byte-stands 0x2D s at o).1, span-at isDigit s (at + 1) to is)
+  module _ (o : is_some (after (0x2D ∷ []) (drop at s)) ≡ true) (to : ℕ) (is : to ≡ run_end is_digit s (at + 1)) where
+    signed : let d = digits_to s (at + 1) to in
+        read_neg (drop at s) ≡ (check (is_decimal d && within 1 2147483648 (worth 0 d)) >> some (whole (negsuc (worth 0 d - 1)), drop to s))
+    unfolding read_neg text ◌>>=◌
+    signed = rw ((byte-stands 0x2D s at o).1, span-at is_digit s (at + 1) to is)
 
-    pub negative-bad : number 2147483648 (digitsTo s (at + 1) to) ≡ none → none ≡ placed readNeg s at
+    pub negative-bad : number 2147483648 (digits_to s (at + 1) to) ≡ none → none ≡ placed read_neg s at
     unfolding check within ◌>>◌
-    negative-bad m = sym (placed-none readNeg s at (signed ∙ by_cases (leb 1 (worth 0 (digitsTo s (at + 1) to)))
+    negative-bad m = sym (placed-none read_neg s at (signed ∙ by_cases (leb 1 (worth 0 (digits_to s (at + 1) to)))
         (λ i. rw (i, number-none 2147483648 _ m))
         (λ i. rw (i, and-false))))
 
-    pub negative-zero : (n : ℕ) → n ≡ 0 → number 2147483648 (digitsTo s (at + 1) to) ≡ some n → none ≡ placed readNeg s at
+    pub negative-zero : (n : ℕ) → n ≡ 0 → number 2147483648 (digits_to s (at + 1) to) ≡ some n → none ≡ placed read_neg s at
     unfolding check within ◌>>◌
     negative-zero n z m =
         let (d, v, l) = number-some 2147483648 _ n m in
-        sym (placed-none readNeg s at (signed ∙ rw (d, v, z)))
+        sym (placed-none read_neg s at (signed ∙ rw (d, v, z)))
 
-    pub negative-is : (n : ℕ) (z : ℤ) → (n ≡ 0 → ⊥) → z ≡ negsuc (n - 1) → number 2147483648 (digitsTo s (at + 1) to) ≡ some n
-        → some (whole z, to) ≡ placed readNeg s at
+    pub negative-is : (n : ℕ) (z : ℤ) → (n ≡ 0 → ⊥) → z ≡ negsuc (n - 1) → number 2147483648 (digits_to s (at + 1) to) ≡ some n
+        → some (whole z, to) ≡ placed read_neg s at
     unfolding check ◌>>◌
     negative-is n z f i m =
-        let w = run-within isDigit s (at + 1) to is (omega (arith, (byte-stands 0x2D s at o).0)) in
+        let w = run-within is_digit s (at + 1) to is (omega (arith, (byte-stands 0x2D s at o).0)) in
         let (d, v, l) = number-some 2147483648 _ n m in
-        rw i (sym (placed-reads readNeg s at _ to (record {
+        rw i (sym (placed-reads read_neg s at _ to (record {
           from = omega arith;
           to = w.1;
           is = signed ∙ rw (d, v, within-yes 1 2147483648 n (omega (arith, f)) l);
@@ -126,79 +126,79 @@ or-none (some a) = refl
 other_byte : (q b : ℕ) → eqb b q ≡ false → eqb q b ≡ false
 other_byte q b h = ne_eqb q b (λ e. eqb-false b q h (sym e))
 
-digit_not : (b : ℕ) → isDigit b ≡ true → (q : ℕ) → isDigit q ≡ false → eqb q b ≡ false
-digit_not b h q n = ne_eqb q b (λ e. true≢false (sym h ∙ ap isDigit (sym e) ∙ n))
+digit_not : (b : ℕ) → is_digit b ≡ true → (q : ℕ) → is_digit q ≡ false → eqb q b ≡ false
+digit_not b h q n = ne_eqb q b (λ e. true≢false (sym h ∙ ap is_digit (sym e) ∙ n))
 
 -- where the first byte is of a kind, no reader but that kind's reads anything
-pub value-by-start : (k : Start) (b : ℕ) (s : Bytes) → begins k b ≡ true → readValue (b ∷ s) ≡ readAs k (b ∷ s)
-unfolding Opened begins readWord readAs
+pub value-by-start : (k : Start) (b : ℕ) (s : Bytes) → begins k b ≡ true → read_value (b ∷ s) ≡ read_as k (b ∷ s)
+unfolding Opened begins read_word read_as
 value-by-start start.True b s h = rw (eqb-true b 0x74 h) (simp or-none)
 value-by-start start.False b s h = rw (eqb-true b 0x66 h) (simp or-none)
 value-by-start start.Text b s h = rw (eqb-true b 0x22 h) (simp or-none)
 value-by-start start.Positive b s h =
-    rw (digit_not b h 0x74 refl, digit_not b h 0x66 refl, digit_not b h 0x22 refl, digit_not b h 0x2D refl) (or-none (readPos (b ∷ s)))
+    rw (digit_not b h 0x74 refl, digit_not b h 0x66 refl, digit_not b h 0x22 refl, digit_not b h 0x2D refl) (or-none (read_pos (b ∷ s)))
 value-by-start start.Negative b s h = rw (eqb-true b 0x2D h)
 value-by-start start.Other b s h =
     let (n₁, m) = or-neither _ (eqb b 0x2D) (not-true _ h) in
-    let (n₂, d) = or-neither _ (isDigit b) n₁ in
+    let (n₂, d) = or-neither _ (is_digit b) n₁ in
     let (n₃, q) = or-neither _ (eqb b 0x22) n₂ in
     let (t, f) = or-neither (eqb b 0x74) (eqb b 0x66) n₃ in
     rw (other_byte 0x74 b t, other_byte 0x66 b f, other_byte 0x22 b q, d, other_byte 0x2D b m)
 
 module _ (s : Bytes) (at : ℕ) where
-  pub word-is : at ≤ length s → (w : Bytes) (v : Value) → is_some (after w (drop at s)) ≡ true → some (v, at + length w) ≡ placed (readWord w v) s at
-  unfolding readWord ◌>>=◌
+  pub word-is : at ≤ length s → (w : Bytes) (v : Value) → is_some (after w (drop at s)) ≡ true → some (v, at + length w) ≡ placed (read_word w v) s at
+  unfolding read_word ◌>>=◌
   word-is h w v y =
       let (e, k) = after-at w s at h y in
-      sym (placed-reads (readWord w v) s at v (at + length w) (record { from = omega arith; to = k; is = rw e }))
+      sym (placed-reads (read_word w v) s at v (at + length w) (record { from = omega arith; to = k; is = rw e }))
 
-  pub word-not : (w : Bytes) (v : Value) → is_some (after w (drop at s)) ≡ false → none ≡ placed (readWord w v) s at
-  unfolding readWord ◌>>=◌
-  word-not w v n = sym (placed-none (readWord w v) s at (rw (after-no w (drop at s) n)))
+  pub word-not : (w : Bytes) (v : Value) → is_some (after w (drop at s)) ≡ false → none ≡ placed (read_word w v) s at
+  unfolding read_word ◌>>=◌
+  word-not w v n = sym (placed-none (read_word w v) s at (rw (after-no w (drop at s) n)))
 
-  string-placed : placed readString s at ≡ (placed (readBetween Text 0x22 0 32) s at >>= λ t. some (string t.0, t.1))
+  string-placed : placed read_string s at ≡ (placed (read_between Text 0x22 0 32) s at >>= λ t. some (string t.0, t.1))
   unfolding placed behind ◌>>=◌
-  string-placed = rw (string-between (drop at s)) (go (readBetween Text 0x22 0 32 (drop at s)))
+  string-placed = rw (string-between (drop at s)) (go (read_between Text 0x22 0 32 (drop at s)))
     where
       go : (o : Option (Bytes × Bytes)) → behind s (o >>= λ t. some (string t.0, t.1)) ≡ (behind s o >>= λ t. some (string t.0, t.1))
       go none = refl
       go (some t) = refl
 
-  module _ (x : End) (answer : textAnswer s at x ≡ placed (readBetween Text 0x22 0 32) s at) where
-    pub string-not : x ≡ end.Bad → none ≡ placed readString s at
-    unfolding textAnswer ◌>>=◌
-    string-not i = sym (string-placed ∙ rw (told (textAnswer s at) answer i))
+  module _ (x : End) (answer : text_answer s at x ≡ placed (read_between Text 0x22 0 32) s at) where
+    pub string-not : x ≡ end.Bad → none ≡ placed read_string s at
+    unfolding text_answer ◌>>=◌
+    string-not i = sym (string-placed ∙ rw (told (text_answer s at) answer i))
 
-    pub string-is : (e : ℕ) → x ≡ end.At e → some (string (take (e - 1 - (at + 1)) (drop (at + 1) s)), e) ≡ placed readString s at
-    unfolding textAnswer ◌>>=◌
+    pub string-is : (e : ℕ) → x ≡ end.At e → some (string (take (e - 1 - (at + 1)) (drop (at + 1) s)), e) ≡ placed read_string s at
+    unfolding text_answer ◌>>=◌
     string-is e i =
         let n : e - 1 - (at + 1) ≡ e - 2 - at = omega arith in
-        sym (string-placed ∙ rw (told (textAnswer s at) answer i, n))
+        sym (string-placed ∙ rw (told (text_answer s at) answer i, n))
 
     -- the part of the text that the string is
     pub string-inside : at ≤ length s → (e : ℕ) → x ≡ end.At e → (at + 1 ≤ e - 1) × (e - 1 ≤ length s)
     string-inside h e i = let b = between-at Text 0x22 0 32 s at x answer h e i in (omega (arith, b.at_least), omega (arith, b.reads.to))
 
   -- ── What the function `value_at` answers ──
-  pub value-over : length s ≤ at → none ≡ placed readValue s at
+  pub value-over : length s ≤ at → none ≡ placed read_value s at
   unfolding Opened
-  value-over h = sym (placed-none readValue s at (rw (over s at h)))
+  value-over h = sym (placed-none read_value s at (rw (over s at h)))
 
   -- what the reader of the first byte's kind answers is the value
-  pub value-is : at < length s → (r k : Start) → begins r (get_or s at 0) ≡ true → r ≡ k → placed (readAs k) s at ≡ placed readValue s at
+  pub value-is : at < length s → (r k : Start) → begins r (get_or s at 0) ≡ true → r ≡ k → placed (read_as k) s at ≡ placed read_value s at
   unfolding placed
   value-is h r k b e = ap (behind s) (rw (here 0 s at h) (sym (value-by-start k _ _ (rw e at b))))
 
 -- ── For a caller of the function `value_at`: what its answer says ──
-pub value-leaves : LeavesEnd readValue
-value-leaves s t h = rest_of s (valueText t.0) t.1 (value-spells s t h).1
+pub value-leaves : LeavesEnd read_value
+value-leaves s t h = rest_of s (value_text t.0) t.1 (value-spells s t h).1
 
-module _ (s : Bytes) (at : ℕ) (r : ValueAt) (answer : valueAnswer s r ≡ placed readValue s at) where
-  pub value-bad : r ≡ Bad → readValue (drop at s) ≡ none
-  value-bad i = none-placed readValue s at (told (valueAnswer s) answer i)
+module _ (s : Bytes) (at : ℕ) (r : ValueAt) (answer : value_answer s r ≡ placed read_value s at) where
+  pub value-bad : r ≡ Bad → read_value (drop at s) ≡ none
+  value-bad i = none-placed read_value s at (told (value_answer s) answer i)
 
-  pub value-reads : at ≤ length s → (v : Scalar) (e : ℕ) → r ≡ At v e → Reads readValue s at (valueIn s v) e
-  value-reads h v e i = reads-placed readValue s at value-leaves h (valueIn s v) e (told (valueAnswer s) answer i)
+  pub value-reads : at ≤ length s → (v : Scalar) (e : ℕ) → r ≡ At v e → Reads read_value s at (value_in s v) e
+  value-reads h v e i = reads-placed read_value s at value-leaves h (value_in s v) e (told (value_answer s) answer i)
 
 pub value-inside : (s : Bytes) (r : ValueAt) → AnswerInText r s → (v : Scalar) (e : ℕ) → r ≡ At v e → InText v s
 value-inside s r k v e i = rw i at k

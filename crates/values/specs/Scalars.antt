@@ -9,15 +9,15 @@ use Rattle.values.specs.declared.value.Scalar.TheVariants.{True, False, Text, Wh
 use Rattle.values.specs.declared.value.ValueAt.{ValueAt}
 use Rattle.values.specs.declared.value.ValueAt.TheVariants as value-at
 
-abbrev pub valueIn : Bytes → Scalar → Value
-valueIn s True = truth true
-valueIn s False = truth false
-valueIn s (Text a e) = string (take (e - a) (drop a s))
-valueIn s (Whole z) = whole z
+abbrev pub value_in : Bytes → Scalar → Value
+value_in s True = truth true
+value_in s False = truth false
+value_in s (Text a e) = string (take (e - a) (drop a s))
+value_in s (Whole z) = whole z
 
-abbrev pub valueAnswer : Bytes → ValueAt → Option (Value × ℕ)
-valueAnswer s (value-at.At v e) = some (valueIn s v, e)
-valueAnswer s value-at.Bad = none
+abbrev pub value_answer : Bytes → ValueAt → Option (Value × ℕ)
+value_answer s (value-at.At v e) = some (value_in s v, e)
+value_answer s value-at.Bad = none
 
 -- a string's part lies in the text
 abbrev pub InText : Scalar → Bytes → Type 0
@@ -33,4 +33,4 @@ AnswerInText value-at.Bad s = Unit {0}
 
 -- an answer is right of the reader f: what f reads at the position, in the text
 abbrev pub Answered : Reader ℕ Value → Bytes → ℕ → ValueAt → Type 0
-Answered f s at r = (valueAnswer s r ≡ placed f s at) × AnswerInText r s
+Answered f s at r = (value_answer s r ≡ placed f s at) × AnswerInText r s

@@ -2,9 +2,9 @@
 ghost use Rattle.std.specs.Prelude.{◌≡◌, true, ◌+◌, ◌≤◌, ◌<◌, ◌^◌, length};
 ghost use Rattle.rows.specs.Rows.{Wrote};
 ghost use Rattle.rows.specs.Positions.{placed};
-ghost use Rattle.model.specs.Values.{readValue, readString, readPos, readNeg, valueText};
-ghost use Rattle.values.specs.Scalars.{valueIn, valueAnswer, InText, AnswerInText, Answered};
-ghost use Rattle.values.specs.Starts.{begins, readWord};
+ghost use Rattle.model.specs.Values.{read_value, read_string, read_pos, read_neg, value_text};
+ghost use Rattle.values.specs.Scalars.{value_in, value_answer, InText, AnswerInText, Answered};
+ghost use Rattle.values.specs.Starts.{begins, read_word};
 
 use crate::whole::put_whole;
 use buffers::{put, put_quoted};
@@ -55,7 +55,7 @@ fn start_of(b: u8) -> Start
 // A word that is a value.
 fn word_at(s: &[u8], at: usize, w: &[u8], v: Scalar) -> ValueAt
     requires { (at ≤ length s.now) × InText v s.now }
-    ensures { Answered (readWord w.now (valueIn s.now v)) s.now at result }
+    ensures { Answered (read_word w.now (value_in s.now v)) s.now at result }
 {
     if starts(s, at, w) {
         return ValueAt::At(v, at + w.len());
@@ -66,7 +66,7 @@ fn word_at(s: &[u8], at: usize, w: &[u8], v: Scalar) -> ValueAt
 // A string in quotes.
 fn text_at(s: &[u8], at: usize) -> ValueAt
     requires { at ≤ length s.now }
-    ensures { Answered readString s.now at result }
+    ensures { Answered read_string s.now at result }
 {
     let End::At(e) = between(s, at, b'"', Class::Text, 0, MAX_STRING) else {
         return ValueAt::Bad;
@@ -77,7 +77,7 @@ fn text_at(s: &[u8], at: usize) -> ValueAt
 // A number of 0 and more.
 fn positive_at(s: &[u8], at: usize) -> ValueAt
     requires { at ≤ length s.now }
-    ensures { Answered readPos s.now at result }
+    ensures { Answered read_pos s.now at result }
 {
     let to = run(s, at, Class::Digit);
     let Natural::Is(n) = number(&s[at..to], 2147483647) else {
@@ -89,7 +89,7 @@ fn positive_at(s: &[u8], at: usize) -> ValueAt
 // A number below 0; that of the smallest has no i32 of its own to negate.
 fn negative_at(s: &[u8], at: usize) -> ValueAt
     requires { at ≤ length s.now }
-    ensures { Answered readNeg s.now at result }
+    ensures { Answered read_neg s.now at result }
 {
     if !is_at(s, at, b'-') {
         return ValueAt::Bad;
@@ -111,7 +111,7 @@ fn negative_at(s: &[u8], at: usize) -> ValueAt
 // The value at a position: its first byte says which of the readers can read it.
 pub fn value_at(s: &[u8], at: usize) -> ValueAt
     requires { at ≤ length s.now }
-    ensures result_value { valueAnswer s.now result ≡ placed readValue s.now at }
+    ensures result_value { value_answer s.now result ≡ placed read_value s.now at }
     ensures answer_in_text { AnswerInText result s.now }
 {
     if s.len() <= at {
@@ -131,7 +131,7 @@ pub fn value_at(s: &[u8], at: usize) -> ValueAt
 // A value, whose string is a part of the text s.
 pub fn put_value(out: &mut [u8], at: usize, v: Scalar, s: &[u8]) -> usize
     requires { (at + length s.now + 13 < 2 ^ 64) × InText v s.now }
-    ensures { Wrote at (valueText (valueIn s.now v)) out.old result out.new }
+    ensures { Wrote at (value_text (value_in s.now v)) out.old result out.new }
 {
     match v {
         Scalar::True => put(out, at, b"true"),

@@ -4,16 +4,16 @@ use mathlib.Core.Path.{◌≡◌, refl, ap, ◌∙◌}
 use mathlib.Core.List.{[], ◌∷◌, ◌++◌, append_assoc}
 use native.Mathlib.Omega.{arith}
 use lib.ListN.{length, get_or, take, drop, replicate, length-drop}
-use Rattle.model.specs.Limits.{maxDepth}
+use Rattle.model.specs.Limits.{max_depth}
 use Rattle.model.specs.Base.{Bytes, text, ◌==◌}
-use Rattle.model.specs.Values.{quoted, valueText}
+use Rattle.model.specs.Values.{quoted, value_text}
 use Rattle.model.specs.Fields.{Keys, Fields}
-use Rattle.model.specs.SavedText.{descend, ascend, turn, savedBehind, saved}
+use Rattle.model.specs.SavedText.{descend, ascend, turn, saved_behind, saved}
 use Rattle.model.proofs.Lists.{by_cases}
-use Rattle.paths.specs.Layout.{pathIn}
-use Rattle.layout.specs.Layout.{keyRow, nameIn}
+use Rattle.paths.specs.Layout.{path_in}
+use Rattle.layout.specs.Layout.{key_row, name_in}
 use Rattle.layout.proofs.Counts.{length-counted, counted_step, counted-over}
-use Rattle.record.specs.Slots.{valueIn, fieldIn}
+use Rattle.record.specs.Slots.{value_in, field_in}
 use Rattle.paths.specs.Fields.{shared}
 
 -- ── The text from one path to another, by how many keys they share ──
@@ -41,20 +41,20 @@ unfolding ascend
 ascend-braces [] = refl
 ascend-braces (k ∷ p) = ap (0x7D ∷◌) (ascend-braces p)
 
-path-count : (s : Bytes) → length (pathIn s) ≡ min (get_or s 0 0) maxDepth
-unfolding pathIn
-path-count s = length-counted nameIn keyRow maxDepth s
+path-count : (s : Bytes) → length (path_in s) ≡ min (get_or s 0 0) max_depth
+unfolding path_in
+path-count s = length-counted name_in key_row max_depth s
 
 -- the text between two slots, whose paths have m and n keys and share i
-module _ (a b : Bytes) (m n i : ℕ) (p : m ≡ min (get_or a 0 0) maxDepth) (q : n ≡ min (get_or b 0 0) maxDepth) (is : i ≡ shared (pathIn a) (pathIn b)) where
-  pub slots_apart : i < m → i < n → turn (pathIn a) (pathIn b) ≡ replicate (m - i - 1) 0x7D ++ (text "," ++ descend (drop i (pathIn b)))
+module _ (a b : Bytes) (m n i : ℕ) (p : m ≡ min (get_or a 0 0) max_depth) (q : n ≡ min (get_or b 0 0) max_depth) (is : i ≡ shared (path_in a) (path_in b)) where
+  pub slots_apart : i < m → i < n → turn (path_in a) (path_in b) ≡ replicate (m - i - 1) 0x7D ++ (text "," ++ descend (drop i (path_in b)))
   slots_apart g h =
-      let e : length (pathIn a) - suc i ≡ m - i - 1 = omega (arith, path-count a) in
-      turn-some (pathIn a) (pathIn b) (omega (arith, path-count a)) (omega (arith, path-count b))
+      let e : length (path_in a) - suc i ≡ m - i - 1 = omega (arith, path-count a) in
+      turn-some (path_in a) (path_in b) (omega (arith, path-count a)) (omega (arith, path-count b))
       ∙ rw (← is, ascend-braces, length-drop, e)
 
-  pub slots-within : min m n ≤ i → turn (pathIn a) (pathIn b) ≡ []
-  slots-within h = turn-none (pathIn a) (pathIn b) (omega (arith, path-count a, path-count b))
+  pub slots-within : min m n ≤ i → turn (path_in a) (path_in b) ≡ []
+  slots-within h = turn-none (path_in a) (path_in b) (omega (arith, path-count a, path-count b))
 
 -- ── Down to the field at a path ──
 descend-two : (k l : Bytes) (p : Keys) → descend (k ∷ (l ∷ p)) ≡ text "\"" ++ (k ++ (text "\"" ++ (text ":" ++ (text "{" ++ descend (l ∷ p)))))
@@ -66,22 +66,22 @@ unfolding descend quoted text
 descend-one k = rw (append_assoc k)
 
 -- the same of a slot, from the key i on: k is that key
-module _ (s : Bytes) (i : ℕ) {k : Bytes} (is : k ≡ nameIn (take keyRow (drop (i * keyRow + 1) s))) (h : i < min (get_or s 0 0) maxDepth) where
-  pub descend-more : i + 1 < min (get_or s 0 0) maxDepth
-      → descend (drop i (pathIn s)) ≡ text "\"" ++ (k ++ (text "\"" ++ (text ":" ++ (text "{" ++ descend (drop (i + 1) (pathIn s))))))
-  unfolding pathIn
-  descend-more o = rw (counted_step nameIn keyRow maxDepth s i h, counted_step nameIn keyRow maxDepth s (i + 1) o, ← is) (descend-two k _ _)
+module _ (s : Bytes) (i : ℕ) {k : Bytes} (is : k ≡ name_in (take key_row (drop (i * key_row + 1) s))) (h : i < min (get_or s 0 0) max_depth) where
+  pub descend-more : i + 1 < min (get_or s 0 0) max_depth
+      → descend (drop i (path_in s)) ≡ text "\"" ++ (k ++ (text "\"" ++ (text ":" ++ (text "{" ++ descend (drop (i + 1) (path_in s))))))
+  unfolding path_in
+  descend-more o = rw (counted_step name_in key_row max_depth s i h, counted_step name_in key_row max_depth s (i + 1) o, ← is) (descend-two k _ _)
 
-  pub descend-last : min (get_or s 0 0) maxDepth ≤ i + 1
-      → descend (drop i (pathIn s)) ≡ text "\"" ++ (k ++ (text "\"" ++ (text ":" ++ descend (drop (i + 1) (pathIn s)))))
-  unfolding pathIn
+  pub descend-last : min (get_or s 0 0) max_depth ≤ i + 1
+      → descend (drop i (path_in s)) ≡ text "\"" ++ (k ++ (text "\"" ++ (text ":" ++ descend (drop (i + 1) (path_in s)))))
+  unfolding path_in
   descend-last o =
       let none : descend [] ≡ [] = unfold descend in refl in
-      rw (counted_step nameIn keyRow maxDepth s i h, counted-over nameIn keyRow maxDepth s (i + 1) o, ← is, none) (descend-one k)
+      rw (counted_step name_in key_row max_depth s i h, counted-over name_in key_row max_depth s (i + 1) o, ← is, none) (descend-one k)
 
-pub descend-over : (s : Bytes) (i : ℕ) → min (get_or s 0 0) maxDepth ≤ i → descend (drop i (pathIn s)) ≡ []
-unfolding pathIn descend
-descend-over s i h = rw (counted-over nameIn keyRow maxDepth s i h)
+pub descend-over : (s : Bytes) (i : ℕ) → min (get_or s 0 0) max_depth ≤ i → descend (drop i (path_in s)) ≡ []
+unfolding path_in descend
+descend-over s i h = rw (counted-over name_in key_row max_depth s i h)
 
 -- ── Saved text of fields in slots ──
 pub saved-none : saved [] ≡ text "{}"
@@ -89,14 +89,14 @@ unfolding saved
 saved-none = refl
 
 module _ (s : Bytes) where
-  pub saved-some : (fs : Fields) → saved (fieldIn s ∷ fs) ≡ text "{" ++ (descend (pathIn s) ++ (valueText (valueIn s) ++ savedBehind (pathIn s) fs))
-  unfolding saved fieldIn
+  pub saved-some : (fs : Fields) → saved (field_in s ∷ fs) ≡ text "{" ++ (descend (path_in s) ++ (value_text (value_in s) ++ saved_behind (path_in s) fs))
+  unfolding saved field_in
   saved-some fs = refl
 
-  pub behind-some : (p : Keys) (fs : Fields) → savedBehind p (fieldIn s ∷ fs) ≡ turn p (pathIn s) ++ (valueText (valueIn s) ++ savedBehind (pathIn s) fs)
-  unfolding savedBehind fieldIn
+  pub behind-some : (p : Keys) (fs : Fields) → saved_behind p (field_in s ∷ fs) ≡ turn p (path_in s) ++ (value_text (value_in s) ++ saved_behind (path_in s) fs)
+  unfolding saved_behind field_in
   behind-some p fs = refl
 
-  pub behind-none : (n : ℕ) → n ≡ min (get_or s 0 0) maxDepth → savedBehind (pathIn s) [] ≡ replicate n 0x7D
-  unfolding savedBehind
+  pub behind-none : (n : ℕ) → n ≡ min (get_or s 0 0) max_depth → saved_behind (path_in s) [] ≡ replicate n 0x7D
+  unfolding saved_behind
   behind-none n h = rw (h, ascend-braces, path-count)

@@ -1,47 +1,47 @@
 -- Fields that are shown: all, or those that one user may read.
 use Rattle.std.specs.Prelude.{ℕ, suc, ◌+◌, ◌*◌, ◌<◌, Bool, true, List, [], ◌∷◌, map}
 use Rattle.model.specs.Base.{Bytes, if◌then◌else◌, keep}
-use Rattle.model.specs.Limits.{maxKey, maxDepth, maxFields, maxUsers}
+use Rattle.model.specs.Limits.{max_key, max_depth, max_fields, max_users}
 use Rattle.model.specs.Fields.{Fields}
-use Rattle.layout.specs.Layout.{inUse}
+use Rattle.layout.specs.Layout.{in_use}
 use Rattle.masks.specs.Bits.{bit_at}
-use Rattle.record.specs.Slots.{valueRoom, slotBytes, fieldIn, maskIn}
+use Rattle.record.specs.Slots.{value_room, slot_bytes, field_in, mask_in}
 use Rattle.writer.specs.declared.saved.Shown.{Shown}
 use Rattle.writer.specs.declared.saved.Shown.TheVariants.{All, To}
 
 -- ── How long texts are at most ──
 -- the keys of a path, each in quotes with a colon and a brace
-abbrev pub descentText : ℕ
-descentText = (maxKey + 4) * maxDepth
+abbrev pub descent_text : ℕ
+descent_text = (max_key + 4) * max_depth
 
 -- from one field to the next: braces besides
-abbrev pub turnText : ℕ
-turnText = (maxKey + 5) * maxDepth
+abbrev pub turn_text : ℕ
+turn_text = (max_key + 5) * max_depth
 
 -- a field behind another
-abbrev pub savedField : ℕ
-savedField = turnText + valueRoom
+abbrev pub saved_field : ℕ
+saved_field = turn_text + value_room
 
 -- all slots, whatever they hold
-abbrev pub mostSaved : ℕ
-mostSaved = maxFields * (savedField + 1)
+abbrev pub most_saved : ℕ
+most_saved = max_fields * (saved_field + 1)
 
 -- ── Meanings ──
 -- the user's place, where the fields of one user are shown, is one that a mask has a bit for
 abbrev pub Placed : Shown → Type 0
 Placed All = Unit
-Placed (To i) = i < maxUsers
+Placed (To i) = i < max_users
 
 -- the field in a slot is shown
-unfoldable pub isShown : Shown → Bytes → Bool
-isShown All slot = true
-isShown (To i) slot = bit_at (maskIn slot) i
+unfoldable pub is_shown : Shown → Bytes → Bool
+is_shown All slot = true
+is_shown (To i) slot = bit_at (mask_in slot) i
 
 -- the fields of the slots in use that are shown
-unfoldable pub shownIn : Shown → Bytes → Fields
-shownIn v s = map fieldIn (keep (isShown v) (inUse slotBytes maxFields s))
+unfoldable pub shown_in : Shown → Bytes → Fields
+shown_in v s = map field_in (keep (is_shown v) (in_use slot_bytes max_fields s))
 
 -- the place, counted from i, of the first slot that is shown; behind the last place where there is none
-unfoldable pub shownFrom : Shown → ℕ → List Bytes → ℕ
-shownFrom v i [] = maxFields
-shownFrom v i (slot ∷ rest) = let r = shownFrom v (suc i) rest in if isShown v slot then i else r
+unfoldable pub shown_from : Shown → ℕ → List Bytes → ℕ
+shown_from v i [] = max_fields
+shown_from v i (slot ∷ rest) = let r = shown_from v (suc i) rest in if is_shown v slot then i else r

@@ -1,12 +1,12 @@
 // The saved text of the fields that are shown.
 ghost use Rattle.std.specs.Prelude.{◌≡◌, ◌+◌, ◌≤◌, ◌<◌, ◌^◌, length, drop};
 ghost use Rattle.rows.specs.Rows.{Wrote};
-ghost use Rattle.model.specs.Limits.{maxFields};
-ghost use Rattle.model.specs.Values.{valueText};
+ghost use Rattle.model.specs.Limits.{max_fields};
+ghost use Rattle.model.specs.Values.{value_text};
 ghost use Rattle.model.specs.SavedText.{saved};
-ghost use Rattle.layout.specs.Layout.{inUse};
-ghost use Rattle.record.specs.Slots.{valueRoom, slotBytes, valueIn};
-ghost use Rattle.writer.specs.Selected.{mostSaved, isShown, Placed, shownFrom, shownIn};
+ghost use Rattle.layout.specs.Layout.{in_use};
+ghost use Rattle.record.specs.Slots.{value_room, slot_bytes, value_in};
+ghost use Rattle.writer.specs.Selected.{most_saved, is_shown, Placed, shown_from, shown_in};
 
 use crate::turn::{put_braces, put_descent, put_turn};
 use buffers::{put, put_byte};
@@ -33,8 +33,8 @@ pub enum Shown {
 
 // Whether the field in a slot is shown.
 fn is_shown(shown: Shown, slot: &[u8]) -> bool
-    requires { (length slot.now ≡ slotBytes) × Placed shown }
-    ensures { result ≡ isShown shown slot.now }
+    requires { (length slot.now ≡ slot_bytes) × Placed shown }
+    ensures { result ≡ is_shown shown slot.now }
 {
     match shown {
         Shown::All => true,
@@ -44,8 +44,8 @@ fn is_shown(shown: Shown, slot: &[u8]) -> bool
 
 // The place of the first field from i on that is shown, or the number of slots.
 fn next_shown(table: &[u8; RECORD], shown: Shown, i: usize) -> usize
-    requires { (i ≤ length (inUse slotBytes maxFields table.now)) × Placed shown }
-    ensures { result ≡ shownFrom shown i (drop i (inUse slotBytes maxFields table.now)) }
+    requires { (i ≤ length (in_use slot_bytes max_fields table.now)) × Placed shown }
+    ensures { result ≡ shown_from shown i (drop i (in_use slot_bytes max_fields table.now)) }
 {
     let mut j = i;
     while j < SLOTS {
@@ -63,9 +63,9 @@ fn next_shown(table: &[u8; RECORD], shown: Shown, i: usize) -> usize
 
 // The value of a slot: what is read of its text is how the value is written.
 fn put_held(out: &mut [u8], at: usize, slot: &[u8]) -> usize
-    requires { (length slot.now ≡ slotBytes) × (at + valueRoom < 2 ^ 64) }
-    ensures wrote { Wrote at (valueText (valueIn slot.now)) out.old result out.new }
-    ensures upper_bound { result ≤ at + valueRoom }
+    requires { (length slot.now ≡ slot_bytes) × (at + value_room < 2 ^ 64) }
+    ensures wrote { Wrote at (value_text (value_in slot.now)) out.old result out.new }
+    ensures upper_bound { result ≤ at + value_room }
 {
     let text = value_text(slot);
     let ValueAt::At(_, end) = value_at(text, 0) else {
@@ -76,9 +76,9 @@ fn put_held(out: &mut [u8], at: usize, slot: &[u8]) -> usize
 
 // The saved text of the fields that are shown.
 pub fn put_saved(out: &mut [u8], at: usize, table: &[u8; RECORD], shown: Shown) -> usize
-    requires { (at + mostSaved < 2 ^ 64) × Placed shown }
-    ensures wrote { Wrote at (saved (shownIn shown table.now)) out.old result out.new }
-    ensures upper_bound { result ≤ at + mostSaved }
+    requires { (at + most_saved < 2 ^ 64) × Placed shown }
+    ensures wrote { Wrote at (saved (shown_in shown table.now)) out.old result out.new }
+    ensures upper_bound { result ≤ at + most_saved }
 {
     let mut i = next_shown(table, shown, 0);
     if i == SLOTS {

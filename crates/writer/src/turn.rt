@@ -2,8 +2,8 @@
 ghost use Rattle.std.specs.Prelude.{◌+◌, ◌≤◌, ◌<◌, ◌^◌, length, drop, replicate};
 ghost use Rattle.rows.specs.Rows.{Wrote};
 ghost use Rattle.model.specs.SavedText.{descend, turn};
-ghost use Rattle.paths.specs.Layout.{pathSlot, pathIn};
-ghost use Rattle.writer.specs.Selected.{descentText, turnText};
+ghost use Rattle.paths.specs.Layout.{path_slot, path_in};
+ghost use Rattle.writer.specs.Selected.{descent_text, turn_text};
 
 use buffers::{put, put_byte};
 use layout::counted::count;
@@ -13,9 +13,9 @@ use paths::key::key_at;
 
 // The keys of a path from the i-th on, each but the last with the brace of its object.
 pub fn put_descent(out: &mut [u8], at: usize, path: &[u8], from: usize) -> usize
-    requires { (pathSlot ≤ length path.now) × (at + descentText < 2 ^ 64) }
-    ensures wrote { Wrote at (descend (drop from (pathIn path.now))) out.old result out.new }
-    ensures upper_bound { result ≤ at + descentText }
+    requires { (path_slot ≤ length path.now) × (at + descent_text < 2 ^ 64) }
+    ensures wrote { Wrote at (descend (drop from (path_in path.now))) out.old result out.new }
+    ensures upper_bound { result ≤ at + descent_text }
 {
     let n = count(path, MAX_DEPTH);
     let mut to = at;
@@ -48,9 +48,9 @@ pub fn put_braces(out: &mut [u8], at: usize, n: usize) -> usize
 
 // From the field at one path to the field at another: objects that hold both stay open.
 pub fn put_turn(out: &mut [u8], at: usize, a: &[u8], b: &[u8]) -> usize
-    requires { (pathSlot ≤ length a.now) × (pathSlot ≤ length b.now) × (at + turnText + 1 < 2 ^ 64) }
-    ensures wrote { Wrote at (turn (pathIn a.now) (pathIn b.now)) out.old result out.new }
-    ensures upper_bound { result ≤ at + turnText }
+    requires { (path_slot ≤ length a.now) × (path_slot ≤ length b.now) × (at + turn_text + 1 < 2 ^ 64) }
+    ensures wrote { Wrote at (turn (path_in a.now) (path_in b.now)) out.old result out.new }
+    ensures upper_bound { result ≤ at + turn_text }
 {
     let m = count(a, MAX_DEPTH);
     let n = count(b, MAX_DEPTH);

@@ -10,25 +10,25 @@ use Rattle.rows.specs.Rows.{Wrote}
 use Rattle.model.specs.Base.{text}
 use Rattle.buffers.proofs.Writers.{wrote-both}
 use Rattle.layout.proofs.Named.{name-length}
-use Rattle.tables.specs.Memory.{userIn, ruleIn}
-use Rattle.copies.proofs.Lines.{accessPart, rule-line, access-part}
+use Rattle.tables.specs.Memory.{user_in, rule_in}
+use Rattle.copies.proofs.Lines.{access_part, rule-line, access-part}
 use Rattle.copies.proofs.put_rule_line.Statement.{statement}
 use Rattle.copies.proofs.put_rule_line.Tie as tie
-use Rattle.model.specs.Limits.{maxName}
+use Rattle.model.specs.Limits.{max_name}
 
 -- where the ways meet, the role and the access are written
 met : (c : tie.Joined1)
     → let a = c.before.before.before.before.before.before.before.before.before.before.args in
-    (c.if1.to ≤ a.at + 7 + maxName) × (length c.if1.out ≡ length a.out.now)
-    × Wrote a.at ((userIn a.user.now).role ++ accessPart (ruleIn a.rule.now).access) a.out.now c.if1.to c.if1.out
-unfolding userIn text
+    (c.if1.to ≤ a.at + 7 + max_name) × (length c.if1.out ≡ length a.out.now)
+    × Wrote a.at ((user_in a.user.now).role ++ access_part (rule_in a.rule.now).access) a.out.now c.if1.to c.if1.out
+unfolding user_in text
 met c =
     let a = c.before.before.before.before.before.before.before.before.before.before.args in
     let name = c.before.before.before.before.before.name-from.ensures in
-    let k = name-length maxName _ name (simp length-take (omega arith)) in
+    let k = name-length max_name _ name (simp length-take (omega arith)) in
     let put = c.before.before.before.before.put in
     let role = rw name at put.ensures in
-    let part = access-part (ruleIn a.rule.now) c.before.is-write.ensures in
+    let part = access-part (rule_in a.rule.now) c.before.is-write.ensures in
     ⊎_elim
     (λ w. rw (w.6, w.7, part, w.0.taken) (omega (arith, w.3.ensures.0, put.ensures.0), w.3.kept.0 ∙ put.auto.0, wrote-both _ _ _ _ _ _ _ _ role w.3.ensures))
     (λ w. rw (w.6, w.7, part, w.0.left) (omega (arith, w.3.ensures.0, put.ensures.0), w.3.kept.0 ∙ put.auto.0, wrote-both _ _ _ _ _ _ _ _ role w.3.ensures))
@@ -38,7 +38,7 @@ name-from-requires : tie.Need-name-from-requires
 name-from-requires c κs = search rules
 
 put-requires : tie.Need-put-requires
-put-requires c κs = let k = name-length maxName _ c.name-from.ensures (simp length-take (omega arith)) in omega arith
+put-requires c κs = let k = name-length max_name _ c.name-from.ensures (simp length-take (omega arith)) in omega arith
 
 is-write-requires : tie.Need-is-write-requires
 is-write-requires c κs = search rules
@@ -47,13 +47,13 @@ slice-aggregate-put : tie.Need-slice-aggregate-put
 slice-aggregate-put c = search rules
 
 put-requires-2 : tie.Need-put-requires-2
-put-requires-2 c κs = let k = name-length maxName _ c.before.before.before.before.before.before.before.name-from.ensures (simp length-take (omega arith)) in omega arith
+put-requires-2 c κs = let k = name-length max_name _ c.before.before.before.before.before.before.before.name-from.ensures (simp length-take (omega arith)) in omega arith
 
 slice-aggregate-put-2 : tie.Need-slice-aggregate-put-2
 slice-aggregate-put-2 c = search rules
 
 put-requires-3 : tie.Need-put-requires-3
-put-requires-3 c κs = let k = name-length maxName _ c.before.before.before.before.before.before.before.name-from.ensures (simp length-take (omega arith)) in omega arith
+put-requires-3 c κs = let k = name-length max_name _ c.before.before.before.before.before.before.before.name-from.ensures (simp length-take (omega arith)) in omega arith
 
 rule-path-requires : tie.Need-rule-path-requires
 rule-path-requires c κs = search rules
@@ -68,7 +68,7 @@ same_length : tie.Need-same-length
 same_length c = let m = met c.before.before.before.before.before.before.before.before.before in search rules
 
 returns : tie.Need-returns
-unfolding ruleIn text
+unfolding rule_in text
 returns c =
     let m = met c.before.before.before.before.before.before.before.before.before in
     let put = c.before.before.before.before.before.before in

@@ -4,22 +4,22 @@ use mathlib.Core.Path.{◌≡◌, refl, sym, ◌∙◌}
 use mathlib.Core.Logic.{⊎_elim}
 use native.Mathlib.Omega.{arith}
 use lib.ListN.{length}
-use Rattle.copies.specs.Heads.{ruleText}
+use Rattle.copies.specs.Heads.{rule_text}
 use borrow.Author.Rules.{rules}
 use Rattle.buffers.proofs.Writers.{wrote_none}
 use Rattle.layout.proofs.Used.{counted-fit}
-use Rattle.model.specs.Limits.{maxRules}
-use Rattle.tables.specs.Memory.{userIn, ruleRow}
+use Rattle.model.specs.Limits.{max_rules}
+use Rattle.tables.specs.Memory.{user_in, rule_row}
 use Rattle.tables.proofs.Policy.{rule-inside}
 use Rattle.writer.proofs.Remains.{Remains, remains-step, remains-end}
-use Rattle.copies.proofs.Lines.{rulesFrom, rules-yes, rules-no, rules-end}
+use Rattle.copies.proofs.Lines.{rules_from, rules-yes, rules-no, rules-end}
 use Rattle.copies.proofs.put_rules.Statement.{statement}
 use Rattle.copies.proofs.put_rules.Tie as tie
 
 abbrev invariant-loop : tie.invariant-loop
 invariant-loop out₀ at user policy n to₀ i₀ out to i =
-    (i ≤ n) × (to ≤ at + ruleText * i) × (length out ≡ length out₀)
-    × Remains at (rulesFrom (userIn user) policy 0) out₀ to (rulesFrom (userIn user) policy i) out
+    (i ≤ n) × (to ≤ at + rule_text * i) × (length out ≡ length out₀)
+    × Remains at (rules_from (user_in user) policy 0) out₀ to (rules_from (user_in user) policy i) out
 
 abbrev decreases-loop : tie.decreases-loop
 decreases-loop out₀ at user policy n to₀ i₀ out to i = n - i
@@ -37,7 +37,7 @@ is-for-requires : tie.Need-is-for-requires invariant-loop decreases-loop
 is-for-requires c κs = search rules
 
 put-rule-line-requires : tie.Need-put-rule-line-requires invariant-loop decreases-loop
-put-rule-line-requires c κs = let f = counted-fit ruleRow maxRules _ c.before.before.before.before.before.before.row_count.ensures in search rules
+put-rule-line-requires c κs = let f = counted-fit rule_row max_rules _ c.before.before.before.before.before.before.row_count.ensures in search rules
 
 add-i : tie.Need-overflow-add-i invariant-loop decreases-loop
 add-i c = search rules
@@ -65,7 +65,7 @@ returns : tie.Need-returns invariant-loop decreases-loop
 returns c =
     let l = c.before.loop in
     let n = c.before.before.row_count.ensures in
-    let f = counted-fit ruleRow maxRules _ n in
+    let f = counted-fit rule_row max_rules _ n in
     (remains-end _ _ _ _ _ _ _ _ (rw (rules-end _ _ n l.i (search rules)) at l.invariant.3) (wrote_none _ _), search rules)
 
 pub put-rules-spec : {M : Type 1} → statement M

@@ -7,14 +7,14 @@ use lib.ListN.{length}
 use Rattle.rows.specs.Rows.{Wrote}
 use Rattle.model.specs.Base.{joined}
 use Rattle.buffers.proofs.Writers.{wrote_none, wrote-both}
-use Rattle.deliveries.specs.Receivers.{deliveryText, deliveriesOf}
+use Rattle.deliveries.specs.Receivers.{delivery_text, deliveries_of}
 use Rattle.deliveries.proofs.Delivered.{lines_more}
 use Rattle.deliveries.proofs.put_deliveries.Statement.{statement}
 use Rattle.deliveries.proofs.put_deliveries.Tie as tie
 
 abbrev invariant-loop : tie.invariant-loop
 invariant-loop out₀ at list told pushed to₀ k₀ out to k =
-    (k ≤ told) × (to ≤ at + deliveryText * k) × (length out ≡ length out₀) × Wrote at (deliveriesOf pushed list k) out₀ to out
+    (k ≤ told) × (to ≤ at + delivery_text * k) × (length out ≡ length out₀) × Wrote at (deliveries_of pushed list k) out₀ to out
 
 abbrev decreases-loop : tie.decreases-loop
 decreases-loop out₀ at list told pushed to₀ k₀ out to k = told - k

@@ -5,17 +5,17 @@ use mathlib.Core.Logic.{⊎_elim}
 use native.Mathlib.Omega.{arith}
 use borrow.Author.Rules.{rules}
 use lib.ListN.{length, length-set}
-use Rattle.model.specs.Limits.{maxUsers}
+use Rattle.model.specs.Limits.{max_users}
 use Rattle.deliveries.proofs.Received.{ListedFrom, listed_start, listed_more, listed_same, listed-none, listed-all}
 use Rattle.deliveries.proofs.put_receivers.Statement.{statement}
 use Rattle.deliveries.proofs.put_receivers.Tie as tie
 
 abbrev invariant-loop : tie.invariant-loop
 invariant-loop list₀ logins i mask told₀ j₀ list told j =
-    (j ≤ maxUsers) × (told ≤ j) × (length list ≡ length list₀) × ListedFrom logins i mask list₀ told j list
+    (j ≤ max_users) × (told ≤ j) × (length list ≡ length list₀) × ListedFrom logins i mask list₀ told j list
 
 abbrev decreases-loop : tie.decreases-loop
-decreases-loop list₀ logins i mask told₀ j₀ list told j = maxUsers - j
+decreases-loop list₀ logins i mask told₀ j₀ list told j = max_users - j
 
 loop-holds : tie.Need-loop-init invariant-loop decreases-loop
 loop-holds c = (search rules, search rules, refl, listed_start _ _ _ _ c.before.requires)

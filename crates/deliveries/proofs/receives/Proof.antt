@@ -33,7 +33,7 @@ returns-3 c =
     let k = c.before.before.before in
     let a = k.before.args in
     let marked = sym k.has-bit.ensures ∙ not-false _ c.before.before.if1.false in
-    let is_open = ap (λ (s : LoginState). s.isOpen) c.state-at.ensures in
+    let is_open = ap (λ (s : LoginState). s.is_open) c.state-at.ensures in
     rw (marked, ne_eqb a.j a.i c.before.if2.false, and-true, and-true) is_open
 
 pub receives-spec : {M : Type 1} → statement M

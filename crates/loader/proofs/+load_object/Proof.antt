@@ -8,19 +8,19 @@ use native.Mathlib.Omega.{arith}
 use lib.ListN.{length, take, drop}
 use Rattle.rows.specs.Positions.{Reads, placed}
 use Rattle.model.specs.Base.{Bytes}
-use Rattle.model.specs.Limits.{maxDepth}
-use Rattle.model.specs.RecordText.{Node, Members, noMembers, member}
+use Rattle.model.specs.Limits.{max_depth}
+use Rattle.model.specs.RecordText.{Node, Members, no_members, member}
 use Rattle.values.proofs.Values.{told, value-inside}
-use Rattle.paths.specs.Layout.{pathIn}
+use Rattle.paths.specs.Layout.{path_in}
 use Rattle.layout.specs.Layout.{Keeps, CanonicalKeys}
 use Rattle.paths.proofs.PathBytes.{keys-encoded}
-use Rattle.record.specs.Slots.{fieldsIn, CanonicalFields}
-use Rattle.reader.specs.Tokens.{readToken, mapped}
-use Rattle.loader.specs.Loaded.{loaded, loadAnswer}
+use Rattle.record.specs.Slots.{fields_in, CanonicalFields}
+use Rattle.reader.specs.Tokens.{read_token, mapped}
+use Rattle.loader.specs.Loaded.{loaded, load_answer}
 use Rattle.reader.proofs.Spaced.{token-moves, open-stands, close-stands, comma-stands, no-open, no-close, no-comma, key-bad, MemberStands, member-stands}
 use Rattle.reader.proofs.Mapped.{mapped-bad, mapped-reads}
 use Rattle.reader.proofs.Objects.{read_node, leaves-node, leaves-object, Left, object-none, object-unopened, left-start, left-no-member, left-no-value, left-again, left-unclosed, left-last}
-use Rattle.loader.proofs.Loading.{nodeLoaded, Child, child-path, child-length, leaf-valid, leaf-loaded, object-loaded, none-loaded, member-loaded}
+use Rattle.loader.proofs.Loading.{node_loaded, Child, child-path, child-length, leaf-valid, leaf-loaded, object-loaded, none-loaded, member-loaded}
 use borrow.Author.Rules.{rules}
 use borrow.Fn.Kinds.{In}
 use borrow.Fn.PlainCycle.{Measures, is, falls, and}
@@ -40,7 +40,7 @@ abbrev μ-load-object : Measures 3 kinds.ps ℕ
 
 abbrev invariant-loop : lts.invariant-loop
 invariant-loop table₀ s at depth path «open» child₀ i₀ table child i =
-    (before : Members) × Left s at depth before i × (fieldsIn table ≡ loaded (pathIn path) (fieldsIn table₀) before) × (CanonicalKeys maxDepth path → Keeps CanonicalFields table₀ table)
+    (before : Members) × Left s at depth before i × (fields_in table ≡ loaded (path_in path) (fields_in table₀) before) × (CanonicalKeys max_depth path → Keeps CanonicalFields table₀ table)
 
 abbrev decreases-loop : lts.decreases-loop
 decreases-loop table₀ s at depth path «open» child₀ i₀ table child i = length s - i
@@ -71,7 +71,7 @@ module _ (t : ℕ) where
   loop-holds : lts.Need-loop-init claims asked load-object.Post invariant-loop decreases-loop
   loop-holds c =
       let r = open-stands _ _ _ c.before.before.before.token-at.ensures c.before.before.before.before.before.before.requires.1.0 _ c.before.«open».given.1 in
-      (noMembers, left-start _ _ _ c.before.before.before.before.if1.false _ r, none-loaded _ _, λ path fields. fields)
+      (no_members, left-start _ _ _ c.before.before.before.before.if1.false _ r, none-loaded _ _, λ path fields. fields)
 
   member-at-requires : lts.Need-member-at-requires claims asked load-object.Post invariant-loop decreases-loop
   member-at-requires c κs = c.loop.invariant.1.to
@@ -128,7 +128,7 @@ module _ (t : ℕ) where
 
   -- the path of the key
   child-stands : (c : lts.After-put-child claims asked load-object.Post invariant-loop decreases-loop)
-      → let k = c.before.before.before in Child (pathIn (start k).args.path.now) (key k) c.put-child.new.0
+      → let k = c.before.before.before in Child (path_in (start k).args.path.now) (key k) c.put-child.new.0
   child-stands c =
       let k = c.before.before.before in
       child-path (stands k).reads (start k).requires.1.2 (deep k) c.put-child.ensures.0
@@ -164,20 +164,20 @@ module _ (t : ℕ) where
   -- what the key holds is read, and its fields are in the table
   loads : (c : lts.At-match3-branch claims asked load-object.Post invariant-loop decreases-loop)
       → let k = c.before.before.before.before.before in
-      loadAnswer (fieldsIn c.match3.table) c.match3.got
-      ≡ placed (mapped (nodeLoaded (pathIn (start k).args.path.now ++ key k ∷ []) (fieldsIn (head k).loop.table)) (read_node ((start k).args.depth - 1))) (text k) (value k)
+      load_answer (fields_in c.match3.table) c.match3.got
+      ≡ placed (mapped (node_loaded (path_in (start k).args.path.now ++ key k ∷ []) (fields_in (head k).loop.table)) (read_node ((start k).args.depth - 1))) (text k) (value k)
   loads c =
       let l = c.before.leaf-at.ensures.0 in
       let p = child-stands c.before.before in
       ⊎_elim
-      (λ w. ap₂ loadAnswer (ap fieldsIn w.6 ∙ w.5.ensures.0) w.7 ∙ leaf-loaded p _ _ _ _ _ l (stands c.before.before.before.before.before).reads.to _ _ w.1.given.1)
-      (λ w. ap₂ loadAnswer (ap fieldsIn w.5) w.6 ∙ w.4.ensures.0 ∙ object-loaded p _ _ _ _ _ l w.1.given.1)
+      (λ w. ap₂ load_answer (ap fields_in w.6 ∙ w.5.ensures.0) w.7 ∙ leaf-loaded p _ _ _ _ _ l (stands c.before.before.before.before.before).reads.to _ _ w.1.given.1)
+      (λ w. ap₂ load_answer (ap fields_in w.5) w.6 ∙ w.4.ensures.0 ∙ object-loaded p _ _ _ _ _ l w.1.given.1)
       c.match3.branch
 
   -- with a path written as its keys are, the table stays written as its fields are
   stays : (c : lts.At-match3-branch claims asked load-object.Post invariant-loop decreases-loop)
       → let k = c.before.before.before.before.before in
-      CanonicalKeys maxDepth (start k).args.path.now → Keeps CanonicalFields (start k).args.table.now c.match3.table
+      CanonicalKeys max_depth (start k).args.path.now → Keeps CanonicalFields (start k).args.table.now c.match3.table
   stays c path fields =
       let k = c.before.before.before.before.before in
       let child = c.before.before.put-child.ensures.1.1 path in
@@ -196,7 +196,7 @@ module _ (t : ℕ) where
   returns-4 : lts.Need-returns-4 claims asked load-object.Post invariant-loop decreases-loop
   returns-4 c =
       let k = c.before.before.before.before.before.before.before in
-      let none = mapped-bad _ (read_node _) _ _ (told (loadAnswer _) (loads c.before.before) c.enum-told3.given.1) in
+      let none = mapped-bad _ (read_node _) _ _ (told (load_answer _) (loads c.before.before) c.enum-told3.given.1) in
       (left-no-value _ _ _ _ _ (head k).loop.invariant.1 _ _ (stands k).reads _ none, stays c.before.before)
 
   -- what the key holds ends where the call says, and the table has the fields of one member more
@@ -205,10 +205,10 @@ module _ (t : ℕ) where
       let a = (start k).args in
       (n : Node)
       × Reads (read_node (a.depth - 1)) (text k) (value k) n c.before.got.given.0.0
-      × (fieldsIn c.before.before.before.match3.table ≡ loaded (pathIn a.path.now) (fieldsIn a.table.now) (member (head k).loop.invariant.0 (key k) n))
+      × (fields_in c.before.before.before.match3.table ≡ loaded (path_in a.path.now) (fields_in a.table.now) (member (head k).loop.invariant.0 (key k) n))
   node-stands c =
       let k = c.before.before.before.before.before.before.before.before in
-      let read = told (loadAnswer _) (loads c.before.before.before) c.before.got.given.1 in
+      let read = told (load_answer _) (loads c.before.before.before) c.before.got.given.1 in
       let r = mapped-reads _ (read_node _) _ _ (leaves-node _ (leaves-object _)) (stands k).reads.to _ _ read in
       (r.0, r.1, member-loaded _ _ _ _ _ _ _ (head k).loop.invariant.2 r.2)
 
@@ -241,7 +241,7 @@ module _ (t : ℕ) where
 
   -- a comma stands where `token_at` says
   comma : (c : lts.After-known-told5 claims asked load-object.Post invariant-loop decreases-loop)
-      → Reads (readToken 0x2C) (text c.before.before.before.before.before.before.before.before.before.before.before.before) c.before.before.before.before.before.got.given.0.0 tt c.before.token.given.0.0
+      → Reads (read_token 0x2C) (text c.before.before.before.before.before.before.before.before.before.before.before.before) c.before.before.before.before.before.got.given.0.0 tt c.before.token.given.0.0
   comma c = comma-stands _ _ _ c.before.before.before.token-at2.ensures (node-stands c.before.before.before.before).1.to _ c.before.token.given.1
 
   loop-less : lts.Need-loop-smaller claims asked load-object.Post invariant-loop decreases-loop

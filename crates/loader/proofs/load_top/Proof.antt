@@ -2,11 +2,11 @@
 use mathlib.Core.Path.{◌∙◌}
 use mathlib.Core.List.{[]}
 use Rattle.rows.specs.Positions.{Reads}
-use Rattle.paths.specs.Layout.{pathIn}
-use Rattle.model.specs.Limits.{maxDepth}
-use Rattle.layout.specs.Layout.{counted, keyRow, CanonicalName}
+use Rattle.paths.specs.Layout.{path_in}
+use Rattle.model.specs.Limits.{max_depth}
+use Rattle.layout.specs.Layout.{counted, key_row, CanonicalName}
 use Rattle.layout.proofs.Canonical.{canonical-uncounted}
-use Rattle.reader.specs.Tokens.{readToken}
+use Rattle.reader.specs.Tokens.{read_token}
 use Rattle.reader.proofs.Spaced.{open-stands, close-stands, no-open, no-close}
 use Rattle.reader.proofs.Tops.{top-unopened, top-empty, top-object}
 use Rattle.loader.proofs.Loading.{none-loaded, emptied, emptied-zeros}
@@ -28,7 +28,7 @@ returns c = (top-unopened _ _ _ (no-open _ _ c.before.token-at.result c.before.t
 
 -- the brace stands where `token_at` says
 opened : (c : tie.After-known-told)
-    → let a = c.before.before.before.before.before.args in Reads (readToken 0x7B) a.s.now a.at tt c.before.«open».given.0.0
+    → let a = c.before.before.before.before.before.args in Reads (read_token 0x7B) a.s.now a.at tt c.before.«open».given.0.0
 opened c = open-stands _ _ _ c.before.before.before.token-at.ensures (search rules) _ c.before.«open».given.1
 
 token-at-requires-2 : tie.Need-token-at-requires-2
@@ -45,17 +45,17 @@ returns-2 c =
     (rw none (top-empty _ _ _ _ (opened o) _ closed), emptied-zeros _)
 
 load-object-requires : tie.Need-load-object-requires
-unfolding pathIn counted
+unfolding path_in counted
 load-object-requires c κs = search rules
 
 returns-3 : tie.Need-returns-3
-unfolding pathIn counted
+unfolding path_in counted
 returns-3 c =
     let o = c.before.before.before.before.before in
     let none = emptied o.before.before.before.before.before.args.table.now in
     let not-closed = no-close _ _ c.before.before.before.before.token-at2.result c.before.before.before.before.token-at2.ensures c.before.before.before.match2.keys2 in
     let (fields, keeps) = c.load-object.ensures in
-    (rw none at fields ∙ top-object _ _ _ _ (opened o) not-closed, λ zeros. keeps (canonical-uncounted (CanonicalName keyRow) keyRow maxDepth) (emptied-zeros _ zeros))
+    (rw none at fields ∙ top-object _ _ _ _ (opened o) not-closed, λ zeros. keeps (canonical-uncounted (CanonicalName key_row) key_row max_depth) (emptied-zeros _ zeros))
 
 pub load-top-spec : {M : Type 1} → statement M
 load-top-spec =

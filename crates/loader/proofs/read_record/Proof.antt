@@ -2,7 +2,7 @@
 use mathlib.Core.Path.{refl, sym}
 use Rattle.rows.proofs.Positions.{run-within}
 use Rattle.values.proofs.Values.{told}
-use Rattle.reader.specs.Summaries.{readAnswer}
+use Rattle.reader.specs.Summaries.{read_answer}
 use Rattle.record.proofs.Canonical.{none-canonical}
 use Rattle.loader.proofs.Loading.{refused-fields, many-fields, few-fields}
 use borrow.Author.Rules.{rules}
@@ -25,14 +25,14 @@ returns : tie.Need-returns
 returns c =
     let i = c.before.before.before in
     let k = i.before.before in
-    let is = told readAnswer k.before.before.read-summary.ensures k.read.given.1 in
+    let is = told read_answer k.before.before.read-summary.ensures k.read.given.1 in
     let fields = few-fields _ _ is i.if1.true _ c.before.before.run.ensures _ c.load-top.result c.load-top.ensures.0 in
     (sym is, (rw fields refl, c.load-top.ensures.1))
 
 returns-2 : tie.Need-returns-2
 returns-2 c =
     let k = c.before.before in
-    let is = told readAnswer k.before.before.read-summary.ensures k.read.given.1 in
+    let is = told read_answer k.before.before.read-summary.ensures k.read.given.1 in
     let fields = many-fields _ _ is c.if1.false in
     (sym is, (rw fields refl, λ zeros. rw zeros none-canonical))
 

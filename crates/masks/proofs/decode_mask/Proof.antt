@@ -1,6 +1,6 @@
 -- Byte after byte, the one that counts least last.
 use lib.Seq.{get_or-drop}
-use Rattle.masks.specs.Bits.{littleEndian, decodeMask}
+use Rattle.masks.specs.Bits.{little_endian, decode_mask}
 use borrow.Author.Rules.{rules}
 use Rattle.masks.proofs.decode_mask.Statement.{statement}
 use Rattle.masks.proofs.decode_mask.Tie as tie
@@ -30,7 +30,7 @@ with-byte-requires-4 : tie.Need-with-byte-requires-4
 with-byte-requires-4 c κs = search rules
 
 returns : tie.Need-returns
-unfolding decodeMask littleEndian
+unfolding decode_mask little_endian
 returns c = simp get_or-drop (search rules)
 
 pub decode-mask-spec : {M : Type 1} → statement M

@@ -1,5 +1,5 @@
 -- Byte after byte, the one that counts least first.
-use Rattle.masks.specs.Bits.{bytes_of, encodeMask}
+use Rattle.masks.specs.Bits.{bytes_of, encode_mask}
 use borrow.Author.Rules.{rules}
 use Rattle.masks.proofs.encode_mask.Statement.{statement}
 use Rattle.masks.proofs.encode_mask.Tie as tie
@@ -17,7 +17,7 @@ low-byte-requires-4 : tie.Need-low-byte-requires-4
 low-byte-requires-4 c κs = search rules
 
 returns : tie.Need-returns
-unfolding encodeMask bytes_of
+unfolding encode_mask bytes_of
 returns c =
     rw (c.before.before.before.low_byte.ensures, c.before.before.low-byte2.ensures, c.before.low-byte3.ensures, c.low-byte4.ensures)
 

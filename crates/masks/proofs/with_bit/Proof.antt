@@ -1,5 +1,5 @@
 -- The bit of the place is set, and the others stay.
-use Rattle.model.specs.Limits.{maxUsers}
+use Rattle.model.specs.Limits.{max_users}
 use Rattle.masks.proofs.Bits.{with-set}
 use borrow.Author.Rules.{rules}
 use Rattle.masks.proofs.with_bit.Statement.{statement}
@@ -12,7 +12,7 @@ shl-result : tie.Need-overflow-shl-result
 shl-result c = search rules
 
 returns : tie.Need-returns
-returns c = λ k. with-set maxUsers c.args.mask c.args.j k c.requires
+returns c = λ k. with-set max_users c.args.mask c.args.j k c.requires
 
 pub with-bit-spec : {M : Type 1} → statement M
 with-bit-spec = tie.close (tie.spec cast-result shl-result returns)

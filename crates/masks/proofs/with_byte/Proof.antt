@@ -2,15 +2,15 @@
 use Prim.Native.Nat.{◌-◌}
 use native.Mathlib.Omega.{arith}
 use borrow.Author.Rules.{rules}
-use Rattle.model.specs.Limits.{maxUsers}
-use Rattle.masks.specs.Bits.{byteBits}
+use Rattle.model.specs.Limits.{max_users}
+use Rattle.masks.specs.Bits.{byte_bits}
 use Rattle.masks.proofs.Bits.{shifted-or}
 use Rattle.masks.proofs.with_byte.Statement.{statement}
 use Rattle.masks.proofs.with_byte.Tie as tie
 
 returns : tie.Need-returns
 returns c =
-    let e = shifted-or (maxUsers - byteBits) byteBits maxUsers c.args.high c.args.low c.requires (omega arith) (search rules) in
+    let e = shifted-or (max_users - byte_bits) byte_bits max_users c.args.high c.args.low c.requires (omega arith) (search rules) in
     (e, omega (arith, e))
 
 pub with-byte-spec : {M : Type 1} → statement M

@@ -5,18 +5,18 @@ use native.Mathlib.Omega.{arith}
 use borrow.Author.Rules.{rules}
 use lib.ListN.{length, length-take}
 use Rattle.model.specs.Base.{text, between}
-use Rattle.model.specs.Serving.{tableLine}
-use Rattle.model.specs.Program.{printAnswer}
+use Rattle.model.specs.Serving.{table_line}
+use Rattle.model.specs.Program.{print_answer}
 use Rattle.buffers.proofs.Writers.{wrote-both}
 use Rattle.printing.proofs.Pieces.{numbered-pieces}
 use Rattle.printing.proofs.put_answer.Statement.{statement}
 use Rattle.printing.proofs.put_answer.Tie as tie
-use Rattle.model.specs.Limits.{maxCopy}
+use Rattle.model.specs.Limits.{max_copy}
 
 -- the length lies in the buffer
 inside : (c : tie.After-reply3)
     → let b = c.before.before.before.before.args.buffer.now in
-    (c.reply3.given.0.0 ≤ length b) × (length b ≡ maxCopy)
+    (c.reply3.given.0.0 ≤ length b) × (length b ≡ max_copy)
 inside c = let pre = c.before.before.before.before.requires in (rw c.reply3.given.1 at pre.1, pre.0)
 
 enum-known-reply : tie.Need-enum-known-reply
@@ -73,7 +73,7 @@ same_length : tie.Need-same-length
 same_length c = search rules
 
 returns : tie.Need-returns
-unfolding printAnswer text
+unfolding print_answer text
 returns c =
     let put = c.before.before.put-numbered.ensures in
     (rw (c.before.before.before.before.before.before.reply.given.1, numbered-pieces) put.0, omega arith)
@@ -82,7 +82,7 @@ same-length-2 : tie.Need-same-length-2
 same-length-2 c = search rules
 
 returns-2 : tie.Need-returns-2
-unfolding printAnswer text
+unfolding print_answer text
 returns-2 c =
     let put = c.before.before.put-numbered2.ensures in
     (rw (c.before.before.before.before.before.before.reply2.given.1, numbered-pieces) put.0, omega arith)
@@ -91,7 +91,7 @@ same-length-3 : tie.Need-same-length-3
 same-length-3 c = search rules
 
 returns-3 : tie.Need-returns-3
-unfolding printAnswer text
+unfolding print_answer text
 returns-3 c =
     let put = c.before.before in
     let number = put.before.before.before.before.before in
@@ -104,7 +104,7 @@ same-length-4 : tie.Need-same-length-4
 same-length-4 c = search rules
 
 returns-4 : tie.Need-returns-4
-unfolding printAnswer tableLine between text
+unfolding print_answer table_line between text
 returns-4 c =
     let put = c.before.before.put2.ensures in
     (rw c.before.before.before.before.before.enum_told.given.1 put, omega arith)

@@ -7,7 +7,7 @@ use lib.ListN.{length}
 use Rattle.rows.proofs.Writing.{written_none}
 use Rattle.model.specs.Base.{text, decimal}
 use Rattle.buffers.proofs.Writers.{wrote-both}
-use Rattle.printing.specs.Printed.{markLength, mostDigits}
+use Rattle.printing.specs.Printed.{mark_length, most_digits}
 use Rattle.printing.proofs.Pieces.{usize-length, fault-pieces}
 use Rattle.printing.proofs.put_opening.Statement.{statement}
 use Rattle.printing.proofs.put_opening.Tie as tie
@@ -15,22 +15,22 @@ use Rattle.printing.proofs.put_opening.Tie as tie
 -- the three numbers are short
 short : (c : tie.After-known-told)
     → let n = c.before.opened.given.0 in
-    (length (decimal n.0) ≤ mostDigits) × (length (decimal n.1.0) ≤ mostDigits) × (length (decimal n.1.1.0) ≤ mostDigits)
+    (length (decimal n.0) ≤ most_digits) × (length (decimal n.1.0) ≤ most_digits) × (length (decimal n.1.1.0) ≤ most_digits)
 short c =
     let k = c.known-told.given in
     (usize-length _ k.0.1, usize-length _ k.1.0.1, usize-length _ k.1.1.0.1)
 
 -- so is the text up to each `;` and up to its end
-first_ends : (c : tie.After-put-byte) → c.put_byte.result ≤ markLength + (mostDigits + 1)
+first_ends : (c : tie.After-put-byte) → c.put_byte.result ≤ mark_length + (most_digits + 1)
 first_ends c = let d = short c.before.before.before.before.before.before.before.before.before.before.before in omega arith
 
-second-ends : (c : tie.After-put-byte2) → c.put-byte2.result ≤ markLength + 2 * (mostDigits + 1)
+second-ends : (c : tie.After-put-byte2) → c.put-byte2.result ≤ mark_length + 2 * (most_digits + 1)
 second-ends c =
     let first = c.before.before.before.before.before.before.before.before in
     let d = short first.before.before.before.before.before.before.before.before.before.before.before in
     omega (arith, first_ends first)
 
-third-ends : (c : tie.After-put-decimal3) → c.put-decimal3.result ≤ markLength + 2 * (mostDigits + 1) + mostDigits
+third-ends : (c : tie.After-put-decimal3) → c.put-decimal3.result ≤ mark_length + 2 * (most_digits + 1) + most_digits
 third-ends c =
     let second = c.before.before.before.before in
     let first = second.before.before.before.before.before.before.before.before in

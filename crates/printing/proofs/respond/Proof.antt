@@ -5,7 +5,7 @@ use native.Mathlib.Omega.{arith}
 use borrow.Author.Rules.{rules}
 use lib.ListN.{length, length-drop}
 use Rattle.rows.proofs.Parts.{tail-part}
-use Rattle.model.specs.Limits.{maxCopy, maxLine}
+use Rattle.model.specs.Limits.{max_copy, max_line}
 use Rattle.buffers.proofs.Writers.{wrote-both}
 use Rattle.printing.proofs.Responded.{reply-inside, responds, accepted-inside, accepted-few, printed-other, printed-accepted}
 use Rattle.printing.proofs.respond.Statement.{statement}
@@ -15,7 +15,7 @@ use Rattle.printing.proofs.respond.Tie as tie
 inside : (c : tie.After-known-told)
     → let asked = c.before.before.before.before.before.before.before.before.before in
     let line = asked.before.before.before.before.before.before.before.args.line.now in
-    (c.before.reply.given.0.1.0 ≤ length line) × (length line ≤ maxLine)
+    (c.before.reply.given.0.1.0 ≤ length line) × (length line ≤ max_line)
 inside c =
     let asked = c.before.before.before.before.before.before.before.before.before in
     accepted-inside _ _ _ _ _ _ asked.request.ensures.0 c.before.reply.given.1
@@ -26,7 +26,7 @@ request-requires c κs = search rules
 put-answer-requires : tie.Need-put-answer-requires
 put-answer-requires c κs =
     let (inside, same) = reply-inside _ _ _ _ _ _ c.before.before.before.request.ensures.0 in
-    let long : length c.before.before.before.before.before.before.before.before.before.before.args.buffer.now ≡ maxCopy = search rules in
+    let long : length c.before.before.before.before.before.before.before.before.before.before.args.buffer.now ≡ max_copy = search rules in
     (same ∙ long, rw same inside)
 
 enum-known-reply : tie.Need-enum-known-reply

@@ -3,8 +3,8 @@ use mathlib.Core.Path.{sym}
 use native.Mathlib.Omega.{arith}
 use borrow.Author.Rules.{rules}
 use borrow.Author.Tests.{not-true, not-false}
-use Rattle.record.specs.Slots.{fieldsIn}
-use Rattle.sessions.specs.Logins.{loginsIn, state_of}
+use Rattle.record.specs.Slots.{fields_in}
+use Rattle.sessions.specs.Logins.{logins_in, state_of}
 use Rattle.sessions.proofs.Known.{session-below, session-inside}
 use Rattle.pushes.proofs.Ruled.{unknown-session, no-right, stored-held, quota-reached, stored-new}
 use Rattle.pushes.proofs.decide.Statement.{statement}
@@ -24,7 +24,7 @@ returns c =
     let f = c.before.before in
     let a = f.before.args in
     record {
-      answers = λ v. sym (unknown-session _ (loginsIn a.logins.now) a.n f.session.ensures (fieldsIn a.fields.now) _ v c.enum_told.given.1);
+      answers = λ v. sym (unknown-session _ (logins_in a.logins.now) a.n f.session.ensures (fields_in a.fields.now) _ v c.enum_told.given.1);
       place = tt;
     }
 
@@ -33,7 +33,7 @@ row-at-requires c κs =
     let k = c.before.before in
     let f = k.before.before in
     let a = f.before.args in
-    omega (arith, session-inside _ (loginsIn a.logins.now) a.n f.session.ensures k.i.given.1 (search rules))
+    omega (arith, session-inside _ (logins_in a.logins.now) a.n f.session.ensures k.i.given.1 (search rules))
 
 policy-of-requires : tie.Need-policy-of-requires
 policy-of-requires c κs = search rules
@@ -50,7 +50,7 @@ returns-2 c =
     let f = k.before.before in
     let a = f.before.args in
     record {
-      answers = λ v. sym (no-right _ (loginsIn a.logins.now) a.n f.session.ensures k.i.given.1 w.row-at.ensures.0 p.policy-of.ensures.0 _ m.may_write_lem.ensures (fieldsIn a.fields.now) v (not-true _ c.if1.true));
+      answers = λ v. sym (no-right _ (logins_in a.logins.now) a.n f.session.ensures k.i.given.1 w.row-at.ensures.0 p.policy-of.ensures.0 _ m.may_write_lem.ensures (fields_in a.fields.now) v (not-true _ c.if1.true));
       place = tt;
     }
 
@@ -59,7 +59,7 @@ state-at-requires c κs =
     let k = c.before.before.before.before.before.before.before.before in
     let f = k.before.before in
     let a = f.before.args in
-    search (rules, session-below _ (loginsIn a.logins.now) a.n f.session.ensures k.i.given.1)
+    search (rules, session-below _ (logins_in a.logins.now) a.n f.session.ensures k.i.given.1)
 
 find-requires : tie.Need-find-requires
 find-requires c κs = search rules
@@ -81,7 +81,7 @@ returns-3 c =
     let f = k.before.before in
     let a = f.before.args in
     record {
-      answers = λ v. sym (stored-held _ (loginsIn a.logins.now) a.n f.session.ensures k.i.given.1 w.row-at.ensures.0 p.policy-of.ensures.0 _ m.may_write_lem.ensures (fieldsIn a.fields.now) v
+      answers = λ v. sym (stored-held _ (logins_in a.logins.now) a.n f.session.ensures k.i.given.1 w.row-at.ensures.0 p.policy-of.ensures.0 _ m.may_write_lem.ensures (fields_in a.fields.now) v
           (not-false _ s.before.if1.false) s.state-at.ensures l.find.ensures c.enum-told3.given.1);
       place = l.find.ensures;
     }
@@ -105,7 +105,7 @@ returns-4 c =
     let f = k.before.before in
     let a = f.before.args in
     record {
-      answers = λ v. sym (quota-reached _ (loginsIn a.logins.now) a.n f.session.ensures k.i.given.1 w.row-at.ensures.0 p.policy-of.ensures.0 _ m.may_write_lem.ensures (fieldsIn a.fields.now) v
+      answers = λ v. sym (quota-reached _ (logins_in a.logins.now) a.n f.session.ensures k.i.given.1 w.row-at.ensures.0 p.policy-of.ensures.0 _ m.may_write_lem.ensures (fields_in a.fields.now) v
           (not-false _ s.before.if1.false) s.state-at.ensures l.find.ensures q.before.enum-told2.given.1 q.small-quota.ensures.0 c.if2.true);
       place = tt;
     }
@@ -126,7 +126,7 @@ returns-5 c =
     let f = k.before.before in
     let a = f.before.args in
     record {
-      answers = λ v. sym (stored-new _ (loginsIn a.logins.now) a.n f.session.ensures k.i.given.1 w.row-at.ensures.0 p.policy-of.ensures.0 _ m.may_write_lem.ensures (fieldsIn a.fields.now) v
+      answers = λ v. sym (stored-new _ (logins_in a.logins.now) a.n f.session.ensures k.i.given.1 w.row-at.ensures.0 p.policy-of.ensures.0 _ m.may_write_lem.ensures (fields_in a.fields.now) v
           (not-false _ s.before.if1.false) s.state-at.ensures l.find.ensures q.before.enum-told2.given.1 q.small-quota.ensures.0
           c.before.if2.false c.creating.ensures);
       place = l.find.ensures;

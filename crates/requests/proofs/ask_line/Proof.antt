@@ -7,9 +7,9 @@ use borrow.Author.Rules.{rules}
 use lib.ListN.{length, drop}
 use Rattle.rows.proofs.Parts.{tail-part}
 use Rattle.model.specs.Base.{after, ◌>>=◌}
-use Rattle.model.specs.Requests.{Ask, inSession, sessionOf, readAsk}
+use Rattle.model.specs.Requests.{Ask, in_session, session_of, read_ask}
 use Rattle.lexical.specs.declared.number.Natural.{Natural}
-use Rattle.lexical.specs.Numbers.{numberAnswer}
+use Rattle.lexical.specs.Numbers.{number_answer}
 use Rattle.lexical.proofs.Decimals.{number-some}
 use Rattle.values.proofs.Values.{told}
 use Rattle.requests.proofs.ByPositions.{word-ends, word-other, other_word}
@@ -26,9 +26,9 @@ begins c = word-ends _ _ _ c.before.before.before.behind.ensures c.before.from.g
 -- and what is read goes by the number
 reads : (c : tie.After-number) {v : Natural} (a : Ask) → c.number.result ≡ v
     → let args = c.before.before.before.before.before.before.before.before.args in
-    (numberAnswer v >>= λ n. some (inSession n a)) ≡ readAsk args.word.now a args.line.now
-unfolding readAsk sessionOf ◌>>=◌
-reads c a is = rw ((begins c.before.before).0, told numberAnswer (rw tail-part at c.number.ensures) is)
+    (number_answer v >>= λ n. some (in_session n a)) ≡ read_ask args.word.now a args.line.now
+unfolding read_ask session_of ◌>>=◌
+reads c a is = rw ((begins c.before.before).0, told number_answer (rw tail-part at c.number.ensures) is)
 
 behind-requires : tie.Need-behind-requires
 behind-requires c κs = search rules
@@ -40,7 +40,7 @@ enum_told : tie.Need-enum-told
 enum_told c = search rules
 
 returns : tie.Need-returns
-unfolding readAsk
+unfolding read_ask
 returns c = λ p _. record { asks = other_word _ _ _ (word-other _ _ _ c.before.before.behind.ensures c.enum_told.given.1); stands = tt }
 
 sub_number : tie.Need-overflow-sub-number
@@ -67,7 +67,7 @@ returns-2 c = λ p _. record { asks = reads c.before.before _ c.enum-told2.given
 
 cast-t12 : tie.Need-overflow-cast-t12
 cast-t12 c =
-    let session = told numberAnswer c.before.before.before.number.ensures c.before.session.given.1 in
+    let session = told number_answer c.before.before.before.number.ensures c.before.session.given.1 in
     record { fits = omega (arith, (number-some _ _ _ session).2) }
 
 returns-3 : tie.Need-returns-3

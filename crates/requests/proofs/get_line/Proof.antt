@@ -1,7 +1,7 @@
 -- `GET;` is the word.
 use borrow.Author.Rules.{rules}
 use Rattle.model.specs.Base.{text}
-use Rattle.model.specs.Requests.{readGet}
+use Rattle.model.specs.Requests.{read_get}
 use Rattle.requests.proofs.get_line.Statement.{statement}
 use Rattle.requests.proofs.get_line.Tie as tie
 
@@ -12,7 +12,7 @@ ask-line-requires : tie.Need-ask-line-requires
 ask-line-requires c κs = search rules
 
 returns : tie.Need-returns
-unfolding readGet text
+unfolding read_get text
 returns c = λ p. c.ask-line.ensures p tt
 
 pub get-line-spec : {M : Type 1} → statement M

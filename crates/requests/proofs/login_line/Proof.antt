@@ -8,7 +8,7 @@ use borrow.Author.Tests.{not-true, not-false}
 use lib.ListN.{length, drop}
 use Rattle.rows.proofs.Parts.{tail-part}
 use Rattle.model.specs.Base.{text, after, check, ◌>>◌}
-use Rattle.model.specs.Requests.{readLogin}
+use Rattle.model.specs.Requests.{read_login}
 use Rattle.requests.proofs.ByPositions.{word-ends, word-other, other_word, UserEnds, user-last, user-ends}
 use Rattle.requests.proofs.login_line.Statement.{statement}
 use Rattle.requests.proofs.login_line.Tie as tie
@@ -41,7 +41,7 @@ enum_told : tie.Need-enum-told
 enum_told c = search rules
 
 returns : tie.Need-returns
-unfolding readLogin text
+unfolding read_login text
 returns c = λ p. record { asks = other_word (text "LOGIN;") _ _ (word-other _ _ _ c.before.before.behind.ensures c.enum_told.given.1); stands = tt }
 
 until-requires : tie.Need-until-requires

@@ -1,7 +1,7 @@
 -- `LOGOUT;` is the word.
 use borrow.Author.Rules.{rules}
 use Rattle.model.specs.Base.{text}
-use Rattle.model.specs.Requests.{readLogout}
+use Rattle.model.specs.Requests.{read_logout}
 use Rattle.requests.proofs.logout_line.Statement.{statement}
 use Rattle.requests.proofs.logout_line.Tie as tie
 
@@ -12,7 +12,7 @@ ask-line-requires : tie.Need-ask-line-requires
 ask-line-requires c κs = search rules
 
 returns : tie.Need-returns
-unfolding readLogout text
+unfolding read_logout text
 returns c = λ p. c.ask-line.ensures p tt
 
 pub logout-line-spec : {M : Type 1} → statement M

@@ -2,8 +2,8 @@
 use mathlib.Core.Path.{◌≡◌, refl}
 use mathlib.Core.List.{[], ◌∷◌}
 use borrow.Author.Rules.{rules}
-use Rattle.model.specs.Requests.{readLogin, readGet, readPush, readLogout, readers, first_of, requestOf}
-use Rattle.requests.proofs.FirstOf.{first_reads, first-fails, last-reads, too_long, short}
+use Rattle.model.specs.Requests.{read_login, read_get, read_push, read_logout, readers, first_of, request_of}
+use Rattle.requests.proofs.FirstOf.{first_reads, first-fails, last-reads, too_long_lem, short}
 use Rattle.requests.proofs.ByPositions.{slot_same}
 use Rattle.requests.proofs.parse.Statement.{statement}
 use Rattle.requests.proofs.parse.Tie as tie
@@ -11,26 +11,26 @@ use Rattle.requests.proofs.parse.Tie as tie
 -- the line is no longer than a line may be, so that the readers decide; and once one is Bad, those behind it
 by-readers : (c : tie.Else1)
     → let line = c.before.before.args.line.now in
-    first_of (readLogin ∷ readGet ∷ readPush ∷ readLogout ∷ []) line ≡ requestOf line
+    first_of (read_login ∷ read_get ∷ read_push ∷ read_logout ∷ []) line ≡ request_of line
 unfolding readers
 by-readers c = short _ (search rules)
 
 no-login : (c : tie.After-enum-told)
     → let line = c.before.before.before.before.before.args.line.now in
-    first_of (readGet ∷ readPush ∷ readLogout ∷ []) line ≡ requestOf line
+    first_of (read_get ∷ read_push ∷ read_logout ∷ []) line ≡ request_of line
 no-login c =
     let l = c.before.before in
     first-fails (l.login-line.ensures []) _ (by-readers l.before) c.enum_told.given.1
 
 no-get : (c : tie.After-enum-told3)
     → let line = c.before.before.before.before.before.before.before.before.args.line.now in
-    first_of (readPush ∷ readLogout ∷ []) line ≡ requestOf line
+    first_of (read_push ∷ read_logout ∷ []) line ≡ request_of line
 no-get c =
     let g = c.before.before in
     first-fails (g.get-line.ensures []) _ (no-login g.before) c.enum-told3.given.1
 
 returns : tie.Need-returns
-returns c = (record { asks = too_long _ (search rules); stands = tt }, refl)
+returns c = (record { asks = too_long_lem _ (search rules); stands = tt }, refl)
 
 login-line-requires : tie.Need-login-line-requires
 login-line-requires c κs = search rules

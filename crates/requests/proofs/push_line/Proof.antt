@@ -7,15 +7,15 @@ use borrow.Author.Rules.{rules}
 use borrow.Author.Tests.{not-true, not-false}
 use lib.ListN.{length, take, drop}
 use Rattle.model.specs.Base.{text, after, number, ◌>>=◌}
-use Rattle.model.specs.Limits.{maxSession}
+use Rattle.model.specs.Limits.{max_session}
 use Rattle.model.specs.Values.{Value, value_of}
-use Rattle.model.specs.Requests.{readPush}
-use Rattle.paths.specs.Layout.{pathIn}
+use Rattle.model.specs.Requests.{read_push}
+use Rattle.paths.specs.Layout.{path_in}
 use Rattle.paths.proofs.PathBytes.{keys-encoded}
-use Rattle.lexical.specs.Numbers.{numberAnswer}
+use Rattle.lexical.specs.Numbers.{number_answer}
 use Rattle.lexical.proofs.Decimals.{number-some}
 use Rattle.values.proofs.Values.{told, value-inside}
-use Rattle.requests.proofs.ByPositions.{word-ends, word-other, other_word, pushOf, PathEnds, session-last, session-ends, path-last, path-ends, push-stands}
+use Rattle.requests.proofs.ByPositions.{word-ends, word-other, other_word, push_of, PathEnds, session-last, session-ends, path-last, path-ends, push-stands}
 use Rattle.requests.proofs.ByPositions.{path-told, whole-bad, whole-more, whole_is}
 use Rattle.requests.proofs.push_line.Statement.{statement}
 use Rattle.requests.proofs.push_line.Tie as tie
@@ -51,8 +51,8 @@ session : (c : tie.After-known-told2)
     let a = e.before.before in
     let w = a.before.before in
     let from = w.before.from.given.0.0 in
-    number maxSession (take (a.before.until.result - from) (drop from w.before.before.before.before.before.before.args.line.now)) ≡ some c.before.session.given.0.0
-session c = told numberAnswer c.before.before.before.number.ensures c.before.session.given.1
+    number max_session (take (a.before.until.result - from) (drop from w.before.before.before.before.before.before.args.line.now)) ≡ some c.before.session.given.0.0
+session c = told number_answer c.before.before.before.number.ensures c.before.session.given.1
 
 -- and the path is one: what is read goes by the value
 by_value : (c : tie.Else3) {v : Option Value}
@@ -61,7 +61,7 @@ by_value : (c : tie.Else3) {v : Option Value}
     let e = n.before.before.before.before.before in
     let line = e.before.before.before.before.before.before.before.before.before.before.args.line.now in
     value_of (drop (e.before.until2.result + 1) line) ≡ v
-    → pushOf (some n.before.session.given.0.0) (some (pathIn r.read-path.result.slot)) v ≡ readPush line
+    → push_of (some n.before.session.given.0.0) (some (path_in r.read-path.result.slot)) v ≡ read_push line
 by_value c v =
     let r = c.before.before in
     let n = r.before.before in
@@ -81,7 +81,7 @@ enum_told : tie.Need-enum-told
 enum_told c = search rules
 
 returns : tie.Need-returns
-unfolding readPush text
+unfolding read_push text
 returns c = (record { asks = other_word (text "PUSH;") _ _ (word-other _ _ _ c.before.before.behind.ensures c.enum_told.given.1); stands = tt }, refl)
 
 until-requires : tie.Need-until-requires
@@ -121,10 +121,10 @@ enum-told-2 : tie.Need-enum-told-2
 enum-told-2 c = search rules
 
 returns-4 : tie.Need-returns-4
-unfolding pushOf ◌>>=◌
+unfolding push_of ◌>>=◌
 returns-4 c =
     let n = c.before.before in
-    (record { asks = (ends n.before.before).read (told numberAnswer n.number.ensures c.enum-told2.given.1) refl refl; stands = tt }, refl)
+    (record { asks = (ends n.before.before).read (told number_answer n.number.ensures c.enum-told2.given.1) refl refl; stands = tt }, refl)
 
 sub-read-path : tie.Need-overflow-sub-read-path
 sub-read-path c = omega (arith, ends c.before.before.before.before.before)
@@ -139,7 +139,7 @@ read-path-requires : tie.Need-read-path-requires
 read-path-requires c κs = search rules
 
 returns-5 : tie.Need-returns-5
-unfolding pushOf ◌>>=◌
+unfolding push_of ◌>>=◌
 returns-5 c =
     let r = c.before.before in
     let n = r.before.before in
@@ -159,13 +159,13 @@ enum-told-3 : tie.Need-enum-told-3
 enum-told-3 c = search rules
 
 returns-6 : tie.Need-returns-6
-unfolding pushOf ◌>>=◌
+unfolding push_of ◌>>=◌
 returns-6 c =
     let v = c.before.before in
     (record { asks = by_value v.before (whole-bad _ _ _ v.value-at.ensures.0 c.enum-told3.given.1); stands = tt }, refl)
 
 returns-7 : tie.Need-returns-7
-unfolding pushOf ◌>>=◌
+unfolding push_of ◌>>=◌
 returns-7 c =
     let v = c.before.before.before.before in
     let e = ends v.before.before.before.before.before.before.before.before.before.before in
@@ -178,7 +178,7 @@ cast-t26 c =
     record { fits = omega (arith, (number-some _ _ _ (session n)).2) }
 
 returns-8 : tie.Need-returns-8
-unfolding pushOf ◌>>=◌
+unfolding push_of ◌>>=◌
 returns-8 c =
     let i = c.before in
     let v = i.before.before.before.before in

@@ -5,13 +5,13 @@ use mathlib.Core.Bool.{true}
 use native.Mathlib.Numerals.{add-one}
 use borrow.Author.Rules.{rules}
 use Rattle.model.specs.Opening.{LoginState}
-use Rattle.sessions.specs.Logins.{state_of, withSession, entered}
+use Rattle.sessions.specs.Logins.{state_of, with_session, entered}
 use Rattle.sessions.proofs.entered.Statement.{statement}
 use Rattle.sessions.proofs.entered.Tie as tie
 
 -- one more, as the code counts it
-one_more : (a : LoginState) → withSession a (a.logins + 1) true ≡ entered a
-unfolding withSession entered
+one_more : (a : LoginState) → with_session a (a.logins + 1) true ≡ entered a
+unfolding with_session entered
 one_more a = rw (add-one a.logins)
 
 add-with-session : tie.Need-overflow-add-with-session

@@ -4,7 +4,7 @@ use mathlib.Core.Bool.{Bool, true}
 use native.Mathlib.Omega.{arith}
 use borrow.Author.Rules.{rules}
 use borrow.Author.Tests.{not-true, not-false}
-use Rattle.sessions.specs.Logins.{loginsIn, state_of}
+use Rattle.sessions.specs.Logins.{logins_in, state_of}
 use Rattle.sessions.specs.declared.LoginReply.TheVariants.{Session}
 use Rattle.sessions.proofs.States.{found_below, login-unknown, wrong-key, has-session, logins-ended, login-enters}
 use Rattle.sessions.proofs.login.Statement.{statement}
@@ -23,7 +23,7 @@ returns : tie.Need-returns
 returns c =
     let f = c.before.before in
     let a = f.before.before.before.before.args in
-    let decided = login-unknown _ _ c.enum_told.given.1 f.find-user.ensures (loginsIn a.logins.now) a.key.now in
+    let decided = login-unknown _ _ c.enum_told.given.1 f.find-user.ensures (logins_in a.logins.now) a.key.now in
     record { answers = rw decided; leaves = rw decided; numbers = rw decided }
 
 mul-name-from : tie.Need-overflow-mul-name-from
@@ -42,7 +42,7 @@ returns-2 : tie.Need-returns-2
 returns-2 c =
     let j = c.before.before.before.before.before in
     let k = j.before.before in
-    let ls = loginsIn k.before.before.before.before.args.logins.now in
+    let ls = logins_in k.before.before.before.before.args.logins.now in
     let name = c.before.before.name-from.ensures in
     let decided = wrong-key _ _ j.i.given.1 k.find-user.ensures ls _ name c.before.same_bytes.ensures (not-true _ c.if1.true) in
     record { answers = rw decided; leaves = rw decided; numbers = rw decided }
@@ -59,7 +59,7 @@ returns-3 c =
     let i = c.before.before.before in
     let j = i.before.before.before.before.before in
     let k = j.before.before in
-    let ls = loginsIn k.before.before.before.before.args.logins.now in
+    let ls = logins_in k.before.before.before.before.args.logins.now in
     let name = i.before.before.name-from.ensures in
     let right = not-false _ i.if1.false in
     let decided = has-session _ _ j.i.given.1 k.find-user.ensures ls _ name i.before.same_bytes.ensures right c.before.state-at.ensures is_open in
@@ -72,7 +72,7 @@ returns-4 c =
     let i = h.before.before.before in
     let j = i.before.before.before.before.before in
     let k = j.before.before in
-    let ls = loginsIn k.before.before.before.before.args.logins.now in
+    let ls = logins_in k.before.before.before.before.args.logins.now in
     let name = i.before.before.name-from.ensures in
     let right = not-false _ i.if1.false in
     let state = h.before.state-at.ensures in
@@ -100,7 +100,7 @@ returns-5 c =
     let i = h.before.before.before in
     let j = i.before.before.before.before.before in
     let k = j.before.before in
-    let ls = loginsIn k.before.before.before.before.args.logins.now in
+    let ls = logins_in k.before.before.before.before.args.logins.now in
     let name = i.before.before.name-from.ensures in
     let right = not-false _ i.if1.false in
     let state = h.before.state-at.ensures in

@@ -5,9 +5,9 @@ use mir.Syntax.{w32}
 use mir.Val.{bits}
 use borrow.Author.Rules.{rules}
 use Rattle.masks.proofs.Bits.{shifted-or}
-use Rattle.model.specs.Serving.{sessionNumber}
+use Rattle.model.specs.Serving.{session_number}
 use Rattle.sessions.specs.Logins.{state_of}
-use Rattle.sessions.proofs.States.{loginBits}
+use Rattle.sessions.proofs.States.{login_bits}
 use Rattle.sessions.proofs.number.Statement.{statement}
 use Rattle.sessions.proofs.number.Tie as tie
 
@@ -18,9 +18,9 @@ cast-result-2 : tie.Need-overflow-cast-result-2
 cast-result-2 c = search rules
 
 returns : tie.Need-returns
-unfolding sessionNumber state_of
+unfolding session_number state_of
 returns c =
-    let joined = shifted-or (bits w32 - loginBits) loginBits (bits w32) c.before.args.i c.before.args.state.logins (search rules) (omega arith) (search rules) in
+    let joined = shifted-or (bits w32 - login_bits) login_bits (bits w32) c.before.args.i c.before.args.state.logins (search rules) (omega arith) (search rules) in
     omega (arith, joined)
 
 pub number-spec : {M : Type 1} → statement M

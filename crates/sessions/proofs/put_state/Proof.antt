@@ -3,7 +3,7 @@ use mathlib.Core.Path.{◌≡◌}
 use native.Mathlib.Omega.{arith}
 use lib.ListN.{length, length-set}
 use borrow.Author.Rules.{rules}
-use Rattle.sessions.specs.Logins.{loginNumbers, state_of}
+use Rattle.sessions.specs.Logins.{login_numbers, state_of}
 use Rattle.sessions.proofs.States.{state-put}
 use Rattle.sessions.proofs.put_state.Statement.{statement}
 use Rattle.sessions.proofs.put_state.Tie as tie
@@ -42,7 +42,7 @@ returns : tie.Need-returns
 unfolding state_of
 returns c =
     let start = c.before.before in
-    let long : length start.args.logins.now ≡ loginNumbers = search rules in
+    let long : length start.args.logins.now ≡ login_numbers = search rules in
     state-put _ _ start.requires _ _ _ long
 
 pub put-state-spec : {M : Type 1} → statement M

@@ -38,7 +38,7 @@ use denote.Triple.Table.{entered as tabled}
 use denote.Triple.Walked.{says, Stays, stay_ref, stay_none, walk_of, AllGo, Goes-ref, Goes-none, Walks, ends_at, walked, walk_Meets}
 use denote.Exit.{yes}
 use Rattle.sessions.specs.declared.LoginState.{LoginState}
-use Rattle.sessions.specs.Logins.{state_of, withSession}
+use Rattle.sessions.specs.Logins.{state_of, with_session}
 use Rattle.sessions.proofs.States.{changed}
 use Rattle.sessions.specs.contracts.LoginState as T
 use Rattle.sessions.proofs.LoginState.TheLaws as T'
@@ -79,7 +79,7 @@ module _ {M : Type 1} {𝓤 : Ura M} (𝓛 : Logic 𝓤) (at_mem : Memory → SP
   -- what the two values own is handed back as it came
   exits : ent 𝓤 (sep 𝓤 (A.obs γ ((T.the_row).coded.code h')) (sep 𝓤 (A.bor κ (Body (mem T.the_row) b o γ))
       (sep 𝓤 (A.lft κ q) (sem 𝓛 (owns (u16 ∷ bool ∷ []) x.1 at.1))))) (Post vunit)
-  unfolding state_of withSession
+  unfolding state_of with_session
   exits =
       qed 𝓛 (‵ (fobs γ ((T.the_row).coded.code h')) ∷ ‵ (fbor κ (Body (mem T.the_row) b o γ)) ∷ ‵ (flft κ q) ∷ ‵ (owns (u16 ∷ bool ∷ []) x.1 at.1) ∷ []) ∵
       suffices ! _ (ends_at 𝓛 f.ended stayed (f.clauses 𝓛 at_mem run) (((κ, tt), (q, tt), tt, x, at), tt) vunit tt (h', (tt, (tt, tt))) (tt, (tt, (tt, tt)))) $

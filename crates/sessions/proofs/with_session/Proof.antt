@@ -43,7 +43,7 @@ use denote.Triple.Table.{entered as tabled, cited}
 use denote.Triple.Walked.{says, Stays, stay_none, walk_of, AllGo, Goes-none, Walks, ends_at, walked, walk_Meets}
 use denote.Exit.{yes}
 use Rattle.sessions.specs.declared.LoginState.{LoginState}
-use Rattle.sessions.specs.Logins.{state_of, withSession}
+use Rattle.sessions.specs.Logins.{state_of, with_session}
 use Rattle.sessions.proofs.States.{changed, changed-from}
 use Rattle.sessions.specs.contracts.LoginState as T
 use Rattle.sessions.proofs.LoginState.TheLaws as T'
@@ -112,7 +112,7 @@ module _ {M : Type 1} {𝓤 : Ura M} (𝓛 : Logic 𝓤) (at_mem : Memory → SP
 
   -- what the arguments own is handed back as it came
   exits : ent 𝓤 (sep 𝓤 (sem 𝓛 args) (sem 𝓛 ((T.the_row).own_val h' (T'.lowered h' ∷ [])))) (Post (T'.lowered h'))
-  unfolding state_of withSession
+  unfolding state_of with_session
   exits =
       qed 𝓛 (‵ args ∷ ‵ ((T.the_row).own_val h' (T'.lowered h' ∷ [])) ∷ []) ∵
       suffices ! _
@@ -143,8 +143,8 @@ module _ {M : Type 1} {𝓤 : Ura M} (𝓛 : Logic 𝓤) (at_mem : Memory → SP
     last : (r : Unit {0}) → ent 𝓤 (Sets-ensured r) (A.res δ ((T.the_row).coded.code h'))
     last r = ex_e 𝓤 _ (λ ws.
         let Ls : SProp 𝓤 = sem 𝓛 (lasts callee.ended (α ∷ [], tt) (borrowed, x.1) ws) in
-        let E : SProp 𝓤 = fact 𝓤 (state_of ws.0 ≡ withSession (state_of h) n t) in
-        fact_use 𝓤 (state_of ws.0 ≡ withSession (state_of h) n t) (snd∗ 𝓤 Ls E) (λ e.
+        let E : SProp 𝓤 = fact 𝓤 (state_of ws.0 ≡ with_session (state_of h) n t) in
+        fact_use 𝓤 (state_of ws.0 ≡ with_session (state_of h) n t) (snd∗ 𝓤 Ls E) (λ e.
         via 𝓤 Ls (fst∗ 𝓤 Ls E)
         (subst (λ (w : LoginState). ent 𝓤 Ls (A.res δ ((T.the_row).coded.code w))) (changed-from h ws.0 n t e)
         (qed 𝓛 (‵ (lasts callee.ended (α ∷ [], tt) (borrowed, x.1) ws) ∷ []) ∵ fsplit ! $ keep ! (0 ∷ []) $ done !))))

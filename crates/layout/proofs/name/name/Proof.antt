@@ -3,7 +3,7 @@ use native.Mathlib.Omega.{arith}
 use native.Mathlib.Nat.{add-sub_cancel_left}
 use lib.ListN.{get_or, drop, length-drop}
 use Rattle.rows.proofs.Writing.{take-clipped}
-use Rattle.layout.specs.Layout.{nameIn}
+use Rattle.layout.specs.Layout.{name_in}
 use borrow.Author.Rules.{rules}
 use Rattle.layout.proofs.name.name.Statement.{statement}
 use Rattle.layout.proofs.name.name.Tie as tie
@@ -33,7 +33,7 @@ part-result-end : tie.Need-slice-bounds-result-end
 part-result-end c = search rules
 
 returns : tie.Need-returns
-unfolding nameIn
+unfolding name_in
 returns c =
     let row = c.before.before.before.before.args.row.now in
     rw add-sub_cancel_left (take-clipped (get_or row 0 0) c.before.least.result (drop 1 row) (omega (arith, c.before.least.ensures, length-drop 1 row)))

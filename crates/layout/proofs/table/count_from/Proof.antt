@@ -5,13 +5,13 @@ use Prim.Native.Nat.{◌-◌, ◌≤◌}
 use native.Mathlib.Nat.{mul-lt-mul_of_pos_right}
 use native.Mathlib.Omega.{arith}
 use lib.ListN.{length}
-use Rattle.layout.specs.Layout.{inUse}
+use Rattle.layout.specs.Layout.{in_use}
 use Rattle.layout.proofs.Used.{used-fit, used-last, used-more, byte-empty, byte_full}
 use Rattle.layout.proofs.table.count_from.Statement.{statement}
 use Rattle.layout.proofs.table.count_from.Tie as tie
 
 abbrev invariant-loop : tie.invariant-loop
-invariant-loop t size most from i₀ i = (i ≤ most) × (i ≤ length (inUse size most t))
+invariant-loop t size most from i₀ i = (i ≤ most) × (i ≤ length (in_use size most t))
 
 abbrev decreases-loop : tie.decreases-loop
 decreases-loop t size most from i₀ i = most - i

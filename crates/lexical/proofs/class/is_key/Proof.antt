@@ -1,4 +1,4 @@
--- A key is a name of at most `maxKey` bytes.
+-- A key is a name of at most `max_key` bytes.
 use Rattle.model.specs.Names.{is_key}
 use borrow.Author.Rules.{rules}
 use Rattle.lexical.proofs.class.is_key.Statement.{statement}

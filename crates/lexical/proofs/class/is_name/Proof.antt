@@ -1,5 +1,5 @@
--- A name is one of at most `maxName` bytes.
-use Rattle.model.specs.Names.{isName}
+-- A name is one of at most `max_name` bytes.
+use Rattle.model.specs.Names.{is_name}
 use borrow.Author.Rules.{rules}
 use Rattle.lexical.proofs.class.is_name.Statement.{statement}
 use Rattle.lexical.proofs.class.is_name.Tie as tie
@@ -8,7 +8,7 @@ is-name-of-requires : tie.Need-is-name-of-requires
 is-name-of-requires c κs = search rules
 
 returns : tie.Need-returns
-unfolding isName
+unfolding is_name
 returns c = c.is-name-of.ensures
 
 pub is-name-spec : {M : Type 1} → statement M

@@ -4,7 +4,7 @@ use mathlib.Core.Bool.{true, false}
 use Prim.Native.Nat.{ℕ}
 use mathlib.Core.List.{List, [], ◌∷◌}
 use native.Mathlib.Omega.{arith}
-use Rattle.model.specs.Names.{nameByte, Opened}
+use Rattle.model.specs.Names.{name_byte, Opened}
 use Rattle.lexical.proofs.Classes.{keyed, clear}
 use Rattle.lexical.proofs.class.is_name_byte.Statement.{statement}
 use Rattle.lexical.proofs.class.is_name_byte.Tie as tie
@@ -14,19 +14,19 @@ keys = 0x22 ∷ 0x27 ∷ 0x3B ∷ 0x5C ∷ []
 
 returns : tie.Need-returns
 unfolding Opened
-returns c = keyed nameByte false keys refl _ c.match.keys1
+returns c = keyed name_byte false keys refl _ c.match.keys1
 
 returns-2 : tie.Need-returns-2
 unfolding Opened
-returns-2 c = clear nameByte true keys 0x20 0x7E refl _ (omega arith) (omega arith) c.before.before.match.rest.1
+returns-2 c = clear name_byte true keys 0x20 0x7E refl _ (omega arith) (omega arith) c.before.before.match.rest.1
 
 returns-3 : tie.Need-returns-3
 unfolding Opened
-returns-3 c = clear nameByte false keys 0x00 0x1F refl _ (omega arith) (omega arith) c.before.match.rest.1
+returns-3 c = clear name_byte false keys 0x00 0x1F refl _ (omega arith) (omega arith) c.before.match.rest.1
 
 returns-4 : tie.Need-returns-4
 unfolding Opened
-returns-4 c = clear nameByte false keys 0x7F 0xFF refl _ (omega arith) (omega arith) c.before.before.match.rest.1
+returns-4 c = clear name_byte false keys 0x7F 0xFF refl _ (omega arith) (omega arith) c.before.before.match.rest.1
 
 pub is-name-byte-spec : {M : Type 1} → statement M
 is-name-byte-spec = tie.close (tie.spec returns returns-2 returns-3 returns-4)

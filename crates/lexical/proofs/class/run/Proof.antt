@@ -3,14 +3,14 @@ use mathlib.Core.Path.{◌≡◌, refl, sym, ◌∙◌}
 use Prim.Native.Nat.{◌≤◌, ◌-◌}
 use borrow.Author.Rules.{rules}
 use lib.ListN.{length}
-use Rattle.rows.specs.Positions.{runEnd}
+use Rattle.rows.specs.Positions.{run_end}
 use Rattle.rows.proofs.Positions.{run_step, run-stop, run-over}
-use Rattle.lexical.specs.Classes.{inClass}
+use Rattle.lexical.specs.Classes.{in_class}
 use Rattle.lexical.proofs.class.run.Statement.{statement}
 use Rattle.lexical.proofs.class.run.Tie as tie
 
 abbrev invariant-loop : tie.invariant-loop
-invariant-loop s at class i₀ i = (i ≤ length s) × (runEnd (inClass class) s at ≡ runEnd (inClass class) s i)
+invariant-loop s at class i₀ i = (i ≤ length s) × (run_end (in_class class) s at ≡ run_end (in_class class) s i)
 
 abbrev decreases-loop : tie.decreases-loop
 decreases-loop s at class i₀ i = length s - i

@@ -2,7 +2,7 @@
 use mathlib.Core.Path.{sym, ◌∙◌}
 use Rattle.rows.proofs.Parts.{tail-part}
 use borrow.Author.Rules.{rules}
-use Rattle.model.specs.Fields.{orderKey}
+use Rattle.model.specs.Fields.{order_key}
 use Rattle.lexical.specs.Orders.{word_bytes}
 use Rattle.lexical.proofs.Words.{word-behind, second-behind, second-same}
 use Rattle.lexical.proofs.slice.is_behind.Statement.{statement}
@@ -15,7 +15,7 @@ is-behind-from-requires : tie.Need-is-behind-from-requires
 is-behind-from-requires c κs = search rules
 
 returns : tie.Need-returns
-unfolding orderKey
+unfolding order_key
 returns c = search rules
 
 word-requires : tie.Need-word-requires
@@ -25,7 +25,7 @@ word-requires-2 : tie.Need-word-requires-2
 word-requires-2 c κs = search rules
 
 returns-2 : tie.Need-returns-2
-unfolding orderKey
+unfolding order_key
 returns-2 c =
     let k = c.before.before.before.before.before in
     let d = rw (c.before.before.word.ensures, c.before.word2.ensures) at c.if2.true in
@@ -60,7 +60,7 @@ word-requires-4 : tie.Need-word-requires-4
 word-requires-4 c κs = search rules
 
 returns-3 : tie.Need-returns-3
-unfolding orderKey
+unfolding order_key
 returns-3 c =
     let m = c.before.before.before.before.before in
     let k = m.before.before.before.before.before.before in
@@ -81,7 +81,7 @@ is-behind-from-requires-2 : tie.Need-is-behind-from-requires-2
 is-behind-from-requires-2 c κs = search rules
 
 returns-4 : tie.Need-returns-4
-unfolding orderKey
+unfolding order_key
 returns-4 c =
     let m = c.before.before.before.before.before.before in
     let k = m.before.before.before.before.before.before in

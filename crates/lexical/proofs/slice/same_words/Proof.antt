@@ -5,7 +5,7 @@ use lib.ListN.{length, drop}
 use Rattle.rows.proofs.Parts.{tail-part}
 use borrow.Author.Rules.{rules}
 use Rattle.model.specs.Base.{Bytes}
-use Rattle.lexical.specs.Orders.{word_bytes, bigEndian}
+use Rattle.lexical.specs.Orders.{word_bytes, big_endian}
 use Rattle.lexical.proofs.Slices.{same_not}
 use Rattle.lexical.proofs.Words.{words_same}
 use Rattle.lexical.proofs.slice.same_words.Statement.{statement}
@@ -44,7 +44,7 @@ returns c =
     let a = s.args.a.now in
     let b = s.args.b.now in
     let at = length a - word_bytes in
-    sym (same_not a b (λ (t : Bytes). bigEndian word_bytes (drop at t))
+    sym (same_not a b (λ (t : Bytes). big_endian word_bytes (drop at t))
     (rw (c.before.before.before.word.ensures, c.before.word2.ensures, tail-part at a, tail-part at b) at c.if1.true))
 
 word-requires-3 : tie.Need-word-requires-3

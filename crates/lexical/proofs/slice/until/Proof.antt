@@ -3,15 +3,15 @@ use Prim.Native.Nat.{◌≤◌, ◌-◌}
 use mathlib.Core.Path.{◌≡◌, refl, sym, ◌∙◌}
 use borrow.Author.Rules.{rules}
 use lib.ListN.{length}
-use Rattle.rows.specs.Positions.{runEnd}
+use Rattle.rows.specs.Positions.{run_end}
 use Rattle.rows.proofs.Positions.{run_step, run-stop, run-over}
-use Rattle.lexical.specs.Classes.{isNot}
+use Rattle.lexical.specs.Classes.{is_not}
 use Rattle.lexical.proofs.Runs.{is-it, is-other}
 use Rattle.lexical.proofs.slice.until.Statement.{statement}
 use Rattle.lexical.proofs.slice.until.Tie as tie
 
 abbrev invariant-loop : tie.invariant-loop
-invariant-loop s at b i₀ i = (i ≤ length s) × (runEnd (isNot b) s at ≡ runEnd (isNot b) s i)
+invariant-loop s at b i₀ i = (i ≤ length s) × (run_end (is_not b) s at ≡ run_end (is_not b) s i)
 
 abbrev decreases-loop : tie.decreases-loop
 decreases-loop s at b i₀ i = length s - i

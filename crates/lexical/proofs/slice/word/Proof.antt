@@ -2,7 +2,7 @@
 use native.Mathlib.Omega.{arith}
 use lib.Seq.{get_or-drop}
 use borrow.Author.Rules.{rules}
-use Rattle.lexical.specs.Orders.{bigEndian}
+use Rattle.lexical.specs.Orders.{big_endian}
 use Rattle.lexical.proofs.slice.word.Statement.{statement}
 use Rattle.lexical.proofs.slice.word.Tie as tie
 
@@ -97,7 +97,7 @@ add-result-3 : tie.Need-overflow-add-result-3
 add-result-3 c = let byte = c.shared-slice-known8.given in omega (arith, byte 0, byte 1, byte 2, byte 3, byte 4, byte 5, byte 6, byte 7)
 
 returns : tie.Need-returns
-unfolding bigEndian
+unfolding big_endian
 returns c = simp get_or-drop (omega arith)
 
 pub word-spec : {M : Type 1} → statement M

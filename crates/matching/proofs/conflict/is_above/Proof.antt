@@ -3,15 +3,15 @@ use Prim.Native.Nat.{◌-◌, ◌≤◌}
 use mathlib.Core.Path.{◌≡◌, refl, sym, ◌∙◌}
 use borrow.Author.Tests.{not-true, not-false}
 use lib.ListN.{drop}
-use Rattle.model.specs.Rights.{isAbove}
-use Rattle.steps.specs.Steps.{stepsIn}
+use Rattle.model.specs.Rights.{is_above}
+use Rattle.steps.specs.Steps.{steps_in}
 use Rattle.matching.proofs.Conflicts.{above_step, above-end}
 use borrow.Author.Rules.{rules}
 use Rattle.matching.proofs.conflict.is_above.Statement.{statement}
 use Rattle.matching.proofs.conflict.is_above.Tie as tie
 
 abbrev invariant-loop : tie.invariant-loop
-invariant-loop a m b i₀ i = (i ≤ m) × (isAbove (stepsIn a) (stepsIn b) ≡ isAbove (drop i (stepsIn a)) (drop i (stepsIn b)))
+invariant-loop a m b i₀ i = (i ≤ m) × (is_above (steps_in a) (steps_in b) ≡ is_above (drop i (steps_in a)) (drop i (steps_in b)))
 
 abbrev decreases-loop : tie.decreases-loop
 decreases-loop a m b i₀ i = m - i

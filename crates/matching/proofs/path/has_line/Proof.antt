@@ -6,21 +6,21 @@ use native.Mathlib.Omega.{arith}
 use lib.ListN.{length, drop}
 use borrow.Author.Rules.{rules}
 use Rattle.model.specs.Base.{among}
-use Rattle.model.specs.Limits.{maxBindings}
+use Rattle.model.specs.Limits.{max_bindings}
 use Rattle.model.specs.Rights.{listed}
-use Rattle.layout.specs.Layout.{inUse}
+use Rattle.layout.specs.Layout.{in_use}
 use Rattle.layout.proofs.Used.{used-fit}
-use Rattle.steps.specs.Environments.{bindingRow, bindingsIn}
+use Rattle.steps.specs.Environments.{binding_row, bindings_in}
 use Rattle.matching.proofs.Matched.{lines-over, lines-stop, line-more, listed-yes, listed-no, listed-none, among_none, among_first, among_later}
 use Rattle.matching.proofs.path.has_line.Statement.{statement}
 use Rattle.matching.proofs.path.has_line.Tie as tie
 
 abbrev invariant-loop : tie.invariant-loop
 invariant-loop lines n key i₀ i =
-    (i ≤ length (inUse bindingRow maxBindings lines)) × (among key (listed (bindingsIn lines) n) ≡ among key (listed (drop i (bindingsIn lines)) n))
+    (i ≤ length (in_use binding_row max_bindings lines)) × (among key (listed (bindings_in lines) n) ≡ among key (listed (drop i (bindings_in lines)) n))
 
 abbrev decreases-loop : tie.decreases-loop
-decreases-loop lines n key i₀ i = maxBindings - i
+decreases-loop lines n key i₀ i = max_bindings - i
 
 loop-holds : tie.Need-loop-init invariant-loop decreases-loop
 loop-holds c = (search rules, refl)
@@ -70,8 +70,8 @@ Left : tie.Joined2 invariant-loop decreases-loop → Type 0
 Left c =
     let l = c.before.before.before.before.before.before in
     let a = l.before.before.before.before.args in
-    among a.key.now (listed (drop l.loop.i (bindingsIn a.lines.now)) a.n.now)
-    ≡ among a.key.now (listed (drop (l.loop.i + 1) (bindingsIn a.lines.now)) a.n.now)
+    among a.key.now (listed (drop l.loop.i (bindings_in a.lines.now)) a.n.now)
+    ≡ among a.key.now (listed (drop (l.loop.i + 1) (bindings_in a.lines.now)) a.n.now)
 
 met : (c : tie.Joined2 invariant-loop decreases-loop) → Left c
 unfolding Left
@@ -97,7 +97,7 @@ returns-3 : tie.Need-returns-3 invariant-loop decreases-loop
 returns-3 c =
     let l = c.before.loop in
     let lines = c.before.before.before.before.before.args.lines.now in
-    sym (l.invariant.1 ∙ among_none _ (listed-none _ (lines-over lines l.i (omega (arith, used-fit bindingRow maxBindings lines)))))
+    sym (l.invariant.1 ∙ among_none _ (listed-none _ (lines-over lines l.i (omega (arith, used-fit binding_row max_bindings lines)))))
 
 pub has-line-spec : {M : Type 1} → statement M
 has-line-spec =

@@ -3,16 +3,16 @@ use Prim.Native.Nat.{◌-◌, ◌≤◌}
 use mathlib.Core.Path.{◌≡◌, refl, sym, ◌∙◌}
 use borrow.Author.Rules.{rules}
 use lib.ListN.{drop}
-use Rattle.model.specs.Limits.{maxListed}
+use Rattle.model.specs.Limits.{max_listed}
 use Rattle.model.specs.Base.{among}
-use Rattle.layout.specs.Layout.{keyRow, nameIn}
-use Rattle.steps.specs.Steps.{namesIn}
+use Rattle.layout.specs.Layout.{key_row, name_in}
+use Rattle.steps.specs.Steps.{names_in}
 use Rattle.matching.proofs.Matched.{any_step, any-over}
 use Rattle.matching.proofs.path.has_name.Statement.{statement}
 use Rattle.matching.proofs.path.has_name.Tie as tie
 
 abbrev invariant-loop : tie.invariant-loop
-invariant-loop names key n i₀ i = (i ≤ n) × (among key (namesIn names) ≡ among key (drop i (namesIn names)))
+invariant-loop names key n i₀ i = (i ≤ n) × (among key (names_in names) ≡ among key (drop i (names_in names)))
 
 abbrev decreases-loop : tie.decreases-loop
 decreases-loop names key n i₀ i = n - i
@@ -30,10 +30,10 @@ same-requires : tie.Need-same-requires invariant-loop decreases-loop
 same-requires c κs = search rules
 
 returns : tie.Need-returns invariant-loop decreases-loop
-unfolding namesIn among
+unfolding names_in among
 returns c =
     let l = c.before.before.before.before.loop in
-    sym (l.invariant.1 ∙ any_step nameIn keyRow maxListed _ _ l.i (search rules) c.before.before.key-at.ensures c.before.same.ensures ∙ rw c.if1.true)
+    sym (l.invariant.1 ∙ any_step name_in key_row max_listed _ _ l.i (search rules) c.before.before.key-at.ensures c.before.same.ensures ∙ rw c.if1.true)
 
 add-i : tie.Need-overflow-add-i invariant-loop decreases-loop
 add-i c = search rules
@@ -42,14 +42,14 @@ loop-less : tie.Need-loop-smaller invariant-loop decreases-loop
 loop-less c = search rules
 
 loop-again : tie.Need-loop-preserved invariant-loop decreases-loop
-unfolding namesIn among
+unfolding names_in among
 loop-again c =
     let l = c.before.before.before.before.loop in
-    (search rules, l.invariant.1 ∙ any_step nameIn keyRow maxListed _ _ l.i (search rules) c.before.before.key-at.ensures c.before.same.ensures ∙ rw c.if1.false)
+    (search rules, l.invariant.1 ∙ any_step name_in key_row max_listed _ _ l.i (search rules) c.before.before.key-at.ensures c.before.same.ensures ∙ rw c.if1.false)
 
 returns-2 : tie.Need-returns-2 invariant-loop decreases-loop
-unfolding namesIn among
-returns-2 c = let l = c.before.loop in sym (l.invariant.1 ∙ any-over nameIn keyRow maxListed _ _ l.i (search rules))
+unfolding names_in among
+returns-2 c = let l = c.before.loop in sym (l.invariant.1 ∙ any-over name_in key_row max_listed _ _ l.i (search rules))
 
 pub has-name-spec : {M : Type 1} → statement M
 has-name-spec =

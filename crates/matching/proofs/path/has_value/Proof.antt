@@ -4,11 +4,11 @@ use mathlib.Core.Path.{◌≡◌, refl, sym, ◌∙◌}
 use native.Mathlib.Omega.{arith}
 use lib.ListN.{length, drop}
 use borrow.Author.Rules.{rules}
-use Rattle.model.specs.Limits.{maxBindings}
+use Rattle.model.specs.Limits.{max_bindings}
 use Rattle.model.specs.Base.{any}
-use Rattle.layout.specs.Layout.{inUse}
+use Rattle.layout.specs.Layout.{in_use}
 use Rattle.layout.proofs.Used.{used-fit}
-use Rattle.steps.specs.Environments.{bindingRow, bindingsIn}
+use Rattle.steps.specs.Environments.{binding_row, bindings_in}
 use Rattle.matching.specs.Parts.{has_value}
 use Rattle.matching.proofs.Matched.{lines-over, lines-stop, line-more, value-step}
 use Rattle.matching.proofs.path.has_value.Statement.{statement}
@@ -16,10 +16,10 @@ use Rattle.matching.proofs.path.has_value.Tie as tie
 
 abbrev invariant-loop : tie.invariant-loop
 invariant-loop lines key i₀ i =
-    (i ≤ length (inUse bindingRow maxBindings lines)) × (has_value (bindingsIn lines) key ≡ has_value (drop i (bindingsIn lines)) key)
+    (i ≤ length (in_use binding_row max_bindings lines)) × (has_value (bindings_in lines) key ≡ has_value (drop i (bindings_in lines)) key)
 
 abbrev decreases-loop : tie.decreases-loop
-decreases-loop lines key i₀ i = maxBindings - i
+decreases-loop lines key i₀ i = max_bindings - i
 
 loop-holds : tie.Need-loop-init invariant-loop decreases-loop
 loop-holds c = (search rules, refl)
@@ -73,7 +73,7 @@ unfolding has_value any
 returns-3 c =
     let l = c.before.loop in
     let lines = c.before.before.before.before.args.lines.now in
-    sym (l.invariant.1 ∙ rw (lines-over lines l.i (omega (arith, used-fit bindingRow maxBindings lines))))
+    sym (l.invariant.1 ∙ rw (lines-over lines l.i (omega (arith, used-fit binding_row max_bindings lines))))
 
 pub has-value-spec : {M : Type 1} → statement M
 has-value-spec =

@@ -1,7 +1,7 @@
 -- Each operator has its function.
 use mathlib.Core.Path.{sym, ap, ◌∙◌}
 use borrow.Author.Rules.{rules}
-use Rattle.model.specs.Rights.{admitsBy}
+use Rattle.model.specs.Rights.{admits_by}
 use Rattle.matching.proofs.path.is_listed.Statement.{statement}
 use Rattle.matching.proofs.path.is_listed.Tie as tie
 
@@ -18,11 +18,11 @@ has-line-requires : tie.Need-has-line-requires
 has-line-requires c κs = search rules
 
 returns : tie.Need-returns
-unfolding admitsBy
+unfolding admits_by
 returns c = rw c.before.enum_told.given.1 c.is-only.ensures
 
 returns-2 : tie.Need-returns-2
-unfolding admitsBy
+unfolding admits_by
 returns-2 c = rw c.before.enum-told2.given.1 c.has-line.ensures
 
 pub is-listed-spec : {M : Type 1} → statement M

@@ -1,7 +1,7 @@
 -- Only an environment step asks the lines.
 use mathlib.Core.Path.{sym, ◌∙◌}
 use borrow.Author.Rules.{rules}
-use Rattle.matching.specs.Parts.{isMet}
+use Rattle.matching.specs.Parts.{is_met}
 use Rattle.matching.proofs.Matched.{is-met-told}
 use Rattle.matching.proofs.path.is_met.Statement.{statement}
 use Rattle.matching.proofs.path.is_met.Tie as tie
@@ -37,15 +37,15 @@ is-listed-requires : tie.Need-is-listed-requires
 is-listed-requires c κs = search rules
 
 returns : tie.Need-returns
-unfolding isMet
+unfolding is_met
 returns c = sym (is-met-told _ _ c.before.before.kind-of.ensures c.enum_told.given.1 _)
 
 returns-2 : tie.Need-returns-2
-unfolding isMet
+unfolding is_met
 returns-2 c = sym (is-met-told _ _ c.before.before.kind-of.ensures c.enum-told2.given.1 _)
 
 returns-3 : tie.Need-returns-3
-unfolding isMet
+unfolding is_met
 returns-3 c =
     let k = c.before.before.before.before in
     rw c.before.first-name.ensures at c.is-listed.ensures

@@ -3,9 +3,9 @@ use mathlib.Core.Path.{sym}
 use native.Mathlib.Omega.{arith}
 use borrow.Author.Rules.{rules}
 use borrow.Author.Tests.{not-true, not-false}
-use Rattle.model.specs.Limits.{maxBindings}
+use Rattle.model.specs.Limits.{max_bindings}
 use Rattle.layout.proofs.Used.{used-fit}
-use Rattle.steps.specs.Environments.{bindingRow}
+use Rattle.steps.specs.Environments.{binding_row}
 use Rattle.matching.proofs.Matched.{only_none, only-other, only-last}
 use Rattle.matching.proofs.path.is_only.Statement.{statement}
 use Rattle.matching.proofs.path.is_only.Tie as tie
@@ -17,13 +17,13 @@ returns : tie.Need-returns
 returns c = sym (only_none _ (c.before.line-named.ensures.none c.if1.true))
 
 mul-name-from : tie.Need-overflow-mul-name-from
-mul-name-from c = omega (arith, c.before.line-named.ensures.below c.if1.false, used-fit bindingRow maxBindings c.before.before.before.before.before.args.lines.now)
+mul-name-from c = omega (arith, c.before.line-named.ensures.below c.if1.false, used-fit binding_row max_bindings c.before.before.before.before.before.args.lines.now)
 
 add-name-from : tie.Need-overflow-add-name-from
-add-name-from c = omega (arith, c.before.line-named.ensures.below c.if1.false, used-fit bindingRow maxBindings c.before.before.before.before.before.args.lines.now)
+add-name-from c = omega (arith, c.before.line-named.ensures.below c.if1.false, used-fit binding_row max_bindings c.before.before.before.before.before.args.lines.now)
 
 name-from-requires : tie.Need-name-from-requires
-name-from-requires c κs = omega (arith, c.before.line-named.ensures.below c.if1.false, used-fit bindingRow maxBindings c.before.before.before.before.before.args.lines.now)
+name-from-requires c κs = omega (arith, c.before.line-named.ensures.below c.if1.false, used-fit binding_row max_bindings c.before.before.before.before.before.args.lines.now)
 
 same-requires : tie.Need-same-requires
 same-requires c κs = search rules
@@ -35,7 +35,7 @@ returns-2 c =
     sym (only-other _ _ (k.before.line-named.ensures.first k.if1.false) (rw c.before.before.name-from.ensures at c.before.same.ensures) test)
 
 add-line-named : tie.Need-overflow-add-line-named
-add-line-named c = omega (arith, c.before.before.before.before.line-named.ensures.below c.before.before.before.if1.false, used-fit bindingRow maxBindings c.before.before.before.before.before.before.before.before.args.lines.now)
+add-line-named c = omega (arith, c.before.before.before.before.line-named.ensures.below c.before.before.before.if1.false, used-fit binding_row max_bindings c.before.before.before.before.before.before.before.before.args.lines.now)
 
 line-named-requires-2 : tie.Need-line-named-requires-2
 line-named-requires-2 c κs = (search rules, omega (arith, c.before.before.before.before.line-named.ensures.below c.before.before.before.if1.false))

@@ -4,20 +4,20 @@ use mathlib.Core.Path.{◌≡◌, refl, ◌∙◌}
 use native.Mathlib.Omega.{arith}
 use lib.ListN.{length, drop}
 use borrow.Author.Rules.{rules}
-use Rattle.model.specs.Limits.{maxBindings}
+use Rattle.model.specs.Limits.{max_bindings}
 use Rattle.model.specs.Rights.{listed}
 use Rattle.layout.proofs.Used.{used-fit}
-use Rattle.steps.specs.Environments.{bindingRow, bindingsIn}
-use Rattle.matching.specs.Parts.{bindingCount}
+use Rattle.steps.specs.Environments.{binding_row, bindings_in}
+use Rattle.matching.specs.Parts.{binding_count}
 use Rattle.matching.proofs.Matched.{lines-over, lines-stop, line-more, listed-yes, listed-no, listed-none, named_none, named-first}
 use Rattle.matching.proofs.path.line_named.Statement.{statement}
 use Rattle.matching.proofs.path.line_named.Tie as tie
 
 abbrev invariant-loop : tie.invariant-loop
-invariant-loop lines from n i₀ i = (i ≤ bindingCount lines) × (listed (drop from (bindingsIn lines)) n ≡ listed (drop i (bindingsIn lines)) n)
+invariant-loop lines from n i₀ i = (i ≤ binding_count lines) × (listed (drop from (bindings_in lines)) n ≡ listed (drop i (bindings_in lines)) n)
 
 abbrev decreases-loop : tie.decreases-loop
-decreases-loop lines from n i₀ i = maxBindings - i
+decreases-loop lines from n i₀ i = max_bindings - i
 
 loop-holds : tie.Need-loop-init invariant-loop decreases-loop
 loop-holds c = (search rules, refl)
@@ -65,7 +65,7 @@ returns-3 : tie.Need-returns-3 invariant-loop decreases-loop
 returns-3 c =
     let l = c.before.loop in
     let lines = c.before.before.before.before.args.lines.now in
-    named_none _ _ _ (l.invariant.1 ∙ listed-none _ (lines-over lines l.i (omega (arith, used-fit bindingRow maxBindings lines))))
+    named_none _ _ _ (l.invariant.1 ∙ listed-none _ (lines-over lines l.i (omega (arith, used-fit binding_row max_bindings lines))))
 
 pub line-named-spec : {M : Type 1} → statement M
 line-named-spec =

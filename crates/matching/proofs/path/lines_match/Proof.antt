@@ -4,20 +4,20 @@ use mathlib.Core.Path.{◌≡◌, sym, ◌∙◌}
 use lib.ListN.{get_or, drop}
 use borrow.Author.Tests.{not-true, not-false}
 use borrow.Author.Rules.{rules}
-use Rattle.model.specs.Limits.{maxDepth}
+use Rattle.model.specs.Limits.{max_depth}
 use Rattle.model.specs.Rights.{paired, matches}
-use Rattle.paths.specs.Layout.{pathIn}
-use Rattle.steps.specs.Steps.{stepsIn}
-use Rattle.steps.specs.Environments.{bindingsIn}
-use Rattle.matching.specs.Parts.{isMet, mayMatch}
+use Rattle.paths.specs.Layout.{path_in}
+use Rattle.steps.specs.Steps.{steps_in}
+use Rattle.steps.specs.Environments.{bindings_in}
+use Rattle.matching.specs.Parts.{is_met, may_match}
 use Rattle.matching.proofs.Matched.{paired-counts, paired-step, paired-end, matches-parts}
 use Rattle.matching.proofs.path.lines_match.Statement.{statement}
 use Rattle.matching.proofs.path.lines_match.Tie as tie
 
 abbrev invariant-loop : tie.invariant-loop
 invariant-loop lines steps slot n i₀ i =
-    (i ≤ n) × (matches (bindingsIn lines) (stepsIn steps) (pathIn slot) ≡ paired (isMet (bindingsIn lines)) (drop i (stepsIn steps)) (drop i (pathIn slot)))
-    × (n ≡ min (get_or slot 0 0) maxDepth)
+    (i ≤ n) × (matches (bindings_in lines) (steps_in steps) (path_in slot) ≡ paired (is_met (bindings_in lines)) (drop i (steps_in steps)) (drop i (path_in slot)))
+    × (n ≡ min (get_or slot 0 0) max_depth)
 
 abbrev decreases-loop : tie.decreases-loop
 decreases-loop lines steps slot n i₀ i = n - i
@@ -26,7 +26,7 @@ count-requires : tie.Need-count-requires invariant-loop decreases-loop
 count-requires c κs = search rules
 
 loop-holds : tie.Need-loop-init invariant-loop decreases-loop
-unfolding mayMatch
+unfolding may_match
 loop-holds c =
     let may = c.before.before.before.before.requires.1 in
     (search rules, matches-parts _ _ _ ∙ rw may, c.count.ensures ∙ sym (paired-counts _ _ _ may))

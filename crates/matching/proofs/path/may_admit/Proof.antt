@@ -1,6 +1,6 @@
 -- Each kind has its own test.
 use mathlib.Core.Path.{sym, ◌∙◌}
-use Rattle.matching.specs.Parts.{mayAdmit}
+use Rattle.matching.specs.Parts.{may_admit}
 use Rattle.matching.proofs.Matched.{may-admit-told}
 use borrow.Author.Rules.{rules}
 use Rattle.matching.proofs.path.may_admit.Statement.{statement}
@@ -34,15 +34,15 @@ enum-told-3 : tie.Need-enum-told-3
 enum-told-3 c = search rules
 
 returns : tie.Need-returns
-unfolding mayAdmit
+unfolding may_admit
 returns c = let k = c.before.before in c.has-name.ensures ∙ sym (may-admit-told _ _ k.before.before.kind-of.ensures k.enum_told.given.1)
 
 returns-2 : tie.Need-returns-2
-unfolding mayAdmit
+unfolding may_admit
 returns-2 c = sym (may-admit-told _ _ c.before.before.kind-of.ensures c.enum-told2.given.1)
 
 returns-3 : tie.Need-returns-3
-unfolding mayAdmit
+unfolding may_admit
 returns-3 c = sym (may-admit-told _ _ c.before.before.kind-of.ensures c.enum-told3.given.1)
 
 pub may-admit-spec : {M : Type 1} → statement M

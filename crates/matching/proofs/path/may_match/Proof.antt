@@ -4,16 +4,16 @@ use mathlib.Core.Path.{◌≡◌, refl, sym, ◌∙◌}
 use lib.ListN.{drop}
 use borrow.Author.Tests.{not-true, not-false}
 use borrow.Author.Rules.{rules}
-use Rattle.paths.specs.Layout.{pathIn}
-use Rattle.steps.specs.Steps.{stepsIn}
-use Rattle.matching.specs.Parts.{mayMatch}
+use Rattle.paths.specs.Layout.{path_in}
+use Rattle.steps.specs.Steps.{steps_in}
+use Rattle.matching.specs.Parts.{may_match}
 use Rattle.matching.proofs.Matched.{paired-unlike, paired-step, paired-end}
 use Rattle.matching.proofs.path.may_match.Statement.{statement}
 use Rattle.matching.proofs.path.may_match.Tie as tie
 
 abbrev invariant-loop : tie.invariant-loop
 invariant-loop steps slot n i₀ i =
-    (i ≤ n) × (mayMatch (stepsIn steps) (pathIn slot) ≡ mayMatch (drop i (stepsIn steps)) (drop i (pathIn slot)))
+    (i ≤ n) × (may_match (steps_in steps) (path_in slot) ≡ may_match (drop i (steps_in steps)) (drop i (path_in slot)))
 
 abbrev decreases-loop : tie.decreases-loop
 decreases-loop steps slot n i₀ i = n - i
@@ -25,7 +25,7 @@ count-requires-2 : tie.Need-count-requires-2 invariant-loop decreases-loop
 count-requires-2 c κs = search rules
 
 returns : tie.Need-returns invariant-loop decreases-loop
-unfolding mayMatch
+unfolding may_match
 returns c = sym (paired-unlike _ _ _ (rw (c.before.count2.ensures, c.before.before.count.ensures) at c.if1.true))
 
 loop-holds : tie.Need-loop-init invariant-loop decreases-loop
@@ -41,7 +41,7 @@ may-admit-requires : tie.Need-may-admit-requires invariant-loop decreases-loop
 may-admit-requires c κs = c.before.row-at.ensures.1
 
 returns-2 : tie.Need-returns-2 invariant-loop decreases-loop
-unfolding mayMatch
+unfolding may_match
 returns-2 c =
     let k = c.before in
     let l = k.before.before.before.before.loop in
@@ -55,7 +55,7 @@ loop-less : tie.Need-loop-smaller invariant-loop decreases-loop
 loop-less c = search rules
 
 loop-again : tie.Need-loop-preserved invariant-loop decreases-loop
-unfolding mayMatch
+unfolding may_match
 loop-again c =
     let k = c.before in
     let l = k.before.before.before.before.loop in (
@@ -65,7 +65,7 @@ loop-again c =
     )
 
 returns-3 : tie.Need-returns-3 invariant-loop decreases-loop
-unfolding mayMatch
+unfolding may_match
 returns-3 c = let l = c.before.loop in sym (l.invariant.1 ∙ paired-end _ _ _ l.i (search rules) (search rules))
 
 pub may-match-spec : {M : Type 1} → statement M

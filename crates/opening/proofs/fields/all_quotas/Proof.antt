@@ -5,7 +5,7 @@ use native.Mathlib.Omega.{arith}
 use lib.ListN.{drop}
 use borrow.Author.Rules.{rules}
 use Rattle.model.specs.Opening.{quotas}
-use Rattle.tables.specs.Memory.{userRow, quotaAt, usersIn}
+use Rattle.tables.specs.Memory.{user_row, quota_at, users_in}
 use Rattle.tables.proofs.Users.{user-inside}
 use Rattle.tables.proofs.Users.{quota-small}
 use Rattle.opening.proofs.Quotas.{quota-left, quotas-over}
@@ -13,7 +13,7 @@ use Rattle.opening.proofs.fields.all_quotas.Statement.{statement}
 use Rattle.opening.proofs.fields.all_quotas.Tie as tie
 
 abbrev invariant-loop : tie.invariant-loop
-invariant-loop users n sum₀ i₀ sum i = (i ≤ n) × (sum ≤ 65535 * i) × (quotas (usersIn users) ≡ sum + quotas (drop i (usersIn users)))
+invariant-loop users n sum₀ i₀ sum i = (i ≤ n) × (sum ≤ 65535 * i) × (quotas (users_in users) ≡ sum + quotas (drop i (users_in users)))
 
 abbrev decreases-loop : tie.decreases-loop
 decreases-loop users n sum₀ i₀ sum i = n - i
@@ -24,7 +24,7 @@ small c =
     let k = c.before in
     let i = k.before.before.loop.i in
     let byte = k.before.before.before.before.shared-slice-known.given in
-    quota-small _ i k.row-at.ensures.0 c.quota.ensures (omega (arith, byte (i * userRow + quotaAt))) (omega (arith, byte (i * userRow + (quotaAt + 1))))
+    quota-small _ i k.row-at.ensures.0 c.quota.ensures (omega (arith, byte (i * user_row + quota_at))) (omega (arith, byte (i * user_row + (quota_at + 1))))
 
 row-count-requires : tie.Need-row-count-requires invariant-loop decreases-loop
 row-count-requires c κs = search rules

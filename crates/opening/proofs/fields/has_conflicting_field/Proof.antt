@@ -7,14 +7,14 @@ use native.Mathlib.Omega.{arith}
 use Rattle.record.proofs.Stores.{fields_fit}
 use borrow.Author.Rules.{rules}
 use Rattle.model.specs.Base.{any}
-use Rattle.record.specs.Slots.{fieldsIn}
-use Rattle.tables.specs.Memory.{policyIn}
+use Rattle.record.specs.Slots.{fields_in}
+use Rattle.tables.specs.Memory.{policy_in}
 use Rattle.opening.proofs.Conflicting.{conflicts, fields-over, conflicts-left}
 use Rattle.opening.proofs.fields.has_conflicting_field.Statement.{statement}
 use Rattle.opening.proofs.fields.has_conflicting_field.Tie as tie
 
 abbrev invariant-loop : tie.invariant-loop
-invariant-loop policy table n i₀ i = (i ≤ n) × (any (conflicts (policyIn policy)) (fieldsIn table) ≡ any (conflicts (policyIn policy)) (drop i (fieldsIn table)))
+invariant-loop policy table n i₀ i = (i ≤ n) × (any (conflicts (policy_in policy)) (fields_in table) ≡ any (conflicts (policy_in policy)) (drop i (fields_in table)))
 
 abbrev decreases-loop : tie.decreases-loop
 decreases-loop policy table n i₀ i = n - i
@@ -23,8 +23,8 @@ decreases-loop policy table n i₀ i = n - i
 turn : (c : tie.After-has-conflict invariant-loop decreases-loop)
     → let i = c.before.before.before.before.before.loop.i in
     let a = c.before.before.before.before.before.before.before.before.args in
-    let p = conflicts (policyIn a.policy.now) in
-    any p (fieldsIn a.table.now) ≡ (c.has-conflict.result || any p (drop (i + 1) (fieldsIn a.table.now)))
+    let p = conflicts (policy_in a.policy.now) in
+    any p (fields_in a.table.now) ≡ (c.has-conflict.result || any p (drop (i + 1) (fields_in a.table.now)))
 turn c =
     let k = c.before.before in
     let l = k.before.before.before.loop in

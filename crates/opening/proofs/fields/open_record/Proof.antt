@@ -1,13 +1,13 @@
--- Each return answers what `openRecord` says, in its order: the reader's refusals, too many fields, a conflict, and the fields that the table holds.
+-- Each return answers what `open_record` says, in its order: the reader's refusals, too many fields, a conflict, and the fields that the table holds.
 use mathlib.Core.Path.{◌≡◌}
 use mathlib.Core.Bool.{Bool}
 use native.Mathlib.Omega.{arith}
 use Rattle.model.specs.Refusals.{done, ◌>>◌, refuse◌if◌}
-use Rattle.model.specs.Opening.{fault, openRecord}
-use Rattle.record.specs.Slots.{fieldsIn, CanonicalFields}
-use Rattle.tables.specs.Memory.{tablesIn}
+use Rattle.model.specs.Opening.{fault, open_record}
+use Rattle.record.specs.Slots.{fields_in, CanonicalFields}
+use Rattle.tables.specs.Memory.{tables_in}
 use Rattle.values.proofs.Values.{told}
-use Rattle.reader.specs.Summaries.{readAnswer}
+use Rattle.reader.specs.Summaries.{read_answer}
 use Rattle.opening.proofs.Opened.{opened-refused, opened-many, opened-few}
 use borrow.Author.Rules.{rules}
 use Rattle.opening.proofs.fields.open_record.Statement.{statement}
@@ -17,12 +17,12 @@ use Rattle.opening.proofs.fields.open_record.Tie as tie
 conflicting : (c : tie.After-has-conflicting-field) {v : Bool} → c.has-conflicting-field.result ≡ v
     → let k = c.before.before.before.before.before.before.before.before.before.before.before in
     let a = k.before.before.before.args in
-    ((refuse fault 5 4 0 if v) >> done (fieldsIn k.read-record.new.0)) ≡ openRecord (tablesIn a.tables.now) a.s.now
+    ((refuse fault 5 4 0 if v) >> done (fields_in k.read-record.new.0)) ≡ open_record (tables_in a.tables.now) a.s.now
 conflicting c e =
     let k = c.before.before.before.before.before.before.before.before.before in
     let read = k.before.before.read-record in
     let a = k.before.before.before.before.before.args in
-    let is = told readAnswer read.ensures.0 k.read.given.1 in
+    let is = told read_answer read.ensures.0 k.read.given.1 in
     opened-few _ _ _ is (omega arith) a.table.now read.new.0 read.ensures.1.0 c.before.before.policy-of.ensures.0 c.has-conflicting-field.ensures e
 
 -- the table, which was of zeros, is written as its fields are
@@ -38,7 +38,7 @@ enum_told c = search rules
 returns : tie.Need-returns
 returns c =
     let r = c.before.before in
-    (opened-refused _ _ 8 (told readAnswer r.read-record.ensures.0 c.enum_told.given.1), written r)
+    (opened-refused _ _ 8 (told read_answer r.read-record.ensures.0 c.enum_told.given.1), written r)
 
 enum-told-2 : tie.Need-enum-told-2
 enum-told-2 c = search rules
@@ -46,7 +46,7 @@ enum-told-2 c = search rules
 returns-2 : tie.Need-returns-2
 returns-2 c =
     let r = c.before.before in
-    (opened-refused _ _ 6 (told readAnswer r.read-record.ensures.0 c.enum-told2.given.1), written r)
+    (opened-refused _ _ 6 (told read_answer r.read-record.ensures.0 c.enum-told2.given.1), written r)
 
 enum-known-read : tie.Need-enum-known-read
 enum-known-read c = search rules
@@ -54,7 +54,7 @@ enum-known-read c = search rules
 returns-3 : tie.Need-returns-3
 returns-3 c =
     let k = c.before.before in
-    (opened-many _ _ _ (told readAnswer k.before.before.read-record.ensures.0 k.read.given.1) (omega arith), written k.before.before)
+    (opened-many _ _ _ (told read_answer k.before.before.read-record.ensures.0 k.read.given.1) (omega arith), written k.before.before)
 
 all-quotas-requires : tie.Need-all-quotas-requires
 all-quotas-requires c κs = search rules
@@ -62,7 +62,7 @@ all-quotas-requires c κs = search rules
 returns-4 : tie.Need-returns-4
 returns-4 c =
     let k = c.before.before.before.before.before in
-    (opened-many _ _ _ (told readAnswer k.before.before.read-record.ensures.0 k.read.given.1) (omega arith), written k.before.before)
+    (opened-many _ _ _ (told read_answer k.before.before.read-record.ensures.0 k.read.given.1) (omega arith), written k.before.before)
 
 policy-of-requires : tie.Need-policy-of-requires
 policy-of-requires c κs = search rules

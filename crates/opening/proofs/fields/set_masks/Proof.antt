@@ -5,19 +5,19 @@ use native.Mathlib.Omega.{arith}
 use borrow.Author.Rules.{rules}
 use lib.ListN.{length}
 use Rattle.layout.specs.Layout.{Keeps}
-use Rattle.tables.specs.Memory.{usersIn, tablesIn}
+use Rattle.tables.specs.Memory.{users_in, tables_in}
 use Rattle.tables.specs.Grants.{Found}
 use Rattle.tables.proofs.Held.{found_none}
-use Rattle.record.specs.Slots.{fieldsIn, masksIn, field_at, CanonicalFields}
+use Rattle.record.specs.Slots.{fields_in, masks_in, field_at, CanonicalFields}
 use Rattle.record.proofs.Masks.{masks-count}
-use Rattle.opening.proofs.Masks.{masksBelow, masks-more, masks-all}
+use Rattle.opening.proofs.Masks.{masks_below, masks-more, masks-all}
 use Rattle.opening.proofs.fields.set_masks.Statement.{statement}
 use Rattle.opening.proofs.fields.set_masks.Tie as tie
 
 abbrev invariant-loop : tie.invariant-loop
 invariant-loop tables table₀ n found₀ i₀ table found i =
-    (i ≤ n) × (fieldsIn table ≡ fieldsIn table₀) × (masksIn table ≡ masksBelow (tablesIn tables) (fieldsIn table₀) (masksIn table₀) i) × Keeps CanonicalFields table₀ table
-    × Found (usersIn tables) (field_at (i - 1) (fieldsIn table₀)).path found
+    (i ≤ n) × (fields_in table ≡ fields_in table₀) × (masks_in table ≡ masks_below (tables_in tables) (fields_in table₀) (masks_in table₀) i) × Keeps CanonicalFields table₀ table
+    × Found (users_in tables) (field_at (i - 1) (fields_in table₀)).path found
 
 abbrev decreases-loop : tie.decreases-loop
 decreases-loop tables table₀ n found₀ i₀ table found i = n - i
@@ -53,12 +53,12 @@ loop-again c =
     let l = t.before.loop in
     let n = t.before.before in
     let a = n.before.before.args in
-    let below : l.i < length (fieldsIn a.table.now) = omega (arith, t.loop-test.true, n.count.ensures) in
+    let below : l.i < length (fields_in a.table.now) = omega (arith, t.loop-test.true, n.count.ensures) in
     let (mask, found) = rw l.invariant.1 at r.mask_at.ensures in
     let (same, rest) = c.set-mask.ensures in (
       search rules,
       same.0 ∙ l.invariant.1,
-      same.1 ∙ rw l.invariant.2 (masks-more _ _ (masksIn a.table.now) (masks-count a.table.now) l.i below mask),
+      same.1 ∙ rw l.invariant.2 (masks-more _ _ (masks_in a.table.now) (masks-count a.table.now) l.i below mask),
       (λ h. rest.0 (l.invariant.3 h)),
       (let back : l.i + 1 - 1 ≡ l.i = omega arith in rw back found),
     )
@@ -67,7 +67,7 @@ returns : tie.Need-returns invariant-loop decreases-loop
 returns c =
     let l = c.before.loop in
     let s = c.before.before.before.before.args.table.now in
-    (l.invariant.1, (l.invariant.2 ∙ masks-all _ (fieldsIn s) (masksIn s) (masks-count s) l.i (search rules) (search rules), l.invariant.3))
+    (l.invariant.1, (l.invariant.2 ∙ masks-all _ (fields_in s) (masks_in s) (masks-count s) l.i (search rules) (search rules), l.invariant.3))
 
 pub set-masks-spec : {M : Type 1} → statement M
 set-masks-spec =

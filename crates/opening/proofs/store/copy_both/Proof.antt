@@ -1,7 +1,7 @@
 -- The users' rows into their part, and the policy's into the part behind it.
 use native.Mathlib.Omega.{arith}
 use lib.ListN.{length-take, length-drop}
-use Rattle.tables.specs.Memory.{usersBytes}
+use Rattle.tables.specs.Memory.{users_bytes}
 use Rattle.rows.proofs.Parts.{tail-part}
 use borrow.Author.Rules.{rules}
 use Rattle.opening.proofs.Stored.{both_stored}
@@ -43,7 +43,7 @@ part-copy-rows-end-2 c = search rules
 copy-rows-requires-2 : tie.Need-copy-rows-requires-2
 copy-rows-requires-2 c κs =
     let s = c.before.before.before.before.before.before.before.before.before in
-    ((omega arith, simp (length-take, length-drop) (omega (arith, s.requires.1))), search rules, rw (tail-part usersBytes s.args.from.now) s.requires.2.1.0)
+    ((omega arith, simp (length-take, length-drop) (omega (arith, s.requires.1))), search rules, rw (tail-part users_bytes s.args.from.now) s.requires.2.1.0)
 
 same_length : tie.Need-same-length
 same_length c = search rules
@@ -52,7 +52,7 @@ returns : tie.Need-returns
 returns c =
     let users = c.before.before.before.before.before.before.before in
     let s = users.before.before.before.before.before in
-    both_stored usersBytes s.args.from.now s.args.to.now _ _ (omega (arith, s.requires.1)) users.copy-rows.ensures c.before.before.copy-rows2.ensures
+    both_stored users_bytes s.args.from.now s.args.to.now _ _ (omega (arith, s.requires.1)) users.copy-rows.ensures c.before.before.copy-rows2.ensures
 
 pub copy-both-spec : {M : Type 1} → statement M
 copy-both-spec =

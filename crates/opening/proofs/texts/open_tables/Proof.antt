@@ -1,15 +1,15 @@
--- Each return answers what `openTables` says, in its order: the first text that is refused, a conflict in the policy, and the tables that the memory holds.
+-- Each return answers what `open_tables` says, in its order: the first text that is refused, a conflict in the policy, and the tables that the memory holds.
 use mathlib.Core.Path.{◌≡◌}
-use Rattle.tables.specs.Memory.{tablesIn, CanonicalTables}
+use Rattle.tables.specs.Memory.{tables_in, CanonicalTables}
 use Rattle.tables.proofs.Encoded.{tables-none}
 use Rattle.opening.proofs.Zeros.{no-tables}
-use Rattle.opening.proofs.TablesOpened.{noTables, users-refused, environments-refused, policy-refused, in-conflict, accepted}
+use Rattle.opening.proofs.TablesOpened.{no_tables, users-refused, environments-refused, policy-refused, in-conflict, accepted}
 use borrow.Author.Rules.{rules}
 use Rattle.opening.proofs.texts.open_tables.Statement.{statement}
 use Rattle.opening.proofs.texts.open_tables.Tie as tie
 
 -- memory of zeros holds no tables, and is written as these are
-start : (c : tie.After-read-table) → tablesIn c.before.before.before.before.before.args.tables.now ≡ noTables
+start : (c : tie.After-read-table) → tables_in c.before.before.before.before.before.args.tables.now ≡ no_tables
 start c = rw c.before.before.before.before.before.requires.1 no-tables
 
 -- so it is written as it means after each text

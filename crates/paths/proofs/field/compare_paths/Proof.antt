@@ -4,18 +4,18 @@ use mathlib.Core.Path.{◌≡◌, sym, ap, ◌∙◌}
 use mathlib.Core.List.{[]}
 use borrow.Author.Rules.{rules}
 use lib.ListN.{drop}
-use Rattle.model.specs.Fields.{and_then, lex, orderKey, orderPath}
+use Rattle.model.specs.Fields.{and_then, lex, order_key, order_path}
 use Rattle.lexical.specs.Orders.{order_of}
 use Rattle.lexical.specs.declared.slice.Order.{Order}
 use Rattle.lexical.proofs.Slices.{order_in, lex-shorter, lex-longer, lex-end}
 use Rattle.layout.proofs.Counts.{length-counted}
-use Rattle.paths.specs.Layout.{pathIn}
+use Rattle.paths.specs.Layout.{path_in}
 use Rattle.paths.proofs.Ordered.{paths-step}
 use Rattle.paths.proofs.field.compare_paths.Statement.{statement}
 use Rattle.paths.proofs.field.compare_paths.Tie as tie
 
 abbrev invariant-loop : tie.invariant-loop
-invariant-loop a b m n i₀ i = (i ≤ m) × (orderPath (pathIn a) (pathIn b) ≡ lex orderKey (drop i (pathIn a)) (drop i (pathIn b)))
+invariant-loop a b m n i₀ i = (i ≤ m) × (order_path (path_in a) (path_in b) ≡ lex order_key (drop i (path_in a)) (drop i (path_in b)))
 
 abbrev decreases-loop : tie.decreases-loop
 decreases-loop a b m n i₀ i = m - i
@@ -23,9 +23,9 @@ decreases-loop a b m n i₀ i = m - i
 -- a turn: the two keys decide, or what stands behind them
 turn : (c : tie.After-compare invariant-loop decreases-loop) {v : Order} → c.compare.result ≡ v
     → let i = c.before.before.before.before.before.loop.i in
-    let a = pathIn c.before.before.before.before.before.before.before.before.before.before.args.a.now in
-    let b = pathIn c.before.before.before.before.before.before.before.before.before.before.args.b.now in
-    orderPath a b ≡ and_then (order_in v) (lex orderKey (drop (i + 1) a) (drop (i + 1) b))
+    let a = path_in c.before.before.before.before.before.before.before.before.before.before.args.a.now in
+    let b = path_in c.before.before.before.before.before.before.before.before.before.before.args.b.now in
+    order_path a b ≡ and_then (order_in v) (lex order_key (drop (i + 1) a) (drop (i + 1) b))
 turn c told =
     let l = c.before.before.before.before.before.loop in
     l.invariant.1 ∙ paths-step _ _ l.i (search rules) (search rules) c.before.before.key-at.ensures c.before.key-at2.ensures c.compare.ensures told
@@ -37,14 +37,14 @@ count-requires-2 : tie.Need-count-requires-2 invariant-loop decreases-loop
 count-requires-2 c κs = search rules
 
 loop-holds : tie.Need-loop-init invariant-loop decreases-loop
-unfolding orderPath
+unfolding order_path
 loop-holds c = search rules
 
 returns : tie.Need-returns invariant-loop decreases-loop
-unfolding pathIn
+unfolding path_in
 returns c =
     let l = c.before.before.loop in
-    sym (ap order_of (l.invariant.1 ∙ lex-longer orderKey [] _ _ l.i (rw length-counted (search rules)) (rw length-counted (search rules))))
+    sym (ap order_of (l.invariant.1 ∙ lex-longer order_key [] _ _ l.i (rw length-counted (search rules)) (rw length-counted (search rules))))
 
 key-at-requires : tie.Need-key-at-requires invariant-loop decreases-loop
 key-at-requires c κs = search rules
@@ -83,16 +83,16 @@ unfolding and_then
 loop-again c = (search rules, turn c.before.before c.enum-told3.given.1)
 
 returns-4 : tie.Need-returns-4 invariant-loop decreases-loop
-unfolding pathIn
+unfolding path_in
 returns-4 c =
     let l = c.before.before.loop in
-    sym (ap order_of (l.invariant.1 ∙ lex-shorter orderKey [] _ _ l.i (rw length-counted (search rules)) (rw length-counted (search rules))))
+    sym (ap order_of (l.invariant.1 ∙ lex-shorter order_key [] _ _ l.i (rw length-counted (search rules)) (rw length-counted (search rules))))
 
 returns-5 : tie.Need-returns-5 invariant-loop decreases-loop
-unfolding pathIn
+unfolding path_in
 returns-5 c =
     let l = c.before.before.loop in
-    sym (ap order_of (l.invariant.1 ∙ lex-end orderKey [] _ _ l.i (rw length-counted (search rules)) (rw length-counted (search rules))))
+    sym (ap order_of (l.invariant.1 ∙ lex-end order_key [] _ _ l.i (rw length-counted (search rules)) (rw length-counted (search rules))))
 
 pub compare-paths-spec : {M : Type 1} → statement M
 compare-paths-spec =

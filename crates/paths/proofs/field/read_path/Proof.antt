@@ -2,12 +2,12 @@
 use Prim.Native.Nat.{◌-◌, ◌≤◌}
 use mathlib.Core.Path.{◌≡◌, refl, sym, ◌∙◌}
 use lib.ListN.{length, drop}
-use Rattle.model.specs.Paths.{readKeyStep, keys_of}
+use Rattle.model.specs.Paths.{read_key_step, keys_of}
 use Rattle.lexical.proofs.Runs.{byte-stands}
-use Rattle.paths.specs.Layout.{pathSlot, pathIn}
-use Rattle.layout.specs.Layout.{counted, keyRow, CanonicalName, CanonicalKeys}
+use Rattle.paths.specs.Layout.{path_slot, path_in}
+use Rattle.layout.specs.Layout.{counted, key_row, CanonicalName, CanonicalKeys}
 use Rattle.layout.proofs.Canonical.{canonical-uncounted}
-use Rattle.model.specs.Limits.{maxDepth}
+use Rattle.model.specs.Limits.{max_depth}
 use Rattle.paths.proofs.WholePaths.{left, path-unopened, path-opened, left-full, left-bad, left_end}
 use Rattle.paths.proofs.KeySteps.{KeyStands, key-bad, key-at, key-turn}
 use borrow.Author.Tests.{not-true, not-false}
@@ -18,7 +18,7 @@ use Rattle.paths.proofs.field.read_path.Tie as tie
 
 abbrev invariant-loop : tie.invariant-loop
 invariant-loop s slot₀ n₀ at₀ slot n at =
-    (at ≤ length s) × (length slot ≡ pathSlot) × (n ≡ length (pathIn slot)) × (keys_of s ≡ left readKeyStep (pathIn slot) (drop at s)) × CanonicalKeys maxDepth slot
+    (at ≤ length s) × (length slot ≡ path_slot) × (n ≡ length (path_in slot)) × (keys_of s ≡ left read_key_step (path_in slot) (drop at s)) × CanonicalKeys max_depth slot
 
 abbrev decreases-loop : tie.decreases-loop
 decreases-loop s slot₀ n₀ at₀ slot n at = length s - at
@@ -34,11 +34,11 @@ unfolding keys_of
 returns c = (c.no-path.ensures.0 ∙ sym (path-unopened _ _ (sym c.before.before.is_at.ensures ∙ not-true _ c.before.if1.true)), c.no-path.ensures.1)
 
 loop-holds : tie.Need-loop-init invariant-loop decreases-loop
-unfolding keys_of pathIn counted
+unfolding keys_of path_in counted
 loop-holds c =
     let s = c.before.before.before.args.s.now in
     let dollar = sym c.before.is_at.ensures ∙ not-false _ c.if1.false in
-    ((byte-stands 0x24 s 0 dollar).0, refl, refl, path-opened _ s dollar, canonical-uncounted (CanonicalName keyRow) keyRow maxDepth)
+    ((byte-stands 0x24 s 0 dollar).0, refl, refl, path-opened _ s dollar, canonical-uncounted (CanonicalName key_row) key_row max_depth)
 
 no-path-requires-2 : tie.Need-no-path-requires-2 invariant-loop decreases-loop
 no-path-requires-2 c κs = search rules
@@ -100,13 +100,13 @@ loop-less : tie.Need-loop-smaller invariant-loop decreases-loop
 loop-less c = omega (arith, stands c.before.before.before.before)
 
 loop-again : tie.Need-loop-preserved invariant-loop decreases-loop
-unfolding pathIn
+unfolding path_in
 loop-again c =
     let push = c.before.push-key in
     let k = c.before.before.before.before in
     let t = k.before.before.before.before in
     let l = t.before.before.loop in
-    let turn = key-turn _ _ _ (stands k) (pathIn l.slot) (pathIn push.new.0) push.ensures.0 l.n l.invariant.2 t.if2.false t.before.loop-test.true in
+    let turn = key-turn _ _ _ (stands k) (path_in l.slot) (path_in push.new.0) push.ensures.0 l.n l.invariant.2 t.if2.false t.before.loop-test.true in
     ((stands k).reads.to, push.auto.0 ∙ l.invariant.1, turn.0, l.invariant.3 ∙ turn.1, push.ensures.1 l.invariant.4)
 
 returns-4 : tie.Need-returns-4 invariant-loop decreases-loop

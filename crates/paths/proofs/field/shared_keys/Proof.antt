@@ -3,14 +3,14 @@ use Prim.Native.Nat.{◌-◌, ◌≤◌}
 use mathlib.Core.Path.{◌≡◌, sym, ◌∙◌}
 use borrow.Author.Rules.{rules}
 use borrow.Author.Tests.{not-true, not-false}
-use Rattle.paths.specs.Layout.{pathIn}
+use Rattle.paths.specs.Layout.{path_in}
 use Rattle.paths.specs.Fields.{shared}
-use Rattle.paths.proofs.Shared.{sharedFrom, shared-first-over, shared-second-over, shared_step, shared-stop}
+use Rattle.paths.proofs.Shared.{shared_from, shared-first-over, shared-second-over, shared_step, shared-stop}
 use Rattle.paths.proofs.field.shared_keys.Statement.{statement}
 use Rattle.paths.proofs.field.shared_keys.Tie as tie
 
 abbrev invariant-loop : tie.invariant-loop
-invariant-loop a b m n i₀ i = (i ≤ m) × (shared (pathIn a) (pathIn b) ≡ sharedFrom i a b)
+invariant-loop a b m n i₀ i = (i ≤ m) × (shared (path_in a) (path_in b) ≡ shared_from i a b)
 
 abbrev decreases-loop : tie.decreases-loop
 decreases-loop a b m n i₀ i = m - i

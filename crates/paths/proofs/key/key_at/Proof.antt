@@ -1,6 +1,6 @@
 -- The row is the i-th, and the name in it the key.
 use mathlib.Core.Path.{ap, ◌∙◌}
-use Rattle.layout.specs.Layout.{nameIn}
+use Rattle.layout.specs.Layout.{name_in}
 use borrow.Author.Rules.{rules}
 use Rattle.paths.proofs.key.key_at.Statement.{statement}
 use Rattle.paths.proofs.key.key_at.Tie as tie
@@ -12,7 +12,7 @@ name-requires : tie.Need-name-requires
 name-requires c κs = search rules
 
 returns : tie.Need-returns
-returns c = c.name.ensures ∙ ap nameIn c.before.row-at.ensures.0
+returns c = c.name.ensures ∙ ap name_in c.before.row-at.ensures.0
 
 pub key-at-spec : {M : Type 1} → statement M
 key-at-spec = tie.close (tie.spec row-at-requires name-requires returns)

@@ -1,8 +1,8 @@
 -- The key is written into a row, as much of it as there is room for, and the row put behind the others.
 use mathlib.Core.Path.{refl, ◌∙◌}
 use lib.ListN.{replicate}
-use Rattle.model.specs.Limits.{maxKey}
-use Rattle.layout.specs.Layout.{nameIn, keyRow, CanonicalName}
+use Rattle.model.specs.Limits.{max_key}
+use Rattle.layout.specs.Layout.{name_in, key_row, CanonicalName}
 use Rattle.layout.proofs.Counts.{counted-pushed}
 use Rattle.layout.proofs.Named.{named}
 use Rattle.layout.proofs.Canonical.{name-canonical, canonical-counted}
@@ -30,10 +30,10 @@ returns c =
     let push = c.before.before in
     let put = push.before.before.before.before in
     let s = put.before.before.before.before in
-    let key = named maxKey s.args.key.now (replicate keyRow 0) refl put.put-name.ensures in
-    let is = name-canonical maxKey s.args.key.now (replicate keyRow 0) refl put.put-name.ensures in (
-      counted-pushed nameIn keyRow _ s.args.slot.now _ _ push.push_row.ensures.0 ∙ rw key.is,
-      canonical-counted (CanonicalName keyRow) keyRow s.args.most is push.push_row.ensures.0 push.push_row.ensures.1,
+    let key = named max_key s.args.key.now (replicate key_row 0) refl put.put-name.ensures in
+    let is = name-canonical max_key s.args.key.now (replicate key_row 0) refl put.put-name.ensures in (
+      counted-pushed name_in key_row _ s.args.slot.now _ _ push.push_row.ensures.0 ∙ rw key.is,
+      canonical-counted (CanonicalName key_row) key_row s.args.most is push.push_row.ensures.0 push.push_row.ensures.1,
     )
 
 pub push-key-spec : {M : Type 1} → statement M

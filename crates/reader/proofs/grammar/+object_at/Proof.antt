@@ -10,12 +10,12 @@ use Rattle.rows.specs.Positions.{Reads, placed}
 use Rattle.model.specs.Base.{Bytes}
 use Rattle.model.specs.RecordText.{Node, Members, member, count, twice}
 use Rattle.values.proofs.Values.{told}
-use Rattle.reader.specs.Tokens.{readToken, mapped}
-use Rattle.reader.specs.Summaries.{summary, objectAnswer, FieldsWithin}
+use Rattle.reader.specs.Tokens.{read_token, mapped}
+use Rattle.reader.specs.Summaries.{summary, object_answer, FieldsWithin}
 use Rattle.reader.proofs.Spaced.{token-moves, open-stands, close-stands, comma-stands, no-open, no-close, no-comma, key-bad, MemberStands, member-stands}
 use Rattle.reader.proofs.Mapped.{mapped-is, mapped-bad, mapped-reads}
 use Rattle.reader.proofs.Objects.{read_node, leaves-node, leaves-object, node-leaf, node-mapped, Left, object-none, object-unopened, left-start, left-no-member, left-no-value, left-unclosed, left-last, left-again}
-use Rattle.reader.proofs.Sums.{Sums, nodeSummary, sums-start, sums_on, sums-room, sums_kept, sums-more, within-earlier}
+use Rattle.reader.proofs.Sums.{Sums, node_summary, sums-start, sums_on, sums-room, sums_kept, sums-more, within-earlier}
 use borrow.Author.Rules.{rules}
 use borrow.Fn.Kinds.{In}
 use borrow.Fn.PlainCycle.{Measures, is, falls, and}
@@ -155,11 +155,11 @@ module _ (t : ℕ) where
   held : (c : lts.At-match3-branch claims asked object-at.Post invariant-loop decreases-loop)
       → let k = c.before.before.before.before.before.before in
       let l = (head k).loop in
-      (objectAnswer c.match3.got ≡ placed (mapped nodeSummary (read_node ((start k).args.depth - 1))) (text k) (value k))
+      (object_answer c.match3.got ≡ placed (mapped node_summary (read_node ((start k).args.depth - 1))) (text k) (value k))
       × FieldsWithin l.i c.match3.got
       × (length c.match3.keys ≡ length (start k).args.keys.now)
       × (take (l.n + 1) c.match3.keys ≡ take (l.n + 1) (set l.keys l.n (from k)))
-  unfolding nodeSummary summary count twice
+  unfolding node_summary summary count twice
   held c =
       let noted = c.before.before.before.before.note-key in
       let key = stands c.before.before.before.before.before.before in
@@ -168,13 +168,13 @@ module _ (t : ℕ) where
       let long = noted.auto.1.1.1.0 ∙ l.inv.2.long in
       ⊎_elim
       (λ w. let node = node-leaf _ _ _ _ leaf key.reads.to _ _ w.1.given.1 in (
-        ap objectAnswer w.4 ∙ mapped-is nodeSummary (read_node _) _ _ _ _ node,
+        ap object_answer w.4 ∙ mapped-is node_summary (read_node _) _ _ _ _ node,
         rw w.4 (omega (arith, key.quote, key.least, key.colon, node.from)),
         ap length w.3 ∙ long,
         ap (take (l.n + 1)) (w.3 ∙ noted.ensures.1),
       ))
       (λ w. (
-        ap objectAnswer w.7 ∙ w.3.ensures.0 ∙ node-mapped _ _ _ _ leaf w.1.given.1 nodeSummary,
+        ap object_answer w.7 ∙ w.3.ensures.0 ∙ node-mapped _ _ _ _ leaf w.1.given.1 node_summary,
         rw w.7 (within-earlier _ _ key.reads.from w.3.result w.3.ensures.1.0),
         ap length w.6 ∙ w.3.kept.1.1.1.0 ∙ long,
         ap (take (l.n + 1)) w.6 ∙ w.3.ensures.1.1 ∙ ap (take (l.n + 1)) noted.ensures.1,
@@ -195,7 +195,7 @@ module _ (t : ℕ) where
       let h = held c.before.before in
       let k = c.before.before.before.before.before.before.before.before in
       let l = (head k).loop.invariant in (
-        left-no-value _ _ _ _ _ l.1 _ _ (stands k).reads _ (mapped-bad nodeSummary (read_node _) _ _ (told objectAnswer h.0 c.enum-told3.given.1)),
+        left-no-value _ _ _ _ _ l.1 _ _ (stands k).reads _ (mapped-bad node_summary (read_node _) _ _ (told object_answer h.0 c.enum-told3.given.1)),
         (tt, sums_kept _ _ _ _ _ _ _ _ _ _ l.2 _ _ h.3),
       )
 
@@ -217,8 +217,8 @@ module _ (t : ℕ) where
   node-stands b =
       let k = key b in
       let h = held b.before.before.before in
-      let read = told objectAnswer h.0 b.before.got.given.1 in
-      let (node, reads, is) = mapped-reads nodeSummary (read_node _) _ _ (leaves-node _ (leaves-object _)) (stands k).reads.to _ _ read in (
+      let read = told object_answer h.0 b.before.got.given.1 in
+      let (node, reads, is) = mapped-reads node_summary (read_node _) _ _ (leaves-node _ (leaves-object _)) (stands k).reads.to _ _ read in (
         node,
         reads,
         sums-more _ _ _ _ _ _ _ _ _ _ (head k).loop.inv.2 (start k).pre.1.2 _ _ _ (stands k) _ b.before.before.before.before.before.before.before.note-key.ensures.0
@@ -268,7 +268,7 @@ module _ (t : ℕ) where
 
   -- a comma stands where `token_at` says
   comma : (c : lts.After-known-told5 claims asked object-at.Post invariant-loop decreases-loop)
-      → let b = c.before.before.before.before in Reads (readToken 0x2C) (text (key b)) b.before.got.given.0.0 tt c.before.token.given.0.0
+      → let b = c.before.before.before.before in Reads (read_token 0x2C) (text (key b)) b.before.got.given.0.0 tt c.before.token.given.0.0
   comma c = comma-stands _ _ _ c.before.before.before.token-at2.ensures (node-stands c.before.before.before.before).1.to _ c.before.token.given.1
 
   loop-less : lts.Need-loop-smaller claims asked object-at.Post invariant-loop decreases-loop

@@ -4,8 +4,8 @@ use Rattle.rows.proofs.Positions.{run-within}
 use Rattle.model.specs.RecordText.{Members}
 use mathlib.Core.Path.{◌≡◌}
 use Rattle.values.proofs.Values.{told}
-use Rattle.reader.specs.Tokens.{readTop}
-use Rattle.reader.specs.Summaries.{summary, objectAnswer}
+use Rattle.reader.specs.Tokens.{read_top}
+use Rattle.reader.specs.Summaries.{summary, object_answer}
 use Rattle.reader.proofs.Mapped.{mapped-bad, mapped-reads}
 use Rattle.reader.proofs.Tops.{leaves-top, tree-none, tree-behind, tree_is}
 use Rattle.reader.proofs.Readings.{reading-none, reading-twice, reading-fields}
@@ -26,16 +26,16 @@ enum_told : tie.Need-enum-told
 enum_told c = search rules
 
 returns : tie.Need-returns
-returns c = reading-none _ (tree-none _ _ c.before.before.before.run.ensures (mapped-bad summary readTop _ _ (told objectAnswer c.before.before.top-at.ensures c.enum_told.given.1)))
+returns c = reading-none _ (tree-none _ _ c.before.before.before.run.ensures (mapped-bad summary read_top _ _ (told object_answer c.before.before.top-at.ensures c.enum_told.given.1)))
 
 -- the object stands where `top_at` says, and has so many fields
 top : (c : tie.After-known-told)
     → let r = c.before.before.before.before in
     let got = c.before.e.given.0 in
-    (m : Members) × Reads readTop r.before.before.args.s.now r.run.result m got.0 × (summary m ≡ (got.1.0, got.1.1.0))
+    (m : Members) × Reads read_top r.before.before.args.s.now r.run.result m got.0 × (summary m ≡ (got.1.0, got.1.1.0))
 top c =
     let r = c.before.before.before.before in
-    mapped-reads summary readTop _ _ leaves-top (run-within _ _ _ _ r.run.ensures (search rules)).1 _ _ (told objectAnswer c.before.before.before.top-at.ensures c.before.e.given.1)
+    mapped-reads summary read_top _ _ leaves-top (run-within _ _ _ _ r.run.ensures (search rules)).1 _ _ (told object_answer c.before.before.before.top-at.ensures c.before.e.given.1)
 
 returns-2 : tie.Need-returns-2
 returns-2 c =

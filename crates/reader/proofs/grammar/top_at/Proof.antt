@@ -1,9 +1,9 @@
 -- An object whose closing brace stands right behind the opening one is empty; any other has members.
 use mathlib.Core.Path.{◌≡◌, ◌∙◌}
 use Rattle.rows.specs.Positions.{Reads, placed}
-use Rattle.model.specs.Limits.{maxDepth}
-use Rattle.model.specs.RecordText.{readObject, count, twice}
-use Rattle.reader.specs.Tokens.{readToken, mapped, readTop}
+use Rattle.model.specs.Limits.{max_depth}
+use Rattle.model.specs.RecordText.{read_object, count, twice}
+use Rattle.reader.specs.Tokens.{read_token, mapped, read_top}
 use Rattle.reader.specs.Summaries.{summary}
 use Rattle.reader.proofs.Spaced.{open-stands, close-stands, no-open, no-close}
 use Rattle.reader.proofs.Tops.{top-unopened, top-empty, top-object}
@@ -22,7 +22,7 @@ returns c = top-unopened _ _ _ (no-open _ _ c.before.token-at.result c.before.to
 
 -- the brace stands where `token_at` says
 opened : (c : tie.After-known-told)
-    → let a = c.before.before.before.before.before.args in Reads (readToken 0x7B) a.s.now a.at tt c.before.«open».given.0.0
+    → let a = c.before.before.before.before.before.args in Reads (read_token 0x7B) a.s.now a.at tt c.before.«open».given.0.0
 opened c = open-stands _ _ _ c.before.before.before.token-at.ensures (search rules) _ c.before.«open».given.1
 
 token-at-requires-2 : tie.Need-token-at-requires-2
@@ -40,7 +40,7 @@ returns-2 c =
 -- no brace closes it there, so that it has members
 with-members : (c : tie.At-match2-keys2)
     → let a = c.before.before.before.before.before.before.before.args in
-    placed (mapped summary (readObject maxDepth)) a.s.now a.at ≡ placed (mapped summary readTop) a.s.now a.at
+    placed (mapped summary (read_object max_depth)) a.s.now a.at ≡ placed (mapped summary read_top) a.s.now a.at
 with-members c =
     let token = c.before.token-at2 in
     top-object _ _ _ _ (opened c.before.before) (no-close _ _ token.result token.ensures c.match2.keys2)

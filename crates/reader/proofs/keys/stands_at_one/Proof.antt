@@ -4,14 +4,14 @@ use mathlib.Core.Logic.{⊎_elim}
 use mathlib.Core.Path.{◌≡◌, refl, sym, ◌∙◌}
 use native.Mathlib.Omega.{arith}
 use lib.ListN.{length, drop}
-use Rattle.reader.specs.Summaries.{standsAtOne}
+use Rattle.reader.specs.Summaries.{stands_at_one}
 use Rattle.reader.proofs.Standing.{stands-step, stands-past, stands-over}
 use borrow.Author.Rules.{rules}
 use Rattle.reader.proofs.keys.stands_at_one.Statement.{statement}
 use Rattle.reader.proofs.keys.stands_at_one.Tie as tie
 
 abbrev invariant-loop : tie.invariant-loop
-invariant-loop w s at i₀ i = (i ≤ length at) × (standsAtOne w s at ≡ standsAtOne w s (drop i at))
+invariant-loop w s at i₀ i = (i ≤ length at) × (stands_at_one w s at ≡ stands_at_one w s (drop i at))
 
 abbrev decreases-loop : tie.decreases-loop
 decreases-loop w s at i₀ i = length at - i

@@ -2,7 +2,7 @@
 use native.Mathlib.Omega.{arith}
 use Rattle.rows.specs.Positions.{Reads}
 use Rattle.model.specs.Base.{Bytes}
-use Rattle.model.specs.RecordText.{readKey}
+use Rattle.model.specs.RecordText.{read_key}
 use Rattle.reader.proofs.Spaced.{key-leaves, token-moves, colon-stands, no-colon, key-bad, key_reads, member-no-key, member-no-colon, member_is}
 use borrow.Author.Rules.{rules}
 use Rattle.reader.proofs.tokens.member_at.Statement.{statement}
@@ -22,7 +22,7 @@ returns c = (member-no-key _ _ (key-bad _ _ _ _ c.before.before.key-at.ensures.0
 
 -- the key stands where `key_at` says
 key : (c : tie.After-known-told)
-    → let a = c.before.before.before.before.before.args in (name : Bytes) × Reads readKey a.s.now a.at name c.before.from.given.0.1.1.0
+    → let a = c.before.before.before.before.before.args in (name : Bytes) × Reads read_key a.s.now a.at name c.before.from.given.0.1.1.0
 key c = (_, key_reads _ _ _ _ c.before.before.before.key-at.ensures.0 key-leaves (search rules) _ _ _ c.before.from.given.1)
 
 token-at-requires : tie.Need-token-at-requires

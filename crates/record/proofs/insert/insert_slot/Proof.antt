@@ -2,25 +2,25 @@
 use native.Mathlib.Omega.{arith}
 use Prim.Native.Nat.{◌+◌, ◌*◌, ◌≤◌}
 use lib.ListN.{length, length-take, length-drop}
-use Rattle.model.specs.Limits.{maxFields}
+use Rattle.model.specs.Limits.{max_fields}
 use Rattle.layout.specs.Layout.{Holds}
 use Rattle.layout.proofs.Changed.{moved-room, inserted-used, bytes-inserted}
-use Rattle.record.specs.Slots.{slotBytes}
+use Rattle.record.specs.Slots.{slot_bytes}
 use borrow.Author.Rules.{rules}
 use Rattle.record.proofs.insert.insert_slot.Statement.{statement}
 use Rattle.record.proofs.insert.insert_slot.Tie as tie
 
-holds : (c : tie.Start) → Holds slotBytes maxFields c.args.table.now
+holds : (c : tie.Start) → Holds slot_bytes max_fields c.args.table.now
 holds c = (omega arith, omega arith)
 
 -- the slot has room before the end, which lies in the table
 room : (c : tie.After-moved-end) → let a = c.before.before.before.before.args in
-    (a.i * slotBytes + slotBytes ≤ c.moved-end.result) × (c.moved-end.result ≤ length a.table.now)
+    (a.i * slot_bytes + slot_bytes ≤ c.moved-end.result) × (c.moved-end.result ≤ length a.table.now)
 room c =
     let s = c.before.before.before.before in
     let a = s.args in
     let p = s.requires.0 in
-    rw c.moved-end.ensures (moved-room slotBytes maxFields a.i a.slot.now a.table.now (holds s) p.1 p.2 s.requires.1.0 s.requires.1.1)
+    rw c.moved-end.ensures (moved-room slot_bytes max_fields a.i a.slot.now a.table.now (holds s) p.1 p.2 s.requires.1.0 s.requires.1.1)
 
 mul-start : tie.Need-overflow-mul-start
 mul-start c = search rules
@@ -52,8 +52,8 @@ returns c =
     let s = m.before.before.before.before in
     let a = s.args in
     let p = s.requires.0 in
-    let is = bytes-inserted slotBytes maxFields a.i a.slot.now a.table.now (holds s) p.1 p.2 s.requires.1.0 s.requires.1.1 m.moved-end.ensures put.put-before.ensures in
-    (rw is (inserted-used slotBytes maxFields a.i a.slot.now a.table.now (holds s) p.1 p.2 s.requires.1.0 s.requires.1.1), is)
+    let is = bytes-inserted slot_bytes max_fields a.i a.slot.now a.table.now (holds s) p.1 p.2 s.requires.1.0 s.requires.1.1 m.moved-end.ensures put.put-before.ensures in
+    (rw is (inserted-used slot_bytes max_fields a.i a.slot.now a.table.now (holds s) p.1 p.2 s.requires.1.0 s.requires.1.1), is)
 
 pub insert-slot-spec : {M : Type 1} → statement M
 insert-slot-spec =

@@ -3,20 +3,20 @@ use mathlib.Core.Path.{◌≡◌, sym, ap, ◌∙◌}
 use native.Mathlib.Omega.{arith}
 use lib.ListN.{length, take}
 use lib.Seq.{take_all}
-use Rattle.paths.specs.Layout.{pathSlot}
-use Rattle.record.specs.Slots.{slotBytes}
+use Rattle.paths.specs.Layout.{path_slot}
+use Rattle.record.specs.Slots.{slot_bytes}
 use Rattle.record.proofs.Slots.{slot-long, filled}
 use borrow.Author.Rules.{rules}
 use Rattle.record.proofs.slot.fill.Statement.{statement}
 use Rattle.record.proofs.slot.fill.Tie as tie
 
 -- as long as the zeros are
-long : (s : tie.Start) → length s.args.slot.now ≡ slotBytes
+long : (s : tie.Start) → length s.args.slot.now ≡ slot_bytes
 long s = ap length s.requires.0
 
 -- the path is as long as what is written of it
-whole : (s : tie.Start) → take pathSlot s.args.path.now ≡ s.args.path.now
-whole s = take_all pathSlot s.args.path.now (omega (arith, s.requires.1))
+whole : (s : tie.Start) → take path_slot s.args.path.now ≡ s.args.path.now
+whole s = take_all path_slot s.args.path.now (omega (arith, s.requires.1))
 
 sub-copy : tie.Need-overflow-sub-copy
 sub-copy c = search rules

@@ -1,6 +1,6 @@
 -- What stands behind the path.
 use Rattle.rows.proofs.Parts.{tail-part}
-use Rattle.record.specs.Slots.{maskIn}
+use Rattle.record.specs.Slots.{mask_in}
 use borrow.Author.Rules.{rules}
 use Rattle.record.proofs.slot.mask_of.Statement.{statement}
 use Rattle.record.proofs.slot.mask_of.Tie as tie
@@ -18,7 +18,7 @@ decode-mask-requires : tie.Need-decode-mask-requires
 decode-mask-requires c κs = search rules
 
 returns : tie.Need-returns
-unfolding maskIn
+unfolding mask_in
 returns c = rw (tail-part) at c.decode-mask.ensures
 
 pub mask-of-spec : {M : Type 1} → statement M

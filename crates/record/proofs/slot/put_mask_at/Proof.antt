@@ -2,7 +2,7 @@
 use Prim.Native.Nat.{◌+◌, ◌*◌, ◌-◌}
 use mathlib.Core.Path.{◌≡◌}
 use native.Mathlib.Omega.{arith}
-use Rattle.record.specs.Slots.{slotBytes}
+use Rattle.record.specs.Slots.{slot_bytes}
 use Rattle.record.proofs.Stores.{fields_fit}
 use borrow.Author.Rules.{rules}
 use Rattle.record.proofs.slot.put_mask_at.Statement.{statement}
@@ -33,7 +33,7 @@ returns : tie.Need-returns
 returns c =
     let p = c.before.before in
     let i = p.before.before.before.args.i in
-    let size : i * slotBytes + slotBytes - i * slotBytes ≡ slotBytes = omega arith in
+    let size : i * slot_bytes + slot_bytes - i * slot_bytes ≡ slot_bytes = omega arith in
     rw (p.put-mask.ensures, size)
 
 pub put-mask-at-spec : {M : Type 1} → statement M

@@ -4,14 +4,14 @@ use mathlib.Core.Path.{◌≡◌, sym, ap, ◌∙◌}
 use native.Mathlib.Omega.{arith}
 use lib.ListN.{length, drop}
 use Rattle.rows.proofs.Positions.{over}
-use Rattle.model.specs.Limits.{maxFields}
+use Rattle.model.specs.Limits.{max_fields}
 use borrow.Author.Rules.{rules}
 use Rattle.model.specs.Fields.{by_order}
 use Rattle.lexical.specs.declared.slice.Order.{Order}
 use Rattle.lexical.proofs.Slices.{order_in}
-use Rattle.paths.specs.Layout.{pathIn}
+use Rattle.paths.specs.Layout.{path_in}
 use Rattle.record.specs.declared.table.Place.TheVariants.{At, Before}
-use Rattle.record.specs.Slots.{fieldsIn}
+use Rattle.record.specs.Slots.{fields_in}
 use Rattle.record.specs.Search.{place_in}
 use Rattle.record.proofs.Stores.{fields_fit}
 use Rattle.record.proofs.Search.{fields-last, fields-more, place-step}
@@ -19,17 +19,17 @@ use Rattle.record.proofs.table.find.Statement.{statement}
 use Rattle.record.proofs.table.find.Tie as tie
 
 abbrev invariant-loop : tie.invariant-loop
-invariant-loop table path i₀ i = (i ≤ length (fieldsIn table)) × (place_in 0 (pathIn path) (fieldsIn table) ≡ place_in i (pathIn path) (drop i (fieldsIn table)))
+invariant-loop table path i₀ i = (i ≤ length (fields_in table)) × (place_in 0 (path_in path) (fields_in table) ≡ place_in i (path_in path) (drop i (fields_in table)))
 
 abbrev decreases-loop : tie.decreases-loop
-decreases-loop table path i₀ i = maxFields - i
+decreases-loop table path i₀ i = max_fields - i
 
 -- a turn: the slot's path decides, or what stands behind it
 turn : (c : tie.After-compare-paths invariant-loop decreases-loop) {v : Order} → c.compare-paths.result ≡ v
     → let i = c.before.before.before.before.before.loop.i in
     let a = c.before.before.before.before.before.before.before.before.args in
-    place_in 0 (pathIn a.path.now) (fieldsIn a.table.now)
-    ≡ by_order (order_in v) (Before i) (At i) (place_in (i + 1) (pathIn a.path.now) (drop (i + 1) (fieldsIn a.table.now)))
+    place_in 0 (path_in a.path.now) (fields_in a.table.now)
+    ≡ by_order (order_in v) (Before i) (At i) (place_in (i + 1) (path_in a.path.now) (drop (i + 1) (fields_in a.table.now)))
 turn c told =
     let l = c.before.before.before.before.before.loop in
     let full = sym c.before.before.is-empty.ensures ∙ c.before.if1.false in

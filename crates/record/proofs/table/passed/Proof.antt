@@ -3,20 +3,20 @@ use Prim.Native.Nat.{◌-◌}
 use mathlib.Core.Path.{refl, sym, ◌∙◌}
 use borrow.Author.Tests.{not-false}
 use borrow.Author.Rules.{rules}
-use Rattle.model.specs.Limits.{maxFields}
-use Rattle.paths.specs.Layout.{pathIn}
+use Rattle.model.specs.Limits.{max_fields}
+use Rattle.paths.specs.Layout.{path_in}
 use Rattle.paths.proofs.Ordered.{paths-behind}
-use Rattle.record.specs.Slots.{fieldsIn}
+use Rattle.record.specs.Slots.{fields_in}
 use Rattle.record.specs.Search.{SearchedTo}
 use Rattle.record.proofs.Search.{searched-on}
 use Rattle.record.proofs.table.passed.Statement.{statement}
 use Rattle.record.proofs.table.passed.Tie as tie
 
 abbrev invariant-loop : tie.invariant-loop
-invariant-loop table path first i₀ i = SearchedTo i (pathIn path) (fieldsIn table)
+invariant-loop table path first i₀ i = SearchedTo i (path_in path) (fields_in table)
 
 abbrev decreases-loop : tie.decreases-loop
-decreases-loop table path first i₀ i = maxFields - i
+decreases-loop table path first i₀ i = max_fields - i
 
 is-empty-requires : tie.Need-is-empty-requires invariant-loop decreases-loop
 is-empty-requires c κs = search rules

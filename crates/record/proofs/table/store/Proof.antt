@@ -1,6 +1,6 @@
 -- An empty slot changes nothing; the field of another is stored where the search ends.
 use mathlib.Core.Path.{sym, ◌∙◌}
-use Rattle.record.specs.Search.{storedSlot}
+use Rattle.record.specs.Search.{stored_slot}
 use Rattle.record.proofs.Stores.{none-stored}
 use Rattle.record.proofs.Canonical.{canonical-stored}
 use borrow.Author.Rules.{rules}
@@ -11,7 +11,7 @@ is-empty-requires : tie.Need-is-empty-requires
 is-empty-requires c κs = search rules
 
 returns : tie.Need-returns
-unfolding storedSlot
+unfolding stored_slot
 returns c =
     let none = sym c.before.is-empty.ensures ∙ c.if1.true in
     (none-stored _ _ none, (λ is h. h, rw none))
@@ -26,7 +26,7 @@ store-at-requires c κs =
     (sym i.before.is-empty.ensures ∙ i.if1.false, f.find.ensures)
 
 returns-2 : tie.Need-returns-2
-unfolding storedSlot
+unfolding stored_slot
 returns-2 c =
     let f = c.before.before in
     let i = f.before.before.before in

@@ -1,14 +1,14 @@
 -- The field is written or put in where the search ended; behind the last place nothing changes.
 use mathlib.Core.Path.{sym, ◌∙◌}
 use native.Mathlib.Omega.{arith}
-use Rattle.model.specs.Limits.{maxFields}
+use Rattle.model.specs.Limits.{max_fields}
 use Rattle.layout.proofs.Changed.{table-set, table-inserted}
-use Rattle.record.specs.Slots.{slotBytes, fieldIn, maskIn, fieldsIn, masksIn}
+use Rattle.record.specs.Slots.{slot_bytes, field_in, mask_in, fields_in, masks_in}
 use Rattle.record.proofs.Places.{at-below, before-within}
 use Rattle.record.proofs.Search.{fields-used}
 use Rattle.record.proofs.Masks.{past-masks}
 use Rattle.record.proofs.Stores.{at_stored, before-stored, past-stored}
-use Rattle.record.specs.Search.{storedBytes, storedMasks}
+use Rattle.record.specs.Search.{stored_bytes, stored_masks}
 use borrow.Author.Rules.{rules}
 use borrow.Author.Tests.{lt-ltb, le-ltb}
 use Rattle.record.proofs.table.store_at.Statement.{statement}
@@ -35,32 +35,32 @@ insert-slot-requires c κs =
     ((search rules, search rules, s.requires.0), (search rules, omega (arith, fields-used s.args.table.now)))
 
 returns : tie.Need-returns
-unfolding fieldsIn masksIn storedBytes storedMasks
+unfolding fields_in masks_in stored_bytes stored_masks
 returns c =
     let a = c.before.before.before.before.place.given in
     let s = c.before.before.before.before.before.before in
     let (used, bytes) = c.replace-row.ensures in (
-      table-set fieldIn slotBytes maxFields s.args.table.now _ s.args.slot.now a.0.0 used
+      table-set field_in slot_bytes max_fields s.args.table.now _ s.args.slot.now a.0.0 used
           ∙ at_stored _ _ a.0.0 s.requires.0 (sym s.requires.1 ∙ a.1),
-      (rw a.1 (table-set maskIn slotBytes maxFields s.args.table.now _ s.args.slot.now a.0.0 used), bytes ∙ rw a.1),
+      (rw a.1 (table-set mask_in slot_bytes max_fields s.args.table.now _ s.args.slot.now a.0.0 used), bytes ∙ rw a.1),
     )
 
 returns-2 : tie.Need-returns-2
-unfolding fieldsIn masksIn storedBytes storedMasks
+unfolding fields_in masks_in stored_bytes stored_masks
 returns-2 c =
     let a = c.before.before.before.before.before.place2.given in
     let s = c.before.before.before.before.before.before.before in
     let (used, bytes) = c.insert-slot.ensures in (
-      table-inserted fieldIn slotBytes maxFields s.args.table.now _ s.args.slot.now a.0.0 used
+      table-inserted field_in slot_bytes max_fields s.args.table.now _ s.args.slot.now a.0.0 used
           ∙ before-stored _ _ a.0.0 s.requires.0 (sym s.requires.1 ∙ a.1),
       (
-        rw a.1 (table-inserted maskIn slotBytes maxFields s.args.table.now _ s.args.slot.now a.0.0 used),
+        rw a.1 (table-inserted mask_in slot_bytes max_fields s.args.table.now _ s.args.slot.now a.0.0 used),
         bytes ∙ rw (a.1, lt-ltb _ _ c.before.before.before.if1.true),
       ),
     )
 
 returns-3 : tie.Need-returns-3
-unfolding storedBytes
+unfolding stored_bytes
 returns-3 c =
     let a = c.before.before.place2.given in
     let s = c.before.before.before.before in

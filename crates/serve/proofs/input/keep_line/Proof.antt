@@ -5,7 +5,7 @@ use native.Mathlib.Omega.{arith}
 use borrow.Author.Rules.{rules}
 use borrow.Author.Tests.{ltb-true, ltb-false}
 use lib.ListN.{length, take, drop}
-use Rattle.rows.specs.Moves.{spliced, movedEarlier}
+use Rattle.rows.specs.Moves.{spliced, moved_earlier}
 use Rattle.serve.proofs.Kept.{keep-step, keep-end}
 use Rattle.serve.proofs.input.keep_line.Statement.{statement}
 use Rattle.serve.proofs.input.keep_line.Tie as tie
@@ -15,7 +15,7 @@ use Rattle.serve.proofs.input.keep_line.Lts as lts
 abbrev invariant-loop : tie.invariant-loop
 invariant-loop input₀ from to n₀ input n =
     (n ≤ 257) × (from + n ≤ to) × (length input ≡ length input₀)
-    × (input ≡ spliced n (movedEarlier from input₀) input₀)
+    × (input ≡ spliced n (moved_earlier from input₀) input₀)
 
 abbrev decreases-loop : tie.decreases-loop
 decreases-loop input₀ from to n₀ input n = to - (from + n)

@@ -4,7 +4,7 @@ use native.Mathlib.Omega.{arith}
 use Rattle.record.proofs.Places.{at-below}
 use Rattle.record.proofs.Stores.{fields_fit}
 use Rattle.record.proofs.Masks.{mask-slot}
-use Rattle.server.specs.Masked.{maskAt}
+use Rattle.server.specs.Masked.{mask_at}
 use borrow.Author.Rules.{rules}
 use Rattle.server.proofs.request.mask_for.Statement.{statement}
 use Rattle.server.proofs.request.mask_for.Tie as tie
@@ -27,7 +27,7 @@ readers-requires : tie.Need-readers-requires
 readers-requires c κs = search rules
 
 returns : tie.Need-returns
-unfolding maskAt
+unfolding mask_at
 returns c =
     let l = c.before.before.before in
     let s = l.before.before in
@@ -36,7 +36,7 @@ returns c =
     rw is (c.mask-of.ensures ∙ mask-slot s.args.fields.now _ c.before.slot_at.ensures.0 below)
 
 returns-2 : tie.Need-returns-2
-unfolding maskAt
+unfolding mask_at
 returns-2 c = rw c.before.before.enum_told.given.1 c.readers.ensures
 
 pub mask-for-spec : {M : Type 1} → statement M

@@ -4,7 +4,7 @@ use native.Mathlib.Omega.{arith}
 use borrow.Author.Rules.{rules}
 use lib.ListN.{length}
 use Rattle.model.specs.Serving.{room_for}
-use Rattle.values.specs.Scalars.{valueIn}
+use Rattle.values.specs.Scalars.{value_in}
 use Rattle.server.proofs.Pushed.{push-short, push-ruled, push-below, push-place, push-done}
 use Rattle.server.proofs.Replied.{left-refused}
 use Rattle.server.proofs.request.push.Statement.{statement}
@@ -14,7 +14,7 @@ returns : tie.Need-returns
 unfolding room_for
 returns c b =
     let a = c.before.before.before.args in
-    let value = valueIn a.line.now a.value in
+    let value = value_in a.line.now a.value in
     left-refused (push-short a.tables.now a.logins.now a.fields.now a.n a.path.now (length a.list.now) c.if1.true value) _ _ b _ refl
 
 decide-requires : tie.Need-decide-requires

@@ -1,9 +1,9 @@
 -- The step is written into a row, and the row put behind the others, while there are fewer than six.
 use mathlib.Core.Path.{ap, ◌∙◌}
-use Rattle.model.specs.Limits.{maxDepth}
+use Rattle.model.specs.Limits.{max_depth}
 use Rattle.layout.proofs.Counts.{counted-pushed}
 use Rattle.layout.proofs.Canonical.{canonical-counted}
-use Rattle.steps.specs.Steps.{stepRow, stepIn, stepsIn, CanonicalStep}
+use Rattle.steps.specs.Steps.{step_row, step_in, steps_in, CanonicalStep}
 use Rattle.steps.proofs.StepRows.{step-written}
 use borrow.Author.Rules.{rules}
 use Rattle.steps.proofs.policy.push_step.Statement.{statement}
@@ -25,14 +25,14 @@ same_length : tie.Need-same-length
 same_length c = search rules
 
 returns : tie.Need-returns
-unfolding stepsIn
+unfolding steps_in
 returns c =
     let push = c.before.before in
     let put = push.before.before.before.before in
     let s = put.before.before.before in
     let pushed = push.push_row.ensures in (
-      counted-pushed stepIn stepRow maxDepth s.args.slot.now _ _ pushed.0 ∙ rw (ap stepIn put.put-row.ensures ∙ step-written s.args.step),
-      λ is. canonical-counted CanonicalStep stepRow maxDepth (rw put.put-row.ensures is) pushed.0 pushed.1,
+      counted-pushed step_in step_row max_depth s.args.slot.now _ _ pushed.0 ∙ rw (ap step_in put.put-row.ensures ∙ step-written s.args.step),
+      λ is. canonical-counted CanonicalStep step_row max_depth (rw put.put-row.ensures is) pushed.0 pushed.1,
     )
 
 pub push-step-spec : {M : Type 1} → statement M

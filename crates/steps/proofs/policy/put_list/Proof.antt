@@ -7,19 +7,19 @@ use native.Mathlib.Omega.{arith}
 use lib.ListN.{length, take, length-append, length-take}
 use Rattle.rows.specs.Rows.{Wrote}
 use Rattle.model.specs.Base.{text, between}
-use Rattle.model.specs.Paths.{nameText, stepText}
+use Rattle.model.specs.Paths.{name_text, step_text}
 use Rattle.buffers.proofs.Writers.{wrote_none, wrote-both}
 use Rattle.layout.proofs.Named.{name-length}
-use Rattle.steps.specs.Steps.{namesIn}
-use Rattle.steps.proofs.StepTexts.{spelledNames, divider, divider-some, divider-none, names-step, names-all}
+use Rattle.steps.specs.Steps.{names_in}
+use Rattle.steps.proofs.StepTexts.{spelled_names, divider, divider-some, divider-none, names-step, names-all}
 use borrow.Author.Rules.{rules}
 use Rattle.steps.proofs.policy.put_list.Statement.{statement}
 use Rattle.steps.proofs.policy.put_list.Tie as tie
-use Rattle.model.specs.Limits.{maxKey}
+use Rattle.model.specs.Limits.{max_key}
 
 abbrev invariant-loop : tie.invariant-loop
 invariant-loop out₀ at names n to₀ i₀ out to i =
-    (i ≤ n) × (to ≤ to₀ + (maxKey + 3) * i) × (length out ≡ length out₀) × Wrote to₀ (spelledNames (take i (namesIn names))) out₀ to out
+    (i ≤ n) × (to ≤ to₀ + (max_key + 3) * i) × (length out ≡ length out₀) × Wrote to₀ (spelled_names (take i (names_in names))) out₀ to out
 
 abbrev decreases-loop : tie.decreases-loop
 decreases-loop out₀ at names n to₀ i₀ out to i = n - i
@@ -30,7 +30,7 @@ met : (c : tie.Joined1 invariant-loop decreases-loop)
     let p = c.before.before.before.before.before.put_byte in
     let s = c.before.before.before.before.before.before.before.before.before.before.args.names.now in
     (c.if1.to ≤ l.to + 1) × (length c.if1.out ≡ length p.new.0)
-    × Wrote p.result (spelledNames (take l.i (namesIn s)) ++ divider (text ",") l.i) p.new.0 c.if1.to c.if1.out
+    × Wrote p.result (spelled_names (take l.i (names_in s)) ++ divider (text ",") l.i) p.new.0 c.if1.to c.if1.out
 unfolding text
 met c =
     let l = c.before.before.loop in
@@ -49,7 +49,7 @@ put-byte-requires : tie.Need-put-byte-requires invariant-loop decreases-loop
 put-byte-requires c κs = search rules
 
 loop-holds : tie.Need-loop-init invariant-loop decreases-loop
-unfolding spelledNames between
+unfolding spelled_names between
 loop-holds c = (search rules, search rules, refl, wrote_none _ _)
 
 put-byte-requires-2 : tie.Need-put-byte-requires-2 invariant-loop decreases-loop
@@ -61,7 +61,7 @@ key-at-requires c κs = search rules
 put-quoted-requires : tie.Need-put-quoted-requires invariant-loop decreases-loop
 put-quoted-requires c κs =
     let m = met c.before.before in
-    let k = name-length maxKey _ c.key-at.ensures (simp length-take (omega arith)) in
+    let k = name-length max_key _ c.key-at.ensures (simp length-take (omega arith)) in
     omega arith
 
 add-i : tie.Need-overflow-add-i invariant-loop decreases-loop
@@ -71,13 +71,13 @@ loop-less : tie.Need-loop-smaller invariant-loop decreases-loop
 loop-less c = search rules
 
 loop-again : tie.Need-loop-preserved invariant-loop decreases-loop
-unfolding nameText text
+unfolding name_text text
 loop-again c =
     let l = c.before.before.before.before.before.before.before.loop in
     let s = c.before.before.before.before.before.before.before.before.before.before.before.before.before.before.before.args.names.now in
     let m = met c.before.before.before.before.before in
     let name = c.before.before.before.key-at.ensures in
-    let k = name-length maxKey _ name (simp length-take (omega arith)) in
+    let k = name-length max_key _ name (simp length-take (omega arith)) in
     let quoted = c.before.before.put-quoted.ensures in
     let all = wrote-both _ _ _ _ _ _ _ _ m.2 quoted in
     (search rules, omega (arith, simp length-append at quoted.0), search rules, rw (names-step s l.i (search rules), ← name) all)
@@ -89,7 +89,7 @@ same_length : tie.Need-same-length invariant-loop decreases-loop
 same_length c = search rules
 
 returns : tie.Need-returns invariant-loop decreases-loop
-unfolding stepText spelledNames text
+unfolding step_text spelled_names text
 returns c =
     let l = c.before.before.before.before.before.loop in
     let s = c.before.before.before.before.before.before.before.before.before.before.before.before.before.args.names.now in

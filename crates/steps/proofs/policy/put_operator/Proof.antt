@@ -1,6 +1,6 @@
 -- Each operator has its own word.
 use Rattle.model.specs.Base.{text}
-use Rattle.model.specs.Paths.{operatorText}
+use Rattle.model.specs.Paths.{operator_text}
 use borrow.Author.Rules.{rules}
 use Rattle.steps.proofs.policy.put_operator.Statement.{statement}
 use Rattle.steps.proofs.policy.put_operator.Tie as tie
@@ -27,14 +27,14 @@ same_length : tie.Need-same-length
 same_length c = search rules
 
 returns : tie.Need-returns
-unfolding operatorText text
+unfolding operator_text text
 returns c = rw c.before.before.before.before.before.enum_told.given.1 c.before.before.put.ensures
 
 same-length-2 : tie.Need-same-length-2
 same-length-2 c = search rules
 
 returns-2 : tie.Need-returns-2
-unfolding operatorText text
+unfolding operator_text text
 returns-2 c = rw c.before.before.before.before.before.enum-told2.given.1 c.before.before.put2.ensures
 
 pub put-operator-spec : {M : Type 1} → statement M

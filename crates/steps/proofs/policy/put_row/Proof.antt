@@ -8,7 +8,7 @@ use Rattle.steps.proofs.StepRows.{row-filled}
 use borrow.Author.Rules.{rules}
 use Rattle.steps.proofs.policy.put_row.Statement.{statement}
 use Rattle.steps.proofs.policy.put_row.Tie as tie
-use Rattle.steps.specs.Steps.{namesSlot}
+use Rattle.steps.specs.Steps.{names_slot}
 
 kind-byte-requires : tie.Need-kind-byte-requires
 kind-byte-requires c κs = search rules
@@ -29,7 +29,7 @@ returns : tie.Need-returns
 returns c =
     let a = c.before.before.before.before.before.before.before.before.args in
     let b = c.before.before.before.before.before.kind-byte in
-    let k : length a.step.names ≡ namesSlot = search rules in
+    let k : length a.step.names ≡ names_slot = search rules in
     c.before.before.put.ensures.1 ∙ written-cons 0 _ _ _ ∙ row-filled (b.result ∷ a.step.names) a.row.now (omega arith) ∙ ap (◌∷ a.step.names) b.ensures
 
 pub put-row-spec : {M : Type 1} → statement M

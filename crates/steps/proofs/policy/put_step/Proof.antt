@@ -3,7 +3,7 @@ use native.Mathlib.Omega.{arith}
 use lib.ListN.{length, take, drop}
 use Prim.Native.Nat.{◌-◌}
 use Rattle.model.specs.Base.{text}
-use Rattle.model.specs.Paths.{stepText}
+use Rattle.model.specs.Paths.{step_text}
 use Rattle.steps.proofs.StepRows.{step-told}
 use Rattle.steps.proofs.StepTexts.{first-length}
 use borrow.Author.Rules.{rules}
@@ -55,7 +55,7 @@ same_length : tie.Need-same-length
 same_length c = search rules
 
 returns : tie.Need-returns
-unfolding stepText text
+unfolding step_text text
 returns c =
     let m = c.before.before.before.before.before in
     rw (step-told _ m.before.before.kind-of.ensures m.enum_told.given.1) c.before.before.put.ensures

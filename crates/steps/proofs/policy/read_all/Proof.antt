@@ -4,13 +4,13 @@ use mathlib.Core.Path.{◌≡◌, refl, sym, ◌∙◌}
 use native.Mathlib.Omega.{arith}
 use lib.ListN.{length, drop}
 use Rattle.rows.specs.Positions.{Takes}
-use Rattle.model.specs.Paths.{read_step, readPath}
+use Rattle.model.specs.Paths.{read_step, read_path}
 use Rattle.lexical.proofs.Runs.{byte-stands}
 use Rattle.layout.specs.Layout.{counted}
 use Rattle.layout.proofs.Canonical.{canonical-uncounted}
-use Rattle.model.specs.Limits.{maxDepth}
+use Rattle.model.specs.Limits.{max_depth}
 use Rattle.paths.proofs.WholePaths.{left, path-unopened, path-opened, left-full, left-bad, left_end}
-use Rattle.steps.specs.Steps.{stepRow, stepsSlot, step_of, stepsIn, CanonicalStep, CanonicalSteps}
+use Rattle.steps.specs.Steps.{step_row, steps_slot, step_of, steps_in, CanonicalStep, CanonicalSteps}
 use Rattle.steps.proofs.StepReaders.{step-none, step-takes}
 use Rattle.steps.proofs.StepPushes.{step-turn}
 use borrow.Author.Tests.{not-true, not-false}
@@ -20,7 +20,7 @@ use Rattle.steps.proofs.policy.read_all.Tie as tie
 
 abbrev invariant-loop : tie.invariant-loop
 invariant-loop s slot₀ n₀ at₀ slot n at =
-    (at ≤ length s) × (length slot ≡ stepsSlot) × (n ≡ length (stepsIn slot)) × (readPath read_step s ≡ left read_step (stepsIn slot) (drop at s)) × CanonicalSteps slot
+    (at ≤ length s) × (length slot ≡ steps_slot) × (n ≡ length (steps_in slot)) × (read_path read_step s ≡ left read_step (steps_in slot) (drop at s)) × CanonicalSteps slot
 
 abbrev decreases-loop : tie.decreases-loop
 decreases-loop s slot₀ n₀ at₀ slot n at = length s - at
@@ -35,11 +35,11 @@ returns : tie.Need-returns invariant-loop decreases-loop
 returns c = (c.no_steps.ensures.0 ∙ sym (path-unopened _ _ (sym c.before.before.is_at.ensures ∙ not-true _ c.before.if1.true)), c.no_steps.ensures.1)
 
 loop-holds : tie.Need-loop-init invariant-loop decreases-loop
-unfolding stepsIn counted
+unfolding steps_in counted
 loop-holds c =
     let s = c.before.before.before.args.s.now in
     let dollar = sym c.before.is_at.ensures ∙ not-false _ c.if1.false in
-    ((byte-stands 0x24 s 0 dollar).0, refl, refl, path-opened _ s dollar, canonical-uncounted CanonicalStep stepRow maxDepth)
+    ((byte-stands 0x24 s 0 dollar).0, refl, refl, path-opened _ s dollar, canonical-uncounted CanonicalStep step_row max_depth)
 
 no-steps-requires-2 : tie.Need-no-steps-requires-2 invariant-loop decreases-loop
 no-steps-requires-2 c κs = search rules
@@ -87,7 +87,7 @@ loop-again c =
     let t = k.before.before.before in
     let l = t.before.before.loop in
     let r = (takes k).1 in
-    let turn = step-turn (stepsIn l.slot) (stepsIn push.new.0) _ push.ensures.0 (omega arith) l.n l.invariant.2 _ l.at _ r t.before.loop-test.true in
+    let turn = step-turn (steps_in l.slot) (steps_in push.new.0) _ push.ensures.0 (omega arith) l.n l.invariant.2 _ l.at _ r t.before.loop-test.true in
     (r.to, push.auto.0 ∙ l.invariant.1, turn.0, l.invariant.3 ∙ turn.1, push.ensures.1 k.before.before.step-at.ensures.1 l.invariant.4)
 
 returns-4 : tie.Need-returns-4 invariant-loop decreases-loop

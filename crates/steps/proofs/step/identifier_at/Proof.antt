@@ -10,7 +10,7 @@ use Rattle.steps.proofs.StepBytes.{one-canonical}
 use borrow.Author.Rules.{rules}
 use Rattle.steps.proofs.step.identifier_at.Statement.{statement}
 use Rattle.steps.proofs.step.identifier_at.Tie as tie
-use Rattle.model.specs.Limits.{maxKey}
+use Rattle.model.specs.Limits.{max_key}
 
 scan-requires : tie.Need-scan-requires
 scan-requires c κs = search rules
@@ -33,7 +33,7 @@ returns c =
 within : (c : tie.After-known-told)
     → let a = c.before.before.before.before.before.args in
     let to = c.before.to.given.0.0 in
-    (a.at + 1 ≤ to) × (to ≤ a.at + maxKey) × (to ≤ length a.s.now)
+    (a.at + 1 ≤ to) × (to ≤ a.at + max_key) × (to ≤ length a.s.now)
 within c = scan-within _ _ _ _ _ _ c.before.before.before.scan.ensures (search rules) _ c.before.to.given.1
 
 shared-slice-read-is-digit : tie.Need-shared-slice-read-is-digit

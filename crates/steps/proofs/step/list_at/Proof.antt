@@ -4,13 +4,13 @@ use mathlib.Core.Path.{◌≡◌, refl, sym, ◌∙◌}
 use mathlib.Core.List.{[]}
 use lib.ListN.{length, drop}
 use native.Mathlib.Omega.{arith}
-use Rattle.model.specs.Limits.{maxListed}
-use Rattle.model.specs.Paths.{readNames}
-use Rattle.layout.specs.Layout.{counted, keyRow, CanonicalName, CanonicalKeys}
+use Rattle.model.specs.Limits.{max_listed}
+use Rattle.model.specs.Paths.{read_names}
+use Rattle.layout.specs.Layout.{counted, key_row, CanonicalName, CanonicalKeys}
 use Rattle.layout.proofs.Canonical.{canonical-uncounted}
 use Rattle.steps.proofs.StepBytes.{list-canonical}
-use Rattle.steps.specs.Steps.{namesSlot, namesIn}
-use Rattle.steps.proofs.StepReaders.{NameStands, either-bad, either-at, names-bad, names-full, names-last, names-turn, list-none, list-is}
+use Rattle.steps.specs.Steps.{names_slot, names_in}
+use Rattle.steps.proofs.StepReaders.{NameStands, either-bad, either-at, names-bad, names-full, names-last, names-turn, list-none, list_is}
 use borrow.Author.Tests.{not-true, not-false}
 use borrow.Author.Rules.{rules}
 use Rattle.steps.proofs.step.list_at.Statement.{statement}
@@ -18,16 +18,16 @@ use Rattle.steps.proofs.step.list_at.Tie as tie
 
 abbrev invariant-loop : tie.invariant-loop
 invariant-loop s at names₀ from₀ n₀ names from n =
-    (at ≤ from) × (from ≤ length s) × (length names ≡ namesSlot) × (n ≡ length (namesIn names))
-    × (readNames maxListed [] (drop at s) ≡ readNames (maxListed - n) (namesIn names) (drop from s))
-    × CanonicalKeys maxListed names
+    (at ≤ from) × (from ≤ length s) × (length names ≡ names_slot) × (n ≡ length (names_in names))
+    × (read_names max_listed [] (drop at s) ≡ read_names (max_listed - n) (names_in names) (drop from s))
+    × CanonicalKeys max_listed names
 
 abbrev decreases-loop : tie.decreases-loop
-decreases-loop s at names₀ from₀ n₀ names from n = maxListed - n
+decreases-loop s at names₀ from₀ n₀ names from n = max_listed - n
 
 loop-holds : tie.Need-loop-init invariant-loop decreases-loop
-unfolding namesIn counted
-loop-holds c = (search rules, search rules, refl, refl, refl, canonical-uncounted (CanonicalName keyRow) keyRow maxListed)
+unfolding names_in counted
+loop-holds c = (search rules, search rules, refl, refl, refl, canonical-uncounted (CanonicalName key_row) key_row max_listed)
 
 either-at-requires : tie.Need-either-at-requires invariant-loop decreases-loop
 either-at-requires c κs = search rules
@@ -80,7 +80,7 @@ found-requires : tie.Need-found-requires invariant-loop decreases-loop
 found-requires c κs = search rules
 
 returns-2 : tie.Need-returns-2 invariant-loop decreases-loop
-unfolding namesIn
+unfolding names_in
 returns-2 c =
     let w = c.before.before in
     let push = w.before.before in
@@ -88,9 +88,9 @@ returns-2 c =
     let t = k.before.before.before.before in
     let l = t.before.loop in
     let comma = sym w.is_at.ensures ∙ not-true _ c.before.if1.true in
-    let last = names-last _ _ _ (stands k) (namesIn l.names) _ push.push-key.ensures.0 l.n l.invariant.3 t.loop-test.true comma in
+    let last = names-last _ _ _ (stands k) (names_in l.names) _ push.push-key.ensures.0 l.n l.invariant.3 t.loop-test.true comma in
     let is = list-canonical _ (push.push-key.ensures.1 l.invariant.5) in
-    (c.found.ensures.0 ∙ list-is _ _ _ _ (omega (arith, stands k)) (stands k).reads.to (l.invariant.4 ∙ last), rw c.found.ensures.1 is)
+    (c.found.ensures.0 ∙ list_is _ _ _ _ (omega (arith, stands k)) (stands k).reads.to (l.invariant.4 ∙ last), rw c.found.ensures.1 is)
 
 add-from : tie.Need-overflow-add-from invariant-loop decreases-loop
 add-from c = omega (arith, (stands c.before.before.before.before.before.before).reads)
@@ -102,7 +102,7 @@ loop-less : tie.Need-loop-smaller invariant-loop decreases-loop
 loop-less c = search rules
 
 loop-again : tie.Need-loop-preserved invariant-loop decreases-loop
-unfolding namesIn
+unfolding names_in
 loop-again c =
     let w = c.before in
     let push = w.before.before in
@@ -110,7 +110,7 @@ loop-again c =
     let t = k.before.before.before.before in
     let l = t.before.loop in
     let comma = sym w.is_at.ensures ∙ not-false _ c.if1.false in
-    let turn = names-turn _ _ _ (stands k) (namesIn l.names) _ push.push-key.ensures.0 l.n l.invariant.3 t.loop-test.true comma in
+    let turn = names-turn _ _ _ (stands k) (names_in l.names) _ push.push-key.ensures.0 l.n l.invariant.3 t.loop-test.true comma in
     (omega (arith, stands k), turn.0, push.push-key.auto.0 ∙ l.invariant.2, turn.1, l.invariant.4 ∙ turn.2, push.push-key.ensures.1 l.invariant.5)
 
 no-step-requires-2 : tie.Need-no-step-requires-2 invariant-loop decreases-loop

@@ -1,7 +1,7 @@
 -- The first that reads something decides.
 use mathlib.Core.Path.{refl, ◌∙◌}
 use Rattle.model.specs.Base.{text}
-use Rattle.model.specs.Paths.{operatorText, readSelector}
+use Rattle.model.specs.Paths.{operator_text, read_selector}
 use Rattle.steps.proofs.StepReaders.{first_reads, first-none}
 use borrow.Author.Rules.{rules}
 use Rattle.steps.proofs.step.selector_at.Statement.{statement}
@@ -11,7 +11,7 @@ wildcard-at-requires : tie.Need-wildcard-at-requires
 wildcard-at-requires c κs = search rules
 
 returns : tie.Need-returns
-unfolding readSelector
+unfolding read_selector
 returns c =
     let any = c.before.wildcard-at.ensures in
     let ok = c.if1.true in
@@ -21,11 +21,11 @@ slice-aggregate-environment-at : tie.Need-slice-aggregate-environment-at
 slice-aggregate-environment-at c = search rules
 
 environment-at-requires : tie.Need-environment-at-requires
-unfolding operatorText text
+unfolding operator_text text
 environment-at-requires c κs = (search rules, refl)
 
 returns-2 : tie.Need-returns-2
-unfolding readSelector
+unfolding read_selector
 returns-2 c =
     let e = c.before in
     let w = e.before.before in
@@ -37,11 +37,11 @@ slice-aggregate-environment-at-2 : tie.Need-slice-aggregate-environment-at-2
 slice-aggregate-environment-at-2 c = search rules
 
 environment-at-requires-2 : tie.Need-environment-at-requires-2
-unfolding operatorText text
+unfolding operator_text text
 environment-at-requires-2 c κs = (search rules, refl)
 
 returns-3 : tie.Need-returns-3
-unfolding readSelector
+unfolding read_selector
 returns-3 c =
     let i = c.before in
     let e = i.before.before in
@@ -54,7 +54,7 @@ list-at-requires : tie.Need-list-at-requires
 list-at-requires c κs = search rules
 
 returns-4 : tie.Need-returns-4
-unfolding readSelector
+unfolding read_selector
 returns-4 c =
     let i = c.before in
     let e = i.before.before.before in

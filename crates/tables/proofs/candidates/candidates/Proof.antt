@@ -1,11 +1,11 @@
 -- At first all users are there; each turn leaves out those whom one step more does not admit.
 use Prim.Native.Nat.{◌-◌, ◌≤◌}
 use borrow.Author.Rules.{rules}
-use Rattle.model.specs.Limits.{maxUsers}
+use Rattle.model.specs.Limits.{max_users}
 use Rattle.layout.proofs.Used.{counted-fit}
-use Rattle.paths.specs.Layout.{pathIn}
-use Rattle.steps.specs.Steps.{stepsIn}
-use Rattle.tables.specs.Memory.{userRow, usersIn}
+use Rattle.paths.specs.Layout.{path_in}
+use Rattle.steps.specs.Steps.{steps_in}
+use Rattle.tables.specs.Memory.{user_row, users_in}
 use Rattle.tables.specs.Grants.{Found, Covers}
 use Rattle.tables.proofs.Held.{covers-all}
 use Rattle.tables.proofs.candidates.candidates.Statement.{statement}
@@ -13,7 +13,7 @@ use Rattle.tables.proofs.candidates.candidates.Tie as tie
 
 abbrev invariant-loop : tie.invariant-loop
 invariant-loop found₀ tables n steps path m mask₀ i₀ found mask i =
-    (i ≤ m) × Found (usersIn tables) (pathIn path) found × Covers (usersIn tables) (stepsIn steps) (pathIn path) mask
+    (i ≤ m) × Found (users_in tables) (path_in path) found × Covers (users_in tables) (steps_in steps) (path_in path) mask
 
 abbrev decreases-loop : tie.decreases-loop
 decreases-loop found₀ tables n steps path m mask₀ i₀ found mask i = m - i
@@ -24,7 +24,7 @@ count-requires c κs = search rules
 first-places-requires : tie.Need-first-places-requires invariant-loop decreases-loop
 first-places-requires c κs =
     let start = c.before.before.before in
-    counted-fit userRow maxUsers start.args.tables.now start.requires.0.2
+    counted-fit user_row max_users start.args.tables.now start.requires.0.2
 
 loop-holds : tie.Need-loop-init invariant-loop decreases-loop
 loop-holds c =

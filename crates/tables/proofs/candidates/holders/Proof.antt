@@ -3,10 +3,10 @@ use Prim.Native.Nat.{◌-◌, ◌≤◌}
 use mathlib.Core.Path.{◌∙◌}
 use mathlib.Core.Logic.{⊎_elim}
 use borrow.Author.Rules.{rules}
-use Rattle.model.specs.Limits.{maxUsers}
+use Rattle.model.specs.Limits.{max_users}
 use Rattle.masks.proofs.Bits.{below-start, marked-now, marked-not}
 use Rattle.layout.proofs.Used.{counted-fit}
-use Rattle.tables.specs.Memory.{userRow}
+use Rattle.tables.specs.Memory.{user_row}
 use Rattle.tables.proofs.Users.{user-inside}
 use Rattle.tables.proofs.Held.{HoldersBelow, holder-next, holders-end}
 use Rattle.tables.proofs.candidates.holders.Statement.{statement}
@@ -33,7 +33,7 @@ has-value-requires c κs = search rules
 with-bit-requires : tie.Need-with-bit-requires invariant-loop decreases-loop
 with-bit-requires c κs =
     let start = c.before.before.before.before.before.before.before.before in
-    let fit = counted-fit userRow maxUsers start.args.tables.now start.requires in
+    let fit = counted-fit user_row max_users start.args.tables.now start.requires in
     search rules
 
 add-j : tie.Need-overflow-add-j invariant-loop decreases-loop

@@ -1,7 +1,7 @@
 -- Each turn forgets one more.
 use Prim.Native.Nat.{◌-◌}
 use borrow.Author.Rules.{rules}
-use Rattle.model.specs.Limits.{maxDepth}
+use Rattle.model.specs.Limits.{max_depth}
 use Rattle.tables.proofs.Held.{KeptFirst, kept-all, kept_next, kept-end}
 use Rattle.tables.proofs.candidates.keep_first.Statement.{statement}
 use Rattle.tables.proofs.candidates.keep_first.Tie as tie
@@ -10,7 +10,7 @@ abbrev invariant-loop : tie.invariant-loop
 invariant-loop found₀ n i₀ found i = KeptFirst n found₀ i found
 
 abbrev decreases-loop : tie.decreases-loop
-decreases-loop found₀ n i₀ found i = maxDepth - i
+decreases-loop found₀ n i₀ found i = max_depth - i
 
 loop-holds : tie.Need-loop-init invariant-loop decreases-loop
 loop-holds c = kept-all _ _ c.requires

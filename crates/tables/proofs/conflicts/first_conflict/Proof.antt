@@ -9,16 +9,16 @@ use native.Mathlib.Omega.{arith}
 use lib.ListN.{take, drop}
 use borrow.Author.Rules.{rules}
 use Rattle.model.specs.Base.{if◌then◌else◌, any}
-use Rattle.model.specs.Rights.{conflictsWith}
-use Rattle.model.specs.Opening.{conflictFrom}
-use Rattle.tables.specs.Memory.{ruleIn, policyIn}
+use Rattle.model.specs.Rights.{conflicts_with}
+use Rattle.model.specs.Opening.{conflict_from}
+use Rattle.tables.specs.Memory.{rule_in, policy_in}
 use Rattle.tables.proofs.Policy.{rule-inside, conflict-from, rules-over}
 use Rattle.tables.proofs.conflicts.first_conflict.Statement.{statement}
 use Rattle.tables.proofs.conflicts.first_conflict.Tie as tie
 
 abbrev invariant-loop : tie.invariant-loop
 invariant-loop policy n i₀ i =
-    (i ≤ n) × (conflictFrom 2 [] (policyIn policy) ≡ conflictFrom (i + 2) (take i (policyIn policy)) (drop i (policyIn policy)))
+    (i ≤ n) × (conflict_from 2 [] (policy_in policy) ≡ conflict_from (i + 2) (take i (policy_in policy)) (drop i (policy_in policy)))
 
 abbrev decreases-loop : tie.decreases-loop
 decreases-loop policy n i₀ i = n - i
@@ -26,11 +26,11 @@ decreases-loop policy n i₀ i = n - i
 -- a turn: the line in the row at i is the first, or a later one is
 turn : (c : tie.After-is-write invariant-loop decreases-loop)
     → let i = c.before.before.before.loop.i in
-    let p = policyIn c.before.before.before.before.before.before.args.policy.now in
+    let p = policy_in c.before.before.before.before.before.before.args.policy.now in
     let row = c.before.row-at.result.now in
-    conflictFrom 2 [] p
-    ≡ (if c.is-write.result && any (conflictsWith (ruleIn row).path) (take i p) then some (i + 2)
-    else conflictFrom (i + 1 + 2) (take (i + 1) p) (drop (i + 1) p))
+    conflict_from 2 [] p
+    ≡ (if c.is-write.result && any (conflicts_with (rule_in row).path) (take i p) then some (i + 2)
+    else conflict_from (i + 1 + 2) (take (i + 1) p) (drop (i + 1) p))
 turn c =
     let k = c.before in
     let l = k.before.before.loop in
@@ -78,7 +78,7 @@ loop-again c = (
 )
 
 returns-2 : tie.Need-returns-2 invariant-loop decreases-loop
-unfolding conflictFrom
+unfolding conflict_from
 returns-2 c = let l = c.before.loop in rw (l.invariant.1, rules-over _ c.before.before.row_count.ensures l.i (search rules))
 
 pub first-conflict-spec : {M : Type 1} → statement M

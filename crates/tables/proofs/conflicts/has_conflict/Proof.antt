@@ -9,16 +9,16 @@ use lib.ListN.{take, drop}
 use lib.Seq.{take-nil}
 use borrow.Author.Rules.{rules}
 use Rattle.model.specs.Base.{any}
-use Rattle.model.specs.Rights.{conflict, conflictsWith}
-use Rattle.steps.specs.Steps.{stepsIn}
-use Rattle.tables.specs.Memory.{ruleIn, policyIn}
+use Rattle.model.specs.Rights.{conflict, conflicts_with}
+use Rattle.steps.specs.Steps.{steps_in}
+use Rattle.tables.specs.Memory.{rule_in, policy_in}
 use Rattle.tables.proofs.Policy.{rule-inside, conflict-rule, rules-over}
 use Rattle.tables.proofs.conflicts.has_conflict.Statement.{statement}
 use Rattle.tables.proofs.conflicts.has_conflict.Tie as tie
 
 abbrev invariant-loop : tie.invariant-loop
 invariant-loop policy n steps all i₀ i =
-    (i ≤ all) × (any (conflictsWith (stepsIn steps)) (take n (policyIn policy)) ≡ any (conflictsWith (stepsIn steps)) (take (n - i) (drop i (policyIn policy))))
+    (i ≤ all) × (any (conflicts_with (steps_in steps)) (take n (policy_in policy)) ≡ any (conflicts_with (steps_in steps)) (take (n - i) (drop i (policy_in policy))))
 
 abbrev decreases-loop : tie.decreases-loop
 decreases-loop policy n steps all i₀ i = all - i
@@ -28,9 +28,9 @@ turn : (c : tie.After-is-write invariant-loop decreases-loop)
     → let i = c.before.before.before.before.loop.i in
     let a = c.before.before.before.before.before.before.before.before.args in
     let row = c.before.row-at.result.now in
-    any (conflictsWith (stepsIn a.steps.now)) (take a.n (policyIn a.policy.now))
-    ≡ ((c.is-write.result && conflict (stepsIn a.steps.now) (ruleIn row).path)
-    || any (conflictsWith (stepsIn a.steps.now)) (take (a.n - (i + 1)) (drop (i + 1) (policyIn a.policy.now))))
+    any (conflicts_with (steps_in a.steps.now)) (take a.n (policy_in a.policy.now))
+    ≡ ((c.is-write.result && conflict (steps_in a.steps.now) (rule_in row).path)
+    || any (conflicts_with (steps_in a.steps.now)) (take (a.n - (i + 1)) (drop (i + 1) (policy_in a.policy.now))))
 turn c =
     let k = c.before in
     let l = k.before.before.before.loop in

@@ -3,7 +3,7 @@ use native.Mathlib.Omega.{arith}
 use lib.ListN.{length-take, length-drop}
 use borrow.Author.Rules.{rules}
 use Rattle.rows.proofs.Parts.{tail-part}
-use Rattle.tables.specs.Memory.{userIn}
+use Rattle.tables.specs.Memory.{user_in}
 use Rattle.tables.proofs.memory.bindings.Statement.{statement}
 use Rattle.tables.proofs.memory.bindings.Tie as tie
 
@@ -17,7 +17,7 @@ part-result-end : tie.Need-slice-bounds-result-end
 part-result-end c = search rules
 
 returns : tie.Need-returns
-unfolding userIn
+unfolding user_in
 returns c = (rw tail-part, simp (length-take, length-drop) (omega (arith, c.before.requires)))
 
 pub bindings-spec : {M : Type 1} → statement M

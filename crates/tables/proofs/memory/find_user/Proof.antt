@@ -3,24 +3,24 @@ use Prim.Native.Nat.{◌-◌, ◌≤◌}
 use mathlib.Core.Path.{◌≡◌, refl, ◌∙◌}
 use native.Mathlib.Omega.{arith}
 use lib.ListN.{length}
-use Rattle.layout.specs.Layout.{inUse}
+use Rattle.layout.specs.Layout.{in_use}
 use Rattle.layout.proofs.Used.{used-fit}
-use Rattle.model.specs.Limits.{maxUsers}
+use Rattle.model.specs.Limits.{max_users}
 use borrow.Author.Rules.{rules}
-use Rattle.model.specs.Tables.{userNamed}
-use Rattle.tables.specs.Memory.{userRow, usersIn}
-use Rattle.tables.proofs.Users.{namedFrom, named-over, named-stop, named_more, named-next}
+use Rattle.model.specs.Tables.{user_named}
+use Rattle.tables.specs.Memory.{user_row, users_in}
+use Rattle.tables.proofs.Users.{named_from, named-over, named-stop, named_more, named-next}
 use Rattle.tables.proofs.memory.find_user.Statement.{statement}
 use Rattle.tables.proofs.memory.find_user.Tie as tie
 
 abbrev invariant-loop : tie.invariant-loop
-invariant-loop users name i₀ i = (i ≤ length (inUse userRow maxUsers users)) × (userNamed name (usersIn users) ≡ namedFrom name users i)
+invariant-loop users name i₀ i = (i ≤ length (in_use user_row max_users users)) × (user_named name (users_in users) ≡ named_from name users i)
 
 abbrev decreases-loop : tie.decreases-loop
-decreases-loop users name i₀ i = maxUsers - i
+decreases-loop users name i₀ i = max_users - i
 
 loop-holds : tie.Need-loop-init invariant-loop decreases-loop
-unfolding userNamed
+unfolding user_named
 loop-holds c = (search rules, refl)
 
 mul_at : tie.Need-overflow-mul-at invariant-loop decreases-loop
@@ -65,7 +65,7 @@ returns-3 : tie.Need-returns-3 invariant-loop decreases-loop
 returns-3 c =
     let l = c.before.loop in
     let a = c.before.before.before.before.args in
-    rw (l.invariant.1, named-over a.name.now a.users.now l.i (omega (arith, used-fit userRow maxUsers c.before.before.before.before.args.users.now)))
+    rw (l.invariant.1, named-over a.name.now a.users.now l.i (omega (arith, used-fit user_row max_users c.before.before.before.before.args.users.now)))
 
 pub find-user-spec : {M : Type 1} → statement M
 find-user-spec =

@@ -1,9 +1,9 @@
 -- The line's role is compared with the user's, and where they differ with `*`.
 use borrow.Author.Rules.{rules}
 use Rattle.model.specs.Base.{text}
-use Rattle.model.specs.Tables.{everyRole}
-use Rattle.model.specs.Rights.{isFor}
-use Rattle.tables.specs.Memory.{userIn, ruleIn}
+use Rattle.model.specs.Tables.{every_role}
+use Rattle.model.specs.Rights.{is_for}
+use Rattle.tables.specs.Memory.{user_in, rule_in}
 use Rattle.tables.proofs.memory.is_for.Statement.{statement}
 use Rattle.tables.proofs.memory.is_for.Tie as tie
 
@@ -17,7 +17,7 @@ same-bytes-requires : tie.Need-same-bytes-requires
 same-bytes-requires c κs = search rules
 
 returns : tie.Need-returns
-unfolding isFor userIn ruleIn
+unfolding is_for user_in rule_in
 returns c =
     let k = c.before.before in
     rw (← k.before.name-from.ensures, ← k.name-from2.ensures, ← c.before.same_bytes.ensures, c.if1.true)
@@ -29,7 +29,7 @@ same-bytes-requires-2 : tie.Need-same-bytes-requires-2
 same-bytes-requires-2 c κs = search rules
 
 returns-2 : tie.Need-returns-2
-unfolding isFor userIn ruleIn everyRole text
+unfolding is_for user_in rule_in every_role text
 returns-2 c =
     let k = c.before.before in
     let j = k.before.before in

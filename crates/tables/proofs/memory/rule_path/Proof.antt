@@ -3,7 +3,7 @@ use native.Mathlib.Omega.{arith}
 use lib.ListN.{length-take, length-drop}
 use borrow.Author.Rules.{rules}
 use Rattle.rows.proofs.Parts.{tail-part}
-use Rattle.tables.specs.Memory.{ruleIn}
+use Rattle.tables.specs.Memory.{rule_in}
 use Rattle.tables.proofs.memory.rule_path.Statement.{statement}
 use Rattle.tables.proofs.memory.rule_path.Tie as tie
 
@@ -17,7 +17,7 @@ part-result-end : tie.Need-slice-bounds-result-end
 part-result-end c = search rules
 
 returns : tie.Need-returns
-unfolding ruleIn
+unfolding rule_in
 returns c = (rw tail-part, simp (length-take, length-drop) (omega (arith, c.before.requires)))
 
 pub rule-path-spec : {M : Type 1} → statement M

@@ -1,10 +1,10 @@
 -- The line's row is written, and put behind those in use.
 use mathlib.Core.Path.{◌∙◌}
-use Rattle.model.specs.Limits.{maxRules}
+use Rattle.model.specs.Limits.{max_rules}
 use Rattle.layout.specs.Layout.{Canonical}
 use Rattle.layout.proofs.Changed.{table-pushed}
 use Rattle.layout.proofs.Canonical.{canonical-pushed}
-use Rattle.tables.specs.Memory.{ruleRow, ruleIn, policyIn, encodeRule}
+use Rattle.tables.specs.Memory.{rule_row, rule_in, policy_in, encode_rule}
 use Rattle.tables.proofs.Pushed.{rule-read, rule-canonical, rule-full}
 use borrow.Author.Rules.{rules}
 use Rattle.tables.proofs.push.push_rule.Statement.{statement}
@@ -29,16 +29,16 @@ same_length : tie.Need-same-length
 same_length c = search rules
 
 returns : tie.Need-returns
-unfolding policyIn
+unfolding policy_in
 returns c =
     let push = c.before.before.push_row in
     let put = c.before.before.before.before.before.before in
     let s = put.before.before.before.before.before.args in
     let row = put.put-rule in (
-      table-pushed ruleIn ruleRow maxRules s.policy.now _ _ push.ensures.0 ∙ rw (row.ensures, rule-read s.role.now s.access s.steps.now),
+      table-pushed rule_in rule_row max_rules s.policy.now _ _ push.ensures.0 ∙ rw (row.ensures, rule-read s.role.now s.access s.steps.now),
       λ steps access.
-          let is : Canonical encodeRule ruleIn row.new.0 = rw row.ensures (rule-canonical s.role.now s.access s.steps.now steps access) in
-          canonical-pushed (Canonical encodeRule ruleIn) ruleRow maxRules is push.ensures.0 push.ensures.1,
+          let is : Canonical encode_rule rule_in row.new.0 = rw row.ensures (rule-canonical s.role.now s.access s.steps.now steps access) in
+          canonical-pushed (Canonical encode_rule rule_in) rule_row max_rules is push.ensures.0 push.ensures.1,
     )
 
 pub push-rule-spec : {M : Type 1} → statement M

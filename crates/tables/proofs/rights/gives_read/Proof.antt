@@ -3,7 +3,7 @@ use mathlib.Core.Path.{sym, ◌∙◌}
 use borrow.Author.Tests.{not-true, not-false}
 use borrow.Author.Rules.{rules}
 use Rattle.matching.proofs.Matched.{matches-unasked}
-use Rattle.tables.specs.Grants.{givesRead}
+use Rattle.tables.specs.Grants.{gives_read}
 use Rattle.tables.proofs.rights.gives_read.Statement.{statement}
 use Rattle.tables.proofs.rights.gives_read.Tie as tie
 
@@ -11,7 +11,7 @@ is-for-requires : tie.Need-is-for-requires
 is-for-requires c κs = search rules
 
 returns : tie.Need-returns
-unfolding givesRead
+unfolding gives_read
 returns c = rw (sym c.before.is-for.ensures ∙ not-true _ c.if1.true)
 
 rule-path-requires : tie.Need-rule-path-requires
@@ -21,7 +21,7 @@ asks-lines-requires : tie.Need-asks-lines-requires
 asks-lines-requires c κs = search rules
 
 returns-2 : tie.Need-returns-2
-unfolding givesRead
+unfolding gives_read
 returns-2 c =
     let path = c.before.before in
     let k = path.before in
@@ -38,7 +38,7 @@ lines-match-requires c κs =
     (search rules, rw path.rule-path.ensures.0 path.before.before.before.before.before.before.requires.1)
 
 returns-3 : tie.Need-returns-3
-unfolding givesRead
+unfolding gives_read
 returns-3 c =
     let path = c.before.before.before.before in
     let k = path.before in

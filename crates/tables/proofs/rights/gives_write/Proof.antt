@@ -3,7 +3,7 @@ use mathlib.Core.Path.{sym, ◌∙◌}
 use mathlib.Core.Bool.{and-false}
 use borrow.Author.Tests.{not-true, not-false}
 use borrow.Author.Rules.{rules}
-use Rattle.tables.specs.Grants.{givesWrite}
+use Rattle.tables.specs.Grants.{gives_write}
 use Rattle.tables.proofs.rights.gives_write.Statement.{statement}
 use Rattle.tables.proofs.rights.gives_write.Tie as tie
 
@@ -11,14 +11,14 @@ is-write-requires : tie.Need-is-write-requires
 is-write-requires c κs = search rules
 
 returns : tie.Need-returns
-unfolding givesWrite
+unfolding gives_write
 returns c = rw (sym c.before.is-write.ensures ∙ not-true _ c.if1.true, and-false)
 
 is-for-requires : tie.Need-is-for-requires
 is-for-requires c κs = search rules
 
 returns-2 : tie.Need-returns-2
-unfolding givesWrite
+unfolding gives_write
 returns-2 c = rw (sym c.before.is-for.ensures ∙ not-true _ c.if2.true)
 
 bindings-requires : tie.Need-bindings-requires
@@ -31,7 +31,7 @@ matches-requires : tie.Need-matches-requires
 matches-requires c κs = search rules
 
 returns-3 : tie.Need-returns-3
-unfolding givesWrite
+unfolding gives_write
 returns-3 c =
     let k = c.before.before.before in
     let m = rw (c.before.before.bindings.ensures.0, c.before.rule-path.ensures.0) at c.matches.ensures in

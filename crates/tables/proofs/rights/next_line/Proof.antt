@@ -6,9 +6,9 @@ use native.Mathlib.Omega.{arith}
 use borrow.Author.Rules.{rules}
 use lib.ListN.{drop}
 use Rattle.model.specs.Tables.{User}
-use Rattle.model.specs.Serving.{readsBy}
-use Rattle.paths.specs.Layout.{pathIn}
-use Rattle.tables.specs.Memory.{policyIn}
+use Rattle.model.specs.Serving.{reads_by}
+use Rattle.paths.specs.Layout.{path_in}
+use Rattle.tables.specs.Memory.{policy_in}
 use Rattle.tables.proofs.Policy.{rule-inside}
 use Rattle.tables.proofs.Given.{lines-passed}
 use Rattle.tables.proofs.rights.next_line.Statement.{statement}
@@ -16,7 +16,7 @@ use Rattle.tables.proofs.rights.next_line.Tie as tie
 
 abbrev invariant-loop : tie.invariant-loop
 invariant-loop policy n from path i₀ i =
-    (from ≤ i) × (i ≤ n) × ((o : Option User) → readsBy (drop from (policyIn policy)) o (pathIn path) ≡ readsBy (drop i (policyIn policy)) o (pathIn path))
+    (from ≤ i) × (i ≤ n) × ((o : Option User) → reads_by (drop from (policy_in policy)) o (path_in path) ≡ reads_by (drop i (policy_in policy)) o (path_in path))
 
 abbrev decreases-loop : tie.decreases-loop
 decreases-loop policy n from path i₀ i = n - i

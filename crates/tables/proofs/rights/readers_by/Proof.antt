@@ -3,10 +3,10 @@ use Prim.Native.Nat.{◌+◌, ◌-◌, ◌^◌, ◌≤◌, ◌<◌}
 use mathlib.Core.Path.{◌≡◌}
 use mathlib.Core.Bool.{true}
 use borrow.Author.Rules.{rules}
-use Rattle.model.specs.Limits.{maxUsers}
-use Rattle.paths.specs.Layout.{pathIn}
-use Rattle.matching.specs.Parts.{mayMatch}
-use Rattle.tables.specs.Memory.{usersIn, ruleAt}
+use Rattle.model.specs.Limits.{max_users}
+use Rattle.paths.specs.Layout.{path_in}
+use Rattle.matching.specs.Parts.{may_match}
+use Rattle.tables.specs.Memory.{users_in, rule_at}
 use Rattle.tables.specs.Grants.{Found}
 use Rattle.tables.proofs.Policy.{rule-inside}
 use Rattle.tables.proofs.Given.{ReadersLeft, readers-start, readers-end, readers-on, readers-more}
@@ -15,8 +15,8 @@ use Rattle.tables.proofs.rights.readers_by.Tie as tie
 
 abbrev invariant-loop : tie.invariant-loop
 invariant-loop found₀ tables path users policy n mask₀ i₀ found mask i =
-    (i ≤ n) × (mask < 2 ^ maxUsers) × Found (usersIn tables) (pathIn path) found × ReadersLeft tables policy (pathIn path) i mask
-    × (i < n → mayMatch (ruleAt i policy).path (pathIn path) ≡ true)
+    (i ≤ n) × (mask < 2 ^ max_users) × Found (users_in tables) (path_in path) found × ReadersLeft tables policy (path_in path) i mask
+    × (i < n → may_match (rule_at i policy).path (path_in path) ≡ true)
 
 abbrev decreases-loop : tie.decreases-loop
 decreases-loop found₀ tables path users policy n mask₀ i₀ found mask i = n - i

@@ -9,8 +9,8 @@ use lib.ListN.{length}
 use Rattle.model.proofs.Lists.{and_both}
 use Rattle.masks.specs.Bits.{bit_at}
 use Rattle.masks.proofs.Bits.{asked-end, marked-now, marked-not}
-use Rattle.paths.specs.Layout.{pathIn}
-use Rattle.tables.specs.Memory.{usersIn, ruleIn}
+use Rattle.paths.specs.Layout.{path_in}
+use Rattle.tables.specs.Memory.{users_in, rule_in}
 use Rattle.tables.proofs.Users.{user-inside, user-below}
 use Rattle.tables.proofs.Given.{ReadersBut, readers-able, readers-next}
 use Rattle.tables.proofs.rights.with_readers.Statement.{statement}
@@ -18,7 +18,7 @@ use Rattle.tables.proofs.rights.with_readers.Tie as tie
 
 abbrev invariant-loop : tie.invariant-loop
 invariant-loop mask able tables rule path marked₀ rest₀ marked rest =
-    ((k : ℕ) → bit_at rest k ≡ true → k < length (usersIn tables)) × ReadersBut tables (pathIn path) (ruleIn rule) mask rest marked
+    ((k : ℕ) → bit_at rest k ≡ true → k < length (users_in tables)) × ReadersBut tables (path_in path) (rule_in rule) mask rest marked
 
 abbrev decreases-loop : tie.decreases-loop
 decreases-loop mask able tables rule path marked₀ rest₀ marked rest = rest

@@ -2,8 +2,8 @@
 use mathlib.Core.Path.{sym, ◌∙◌}
 use native.Mathlib.Omega.{arith}
 use lib.ListN.{length-take}
-use Rattle.model.specs.Tables.{usersTable, environmentsTable, policyTable}
-use Rattle.tables.specs.Memory.{usersBytes, CanonicalUsers, CanonicalPolicy}
+use Rattle.model.specs.Tables.{users_table, environments_table, policy_table}
+use Rattle.tables.specs.Memory.{users_bytes, CanonicalUsers, CanonicalPolicy}
 use Rattle.tabletext.proofs.Kept.{row-users, row-policy, first-kept, rest-kept}
 use borrow.Author.Rules.{rules}
 use Rattle.tabletext.proofs.read.add_row.Statement.{statement}
@@ -55,8 +55,8 @@ returns : tie.Need-returns
 returns c =
     let k = c.before.before in
     let long = k.add-user.auto.0 ∙ sym (slice-aggregate-add-user k.before) in (
-      rw k.before.before.enum_told.given.1 (row-users _ _ _ usersTable long k.add-user.ensures.0.0 k.add-user.ensures.0.1),
-      first-kept CanonicalUsers CanonicalPolicy usersBytes k.before.before.before.before.before.before.before.args.tables.now _ long k.add-user.ensures.1,
+      rw k.before.before.enum_told.given.1 (row-users _ _ _ users_table long k.add-user.ensures.0.0 k.add-user.ensures.0.1),
+      first-kept CanonicalUsers CanonicalPolicy users_bytes k.before.before.before.before.before.before.before.args.tables.now _ long k.add-user.ensures.1,
     )
 
 same-length-2 : tie.Need-same-length-2
@@ -66,8 +66,8 @@ returns-2 : tie.Need-returns-2
 returns-2 c =
     let k = c.before.before in
     let long = k.add-binding.auto.0 ∙ sym (slice-aggregate-add-binding k.before) in (
-      rw k.before.before.enum-told2.given.1 (row-users _ _ _ environmentsTable long k.add-binding.ensures.0.0 k.add-binding.ensures.0.1),
-      first-kept CanonicalUsers CanonicalPolicy usersBytes k.before.before.before.before.before.before.before.args.tables.now _ long k.add-binding.ensures.1,
+      rw k.before.before.enum-told2.given.1 (row-users _ _ _ environments_table long k.add-binding.ensures.0.0 k.add-binding.ensures.0.1),
+      first-kept CanonicalUsers CanonicalPolicy users_bytes k.before.before.before.before.before.before.before.args.tables.now _ long k.add-binding.ensures.1,
     )
 
 same-length-3 : tie.Need-same-length-3
@@ -76,8 +76,8 @@ same-length-3 c = search rules
 returns-3 : tie.Need-returns-3
 returns-3 c =
     let k = c.before.before in (
-      rw k.before.before.enum-told3.given.1 (row-policy _ _ _ policyTable (search rules) k.add-rule.ensures.0.0 k.add-rule.ensures.0.1),
-      rest-kept CanonicalUsers CanonicalPolicy usersBytes k.before.before.before.before.before.before.before.args.tables.now _ (search rules) k.add-rule.ensures.1,
+      rw k.before.before.enum-told3.given.1 (row-policy _ _ _ policy_table (search rules) k.add-rule.ensures.0.0 k.add-rule.ensures.0.1),
+      rest-kept CanonicalUsers CanonicalPolicy users_bytes k.before.before.before.before.before.before.before.args.tables.now _ (search rules) k.add-rule.ensures.1,
     )
 
 pub add-row-spec : {M : Type 1} → statement M

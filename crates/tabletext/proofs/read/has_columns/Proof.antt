@@ -4,13 +4,13 @@ use mathlib.Core.Path.{◌≡◌, refl, sym, ◌∙◌}
 use mathlib.Core.Bool.{and-false}
 use borrow.Author.Rules.{rules}
 use borrow.Author.Tests.{eq-eqb, ne_eqb, not-true, not-false}
-use Rattle.model.specs.Table.{split, sameLength}
-use Rattle.tabletext.proofs.Lined.{hasFrom, columns-over, column-missing, column-there}
+use Rattle.model.specs.Table.{split, same_length}
+use Rattle.tabletext.proofs.Lined.{has_from, columns-over, column-missing, column-there}
 use Rattle.tabletext.proofs.read.has_columns.Statement.{statement}
 use Rattle.tabletext.proofs.read.has_columns.Tie as tie
 
 abbrev invariant-loop : tie.invariant-loop
-invariant-loop columns head n j₀ j = hasFrom (split head) (split columns) 0 ≡ hasFrom (split head) (split columns) j
+invariant-loop columns head n j₀ j = has_from (split head) (split columns) 0 ≡ has_from (split head) (split columns) j
 
 abbrev decreases-loop : tie.decreases-loop
 decreases-loop columns head n j₀ j = n - j
@@ -22,7 +22,7 @@ count-requires-2 : tie.Need-count-requires-2 invariant-loop decreases-loop
 count-requires-2 c κs = search rules
 
 returns : tie.Need-returns invariant-loop decreases-loop
-unfolding sameLength
+unfolding same_length
 returns c = rw (← c.before.count2.ensures, ← c.before.before.count.ensures, ne_eqb _ _ c.if1.true)
 
 loop-holds : tie.Need-loop-init invariant-loop decreases-loop
@@ -53,7 +53,7 @@ loop-again c =
     l.invariant ∙ column-there _ _ l.j (search rules) _ v.value.ensures (sym c.before.has-column.ensures ∙ not-false _ c.if2.false)
 
 returns-3 : tie.Need-returns-3 invariant-loop decreases-loop
-unfolding sameLength
+unfolding same_length
 returns-3 c =
     let l = c.before.loop in
     let f = c.before.before in

@@ -1,8 +1,8 @@
 -- The line that names a table's columns, taken apart, is the list of them.
 use Rattle.model.specs.Base.{text}
-use Rattle.model.specs.Table.{onFirst, split, isHead}
-use Rattle.model.specs.Tables.{usersTable, environmentsTable, policyTable}
-use Rattle.tabletext.specs.Reading.{inUsers, inPolicy}
+use Rattle.model.specs.Table.{on_first, split, is_head}
+use Rattle.model.specs.Tables.{users_table, environments_table, policy_table}
+use Rattle.tabletext.specs.Reading.{in_users, in_policy}
 use borrow.Author.Rules.{rules}
 use Rattle.tabletext.proofs.read.is_head.Statement.{statement}
 use Rattle.tabletext.proofs.read.is_head.Tie as tie
@@ -35,15 +35,15 @@ has-columns-requires-3 : tie.Need-has-columns-requires-3
 has-columns-requires-3 c κs = search rules
 
 returns : tie.Need-returns
-unfolding isHead inUsers usersTable text split onFirst
+unfolding is_head in_users users_table text split on_first
 returns c = rw c.before.before.enum_told.given.1 c.has-columns.ensures
 
 returns-2 : tie.Need-returns-2
-unfolding isHead inUsers environmentsTable text split onFirst
+unfolding is_head in_users environments_table text split on_first
 returns-2 c = rw c.before.before.enum-told2.given.1 c.has-columns2.ensures
 
 returns-3 : tie.Need-returns-3
-unfolding isHead inPolicy policyTable text split onFirst
+unfolding is_head in_policy policy_table text split on_first
 returns-3 c = rw c.before.before.enum-told3.given.1 c.has-columns3.ensures
 
 pub is-head-spec : {M : Type 1} → statement M

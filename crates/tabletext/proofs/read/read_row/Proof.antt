@@ -1,7 +1,7 @@
 -- A line with another number of values than the head is refused, and nothing is written; of any other the row decides.
 use mathlib.Core.Path.{refl}
 use borrow.Author.Rules.{rules}
-use Rattle.tabletext.specs.Reading.{keptOr}
+use Rattle.tabletext.specs.Reading.{kept_or}
 use Rattle.tabletext.proofs.Lined.{row-short, row-whole}
 use Rattle.tabletext.proofs.read.read_row.Statement.{statement}
 use Rattle.tabletext.proofs.read.read_row.Tie as tie
@@ -13,7 +13,7 @@ count-requires-2 : tie.Need-count-requires-2
 count-requires-2 c κs = search rules
 
 returns : tie.Need-returns
-unfolding keptOr
+unfolding kept_or
 returns c = (rw (row-short _ _ _ _ c.before.before.count.ensures c.before.count2.ensures c.if1.true) (refl, refl), λ h. h)
 
 add-row-requires : tie.Need-add-row-requires

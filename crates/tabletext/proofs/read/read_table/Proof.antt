@@ -8,7 +8,7 @@ use borrow.Author.Tests.{not-true, not-false}
 use Rattle.rows.proofs.Positions.{run-within}
 use Rattle.model.specs.Table.{split}
 use Rattle.layout.specs.Layout.{Keeps}
-use Rattle.tables.specs.Memory.{tablesIn, CanonicalTables}
+use Rattle.tables.specs.Memory.{tables_in, CanonicalTables}
 use Rattle.tabletext.specs.Reading.{table_of}
 use Rattle.tabletext.proofs.Lined.{Left, head-broken, head-other, head-right, left-none, left-broken, left-refused, left-done}
 use Rattle.tabletext.proofs.read.read_table.Statement.{statement}
@@ -16,7 +16,7 @@ use Rattle.tabletext.proofs.read.read_table.Tie as tie
 
 abbrev invariant-loop : tie.invariant-loop
 invariant-loop t tables₀ s end head at₀ n₀ tables at n =
-    (at ≤ length s) × (n ≤ at + 1) × Left (table_of t) (tablesIn tables₀) s (split head) n at (tablesIn tables) × Keeps CanonicalTables tables₀ tables
+    (at ≤ length s) × (n ≤ at + 1) × Left (table_of t) (tables_in tables₀) s (split head) n at (tables_in tables) × Keeps CanonicalTables tables₀ tables
 
 abbrev decreases-loop : tie.decreases-loop
 decreases-loop t tables₀ s end head at₀ n₀ tables at n = length s - at

@@ -1,7 +1,7 @@
 -- The text is compared with each of the two words.
 use borrow.Author.Rules.{rules}
 use Rattle.model.specs.Base.{text}
-use Rattle.model.specs.Tables.{accessOf}
+use Rattle.model.specs.Tables.{access_of}
 use Rattle.tabletext.proofs.row.access.Statement.{statement}
 use Rattle.tabletext.proofs.row.access.Tie as tie
 
@@ -12,7 +12,7 @@ same-requires : tie.Need-same-requires
 same-requires c κs = search rules
 
 returns : tie.Need-returns
-unfolding accessOf text
+unfolding access_of text
 returns c = rw (← c.before.same.ensures, c.if1.true)
 
 slice-aggregate-same-2 : tie.Need-slice-aggregate-same-2
@@ -22,13 +22,13 @@ same-requires-2 : tie.Need-same-requires-2
 same-requires-2 c κs = search rules
 
 returns-2 : tie.Need-returns-2
-unfolding accessOf text
+unfolding access_of text
 returns-2 c =
     let k = c.before.before.before in
     rw (← k.before.same.ensures, k.if1.false, ← c.before.same2.ensures, c.if2.true)
 
 returns-3 : tie.Need-returns-3
-unfolding accessOf text
+unfolding access_of text
 returns-3 c =
     let k = c.before.before.before in
     rw (← k.before.same.ensures, k.if1.false, ← c.before.same2.ensures, c.if2.false)

@@ -5,15 +5,15 @@ use mathlib.Core.Bool.{true, false}
 use native.Mathlib.Omega.{arith}
 use borrow.Author.Rules.{rules}
 use Rattle.model.specs.Base.{Bytes, text, any}
-use Rattle.model.specs.Names.{isName, is_plain}
+use Rattle.model.specs.Names.{is_name, is_plain}
 use Rattle.model.specs.Table.{split, under}
-use Rattle.model.specs.Tables.{sameBinding}
+use Rattle.model.specs.Tables.{same_binding}
 use Rattle.tabletext.proofs.Standing.{user-unknown, user-known, Stands, stands, lines_are, lines_long, lines-counted, lines-joined, lines-kept}
-use Rattle.tabletext.proofs.Added.{passed, failed, refuses, plain-named, bindingNames, newBinding}
+use Rattle.tabletext.proofs.Added.{passed, failed, refuses, plain-named, binding_names, new_binding}
 use Rattle.tabletext.proofs.Added.{binding-unnamed, binding-lost, binding-doubled, binding-full, binding-added}
 use Rattle.tabletext.proofs.row.add_binding.Statement.{statement}
 use Rattle.tabletext.proofs.row.add_binding.Tie as tie
-use Rattle.tables.specs.Memory.{userRow, usersBytes}
+use Rattle.tables.specs.Memory.{user_row, users_bytes}
 
 -- the line's values under its columns
 abbrev val : tie.Start → Bytes → Bytes
@@ -23,7 +23,7 @@ abbrev start : tie.Else1 → tie.Start
 start c = c.before.before.before.before.before.before.before.before.before.before.before
 
 -- ── The tests that were passed ──
-user : (c : tie.Else1) → isName (val (start c) (text "user")) ≡ true
+user : (c : tie.Else1) → is_name (val (start c) (text "user")) ≡ true
 unfolding text
 user c = rw (← c.before.before.before.before.before.before.value-under.ensures) (passed c.before.is_name.ensures c.if1.false)
 
@@ -31,7 +31,7 @@ name : (c : tie.Else2) → is_plain (val (start c.before.before) (text "name")) 
 unfolding text
 name c = rw (← c.before.before.before.before.before.before.value-under2.ensures) (passed c.before.is-plain.ensures c.if2.false)
 
-names : (c : tie.Else3) → bindingNames (val (start c.before.before.before.before)) ≡ true
+names : (c : tie.Else3) → binding_names (val (start c.before.before.before.before)) ≡ true
 unfolding text
 names c =
     let value = passed c.before.is_key.ensures c.if3.false in
@@ -42,17 +42,17 @@ found : (c : tie.After-known-told) → let s = start c.before.before.before.befo
 unfolding text
 found c = stands _ (user-known _ c.before.before.before.before.before.before.before.before.before.before.before.before.before.before.before.value-under.ensures c.before.before.before.find-user.ensures c.before.i.given.1).1
 
-inside : (c : tie.After-known-told) → c.before.i.given.0.0 * userRow + userRow ≤ usersBytes
+inside : (c : tie.After-known-told) → c.before.i.given.0.0 * user_row + user_row ≤ users_bytes
 inside c = (found c).inside
 
 -- what the search for the line said, and that it found none
-has : (c : tie.After-has-binding) → c.has-binding.result ≡ any (sameBinding (newBinding (val (start c.before.before.before.before.before.before.before.before.before.before.before.before)))) (found c.before.before.before).user.environment
+has : (c : tie.After-has-binding) → c.has-binding.result ≡ any (same_binding (new_binding (val (start c.before.before.before.before.before.before.before.before.before.before.before.before)))) (found c.before.before.before).user.environment
 unfolding text
 has c =
     let v = c.before.before.before.before.before.before.before.before.before.before.before.before.before.before in
     rw (lines_are (found c.before.before.before) (start c.before.before.before.before.before.before.before.before.before.before.before.before).requires.0, ← v.before.before.value-under2.ensures, ← v.value-under3.ensures) c.has-binding.ensures
 
-new : (c : tie.Else4) → any (sameBinding (newBinding (val (start c.before.before.before.before.before.before.before.before.before.before.before.before.before)))) (found c.before.before.before.before).user.environment ≡ false
+new : (c : tie.Else4) → any (same_binding (new_binding (val (start c.before.before.before.before.before.before.before.before.before.before.before.before.before)))) (found c.before.before.before.before).user.environment ≡ false
 new c = sym (has c.before) ∙ c.if4.false
 
 slice-aggregate-value-under : tie.Need-slice-aggregate-value-under

@@ -5,13 +5,13 @@ use mathlib.Core.Option.{some}
 use native.Mathlib.Omega.{arith}
 use borrow.Author.Rules.{rules}
 use Rattle.model.specs.Base.{Bytes, text}
-use Rattle.model.specs.Names.{isName}
+use Rattle.model.specs.Names.{is_name}
 use Rattle.model.specs.Paths.{steps_of}
 use Rattle.model.specs.Table.{split, under}
-use Rattle.model.specs.Tables.{accessOf}
+use Rattle.model.specs.Tables.{access_of}
 use Rattle.model.proofs.Spelling.{name-named}
-use Rattle.steps.specs.Steps.{stepsIn}
-use Rattle.tables.specs.Memory.{accessIn, accessByte}
+use Rattle.steps.specs.Steps.{steps_in}
+use Rattle.tables.specs.Memory.{access_in, access_byte}
 use Rattle.tabletext.proofs.Added.{passed, failed, refuses, access-unknown, access-known, path-unread, path-read, rules-counted}
 use Rattle.tabletext.proofs.Added.{rule-unnamed, rule-bad, rule-unread, rule-full, rule-added}
 use Rattle.tabletext.proofs.row.add_rule.Statement.{statement}
@@ -25,15 +25,15 @@ abbrev start : tie.Else1 → tie.Start
 start c = c.before.before.before.before.before.before.before
 
 -- ── The tests that were passed ──
-role : (c : tie.Else1) → isName (val (start c) (text "role")) ≡ true
+role : (c : tie.Else1) → is_name (val (start c) (text "role")) ≡ true
 unfolding text
 role c = rw (← c.before.before.value-under.ensures) (passed c.before.is_name.ensures c.if1.false)
 
-access : (c : tie.After-known-told) → let b = c.before.b.given.0.0 in (accessOf (val (start c.before.before.before.before.before.before) (text "access")) ≡ some (accessIn b)) × (b ≡ accessByte (accessIn b))
+access : (c : tie.After-known-told) → let b = c.before.b.given.0.0 in (access_of (val (start c.before.before.before.before.before.before) (text "access")) ≡ some (access_in b)) × (b ≡ access_byte (access_in b))
 unfolding text
 access c = access-known c.before.before.before.before.value-under2.ensures c.before.before.before.access.ensures c.before.b.given.1
 
-path : (c : tie.Else2) → steps_of (val (start c.before.before.before.before.before.before.before.before.before.before.before) (text "path")) ≡ some (stepsIn c.before.before.read-steps.result.slot)
+path : (c : tie.Else2) → steps_of (val (start c.before.before.before.before.before.before.before.before.before.before.before) (text "path")) ≡ some (steps_in c.before.before.read-steps.result.slot)
 unfolding text
 path c = path-read c.before.before.read-steps.result c.before.before.before.value-under3.ensures c.before.before.read-steps.ensures.0 c.if2.false
 

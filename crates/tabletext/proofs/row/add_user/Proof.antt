@@ -5,17 +5,17 @@ use mathlib.Core.Option.{none, some}
 use native.Mathlib.Omega.{arith}
 use borrow.Author.Rules.{rules}
 use Rattle.model.specs.Base.{Bytes, text, ◌==◌, number}
-use Rattle.model.specs.Limits.{maxQuota}
-use Rattle.model.specs.Names.{isName}
+use Rattle.model.specs.Limits.{max_quota}
+use Rattle.model.specs.Names.{is_name}
 use Rattle.model.specs.Table.{split, under}
-use Rattle.model.specs.Tables.{everyRole, userNamed}
+use Rattle.model.specs.Tables.{every_role, user_named}
 use Rattle.model.proofs.Spelling.{name-named}
-use Rattle.lexical.specs.Numbers.{numberAnswer}
+use Rattle.lexical.specs.Numbers.{number_answer}
 use Rattle.values.proofs.Values.{told}
 use Rattle.lexical.proofs.Decimals.{number-some}
-use Rattle.tables.specs.Memory.{usersIn}
+use Rattle.tables.specs.Memory.{users_in}
 use Rattle.tabletext.proofs.Standing.{user-known, user-unknown}
-use Rattle.tabletext.proofs.Added.{passed, failed, refuses, users-counted, userNames}
+use Rattle.tabletext.proofs.Added.{passed, failed, refuses, users-counted, user_names}
 use Rattle.tabletext.proofs.Added.{user-unnamed, user-every, user-bad, user-doubled, user-full, user-added}
 use Rattle.tabletext.proofs.row.add_user.Statement.{statement}
 use Rattle.tabletext.proofs.row.add_user.Tie as tie
@@ -28,29 +28,29 @@ abbrev start : tie.Else1 → tie.Start
 start c = c.before.before.before.before.before.before.before.before.before.before.before
 
 -- ── The tests that were passed ──
-name : (c : tie.Else1) → isName (val (start c) (text "user")) ≡ true
+name : (c : tie.Else1) → is_name (val (start c) (text "user")) ≡ true
 unfolding text
 name c = rw (← c.before.before.before.before.before.before.value-under.ensures) (passed c.before.is_name.ensures c.if1.false)
 
-role : (c : tie.Else2) → isName (val (start c.before.before) (text "role")) ≡ true
+role : (c : tie.Else2) → is_name (val (start c.before.before) (text "role")) ≡ true
 unfolding text
 role c = rw (← c.before.before.before.before.before.before.value-under2.ensures) (passed c.before.is-name2.ensures c.if2.false)
 
-names : (c : tie.Else3) → userNames (val (start c.before.before.before.before)) ≡ true
+names : (c : tie.Else3) → user_names (val (start c.before.before.before.before)) ≡ true
 unfolding text
 names c =
     let key = passed c.before.is-name3.ensures c.if3.false in
     rw (name c.before.before.before.before, role c.before.before, ← c.before.before.before.before.before.before.value-under3.ensures, key)
 
-one-role : (c : tie.Else4) → (val (start c.before.before.before.before.before.before.before) (text "role") == everyRole) ≡ false
-unfolding text everyRole
+one-role : (c : tie.Else4) → (val (start c.before.before.before.before.before.before.before) (text "role") == every_role) ≡ false
+unfolding text every_role
 one-role c = rw (← c.before.before.before.before.before.before.before.before.before.before.before.value-under2.ensures) (sym c.before.same.ensures ∙ c.if4.false)
 
-quota : (c : tie.After-known-told) → number maxQuota (val (start c.before.before.before.before.before.before.before.before.before.before.before.before.before) (text "allowance")) ≡ some c.before.quota.given.0.0
+quota : (c : tie.After-known-told) → number max_quota (val (start c.before.before.before.before.before.before.before.before.before.before.before.before.before) (text "allowance")) ≡ some c.before.quota.given.0.0
 unfolding text
-quota c = rw (← c.before.before.before.before.value-under4.ensures) (told numberAnswer c.before.before.before.number.ensures c.before.quota.given.1)
+quota c = rw (← c.before.before.before.before.value-under4.ensures) (told number_answer c.before.before.before.number.ensures c.before.quota.given.1)
 
-new : (c : tie.After-enum-told3) → let s = start c.before.before.before.before.before.before.before.before.before.before.before.before.before.before.before.before.before in userNamed (val s (text "user")) (usersIn s.args.users.now) ≡ none
+new : (c : tie.After-enum-told3) → let s = start c.before.before.before.before.before.before.before.before.before.before.before.before.before.before.before.before.before in user_named (val s (text "user")) (users_in s.args.users.now) ≡ none
 unfolding text
 new c = user-unknown _ c.before.before.before.before.before.before.before.before.before.before.before.before.before.before.before.before.before.before.before.before.before.before.before.value-under.ensures c.before.before.find-user.ensures c.enum-told3.given.1
 
@@ -106,7 +106,7 @@ same-requires : tie.Need-same-requires
 same-requires c κs = search rules
 
 returns-4 : tie.Need-returns-4
-unfolding text everyRole
+unfolding text every_role
 returns-4 c = refuses _ (user-every _ _ (names c.before.before.before) (rw (← c.before.before.before.before.before.before.before.before.before.before.before.value-under2.ensures) (sym c.before.same.ensures ∙ c.if4.true)))
 
 slice-aggregate-value-under-4 : tie.Need-slice-aggregate-value-under-4
@@ -127,7 +127,7 @@ enum_told c = search rules
 returns-5 : tie.Need-returns-5
 unfolding text
 returns-5 c =
-    let bad = told numberAnswer c.before.before.number.ensures c.enum_told.given.1 in
+    let bad = told number_answer c.before.before.number.ensures c.enum_told.given.1 in
     refuses _ (user-bad _ _ (names c.before.before.before.before.before.before.before.before) (one-role c.before.before.before.before.before) (rw (← c.before.before.before.value-under4.ensures) bad))
 
 find-user-requires : tie.Need-find-user-requires

@@ -6,21 +6,21 @@ use native.Mathlib.Omega.{arith}
 use lib.ListN.{drop}
 use borrow.Author.Rules.{rules}
 use Rattle.model.specs.Base.{any}
-use Rattle.model.specs.Tables.{sameBinding}
-use Rattle.steps.specs.Environments.{bindingRow, bindingsBytes, bindingsIn}
+use Rattle.model.specs.Tables.{same_binding}
+use Rattle.steps.specs.Environments.{binding_row, bindings_bytes, bindings_in}
 use Rattle.tabletext.proofs.Bindings.{binding-inside, binding-left, binding-over}
 use Rattle.tabletext.proofs.row.has_binding.Statement.{statement}
 use Rattle.tabletext.proofs.row.has_binding.Tie as tie
 
 abbrev invariant-loop : tie.invariant-loop
 invariant-loop lines name value n i₀ i =
-    (i ≤ n) × (any (sameBinding (record { name = name; value = value })) (bindingsIn lines) ≡ any (sameBinding (record { name = name; value = value })) (drop i (bindingsIn lines)))
+    (i ≤ n) × (any (same_binding (record { name = name; value = value })) (bindings_in lines) ≡ any (same_binding (record { name = name; value = value })) (drop i (bindings_in lines)))
 
 abbrev decreases-loop : tie.decreases-loop
 decreases-loop lines name value n i₀ i = n - i
 
 -- the row at i is inside
-inside : (c : tie.In-loop invariant-loop decreases-loop) → c.before.loop.i * bindingRow + bindingRow ≤ bindingsBytes
+inside : (c : tie.In-loop invariant-loop decreases-loop) → c.before.loop.i * binding_row + binding_row ≤ bindings_bytes
 inside c = binding-inside _ c.before.before.row_count.ensures c.before.loop.i c.loop-test.true
 
 row-count-requires : tie.Need-row-count-requires invariant-loop decreases-loop

@@ -9,7 +9,7 @@ use borrow.Author.Tests.{not-true, not-false}
 use lib.ListN.{drop}
 use Rattle.rows.proofs.Positions.{run-within}
 use Rattle.model.specs.Base.{after, is_some}
-use Rattle.lexical.specs.Numbers.{numberAnswer}
+use Rattle.lexical.specs.Numbers.{number_answer}
 use Rattle.lexical.proofs.Runs.{byte-stands}
 use Rattle.lexical.proofs.Decimals.{number-some}
 use Rattle.values.proofs.Values.{told, cast_fits, minus-fits, minus_is, negative-unsigned, negative-bad, negative-zero, negative-is}
@@ -53,20 +53,20 @@ enum_told c = search rules
 returns-2 : tie.Need-returns-2
 returns-2 c =
     let r = c.before.before.before.before in
-    (negative-bad _ _ (signed r.before) _ r.run.ensures (told numberAnswer c.before.before.number.ensures c.enum_told.given.1), tt)
+    (negative-bad _ _ (signed r.before) _ r.run.ensures (told number_answer c.before.before.number.ensures c.enum_told.given.1), tt)
 
 returns-3 : tie.Need-returns-3
 returns-3 c =
     let k = c.before.before in
     let r = k.before.before.before.before in
-    (negative-zero _ _ (signed r.before) _ r.run.ensures _ c.if2.true (told numberAnswer k.before.before.number.ensures k.n.given.1), tt)
+    (negative-zero _ _ (signed r.before) _ r.run.ensures _ c.if2.true (told number_answer k.before.before.number.ensures k.n.given.1), tt)
 
 returns-4 : tie.Need-returns-4
 returns-4 c =
     let k = c.before.before.before in
     let r = k.before.before.before.before in (
       negative-is _ _ (signed r.before) _ r.run.ensures _ _ c.before.if2.false (rw c.if3.true)
-          (told numberAnswer k.before.before.number.ensures k.n.given.1),
+          (told number_answer k.before.before.number.ensures k.n.given.1),
       tt,
     )
 
@@ -74,7 +74,7 @@ returns-4 c =
 below : (c : tie.Else3) → c.before.before.before.n.given.0.0 ≤ 2147483647
 below c =
     let k = c.before.before.before in
-    omega (arith, c.if3.false, (number-some _ _ _ (told numberAnswer k.before.before.number.ensures k.n.given.1)).2)
+    omega (arith, c.if3.false, (number-some _ _ _ (told number_answer k.before.before.number.ensures k.n.given.1)).2)
 
 cast-t15 : tie.Need-overflow-cast-t15
 cast-t15 c = cast_fits _ (below c)
@@ -87,7 +87,7 @@ returns-5 c =
     let k = c.before.before.before in
     let r = k.before.before.before.before in (
       negative-is _ _ (signed r.before) _ r.run.ensures _ _ c.before.if2.false (minus_is _ c.before.if2.false (below c))
-          (told numberAnswer k.before.before.number.ensures k.n.given.1),
+          (told number_answer k.before.before.number.ensures k.n.given.1),
       tt,
     )
 

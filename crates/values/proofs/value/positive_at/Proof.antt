@@ -1,7 +1,7 @@
 -- The digits run from the position on, and the number that they spell is at most the greatest i32, which its cast keeps.
 use borrow.Author.Rules.{rules}
 use Rattle.rows.proofs.Positions.{run-within}
-use Rattle.lexical.specs.Numbers.{numberAnswer}
+use Rattle.lexical.specs.Numbers.{number_answer}
 use Rattle.lexical.proofs.Decimals.{number-some}
 use Rattle.values.proofs.Values.{told, cast_fits, positive-bad, positive-is}
 use Rattle.values.proofs.value.positive_at.Statement.{statement}
@@ -31,15 +31,15 @@ enum_told c = search rules
 returns : tie.Need-returns
 returns c =
     let r = c.before.before.before.before in
-    (positive-bad _ _ _ r.run.ensures (told numberAnswer c.before.before.number.ensures c.enum_told.given.1), tt)
+    (positive-bad _ _ _ r.run.ensures (told number_answer c.before.before.number.ensures c.enum_told.given.1), tt)
 
 cast-t11 : tie.Need-overflow-cast-t11
-cast-t11 c = cast_fits _ (number-some _ _ _ (told numberAnswer c.before.before.before.number.ensures c.before.n.given.1)).2
+cast-t11 c = cast_fits _ (number-some _ _ _ (told number_answer c.before.before.before.number.ensures c.before.n.given.1)).2
 
 returns-2 : tie.Need-returns-2
 returns-2 c =
     let r = c.before.before.before.before.before in
-    (positive-is _ _ _ r.run.ensures r.before.before.requires _ (told numberAnswer c.before.before.before.number.ensures c.before.n.given.1), tt)
+    (positive-is _ _ _ r.run.ensures r.before.before.requires _ (told number_answer c.before.before.before.number.ensures c.before.n.given.1), tt)
 
 pub positive-at-spec : {M : Type 1} → statement M
 positive-at-spec =

@@ -4,7 +4,7 @@ use native.Mathlib.Omega.{arith}
 use borrow.Author.Rules.{rules}
 use lib.ListN.{length, length-take, length-drop}
 use Rattle.model.specs.Base.{text}
-use Rattle.model.specs.Values.{quoted, valueText}
+use Rattle.model.specs.Values.{quoted, value_text}
 use Rattle.values.proofs.Wholes.{i32-kept}
 use Rattle.values.proofs.value.put_value.Statement.{statement}
 use Rattle.values.proofs.value.put_value.Tie as tie
@@ -60,14 +60,14 @@ same_length : tie.Need-same-length
 same_length c = search rules
 
 returns : tie.Need-returns
-unfolding valueText text
+unfolding value_text text
 returns c = rw c.before.before.before.before.before.enum_told.given.1 c.before.before.put.ensures
 
 same-length-2 : tie.Need-same-length-2
 same-length-2 c = search rules
 
 returns-2 : tie.Need-returns-2
-unfolding valueText text
+unfolding value_text text
 returns-2 c = rw c.before.before.before.before.before.enum-told2.given.1 c.before.before.put2.ensures
 
 same-length-3 : tie.Need-same-length-3
@@ -83,7 +83,7 @@ same-length-4 : tie.Need-same-length-4
 same-length-4 c = search rules
 
 returns-4 : tie.Need-returns-4
-unfolding valueText quoted text
+unfolding value_text quoted text
 returns-4 c = rw c.before.before.before.before.before.before.v2.given.1 c.before.before.put-quoted.ensures
 
 pub put-value-spec : {M : Type 1} → statement M

@@ -2,7 +2,7 @@
 use mathlib.Core.Path.{◌∙◌}
 use Rattle.rows.specs.Positions.{behind, placed}
 use Rattle.model.specs.Base.{text}
-use Rattle.values.specs.Starts.{readAs}
+use Rattle.values.specs.Starts.{read_as}
 use Rattle.values.specs.declared.value.Start.TheVariants.{True, False, Text, Positive, Negative, Other}
 use Rattle.values.proofs.Values.{value-over, value-is}
 use borrow.Author.Rules.{rules}
@@ -58,42 +58,42 @@ enum-told-6 : tie.Need-enum-told-6
 enum-told-6 c = search rules
 
 returns-2 : tie.Need-returns-2
-unfolding text readAs
+unfolding text read_as
 returns-2 c =
     let b = c.before.before.before.before in
     let a = c.word_at.ensures in
     (a.0 ∙ value-is _ _ b.before.before.if1.false _ True b.start_of_lem.ensures c.before.before.enum_told.given.1, a.1)
 
 returns-3 : tie.Need-returns-3
-unfolding text readAs
+unfolding text read_as
 returns-3 c =
     let b = c.before.before.before.before in
     let a = c.word-at2.ensures in
     (a.0 ∙ value-is _ _ b.before.before.if1.false _ False b.start_of_lem.ensures c.before.before.enum-told2.given.1, a.1)
 
 returns-4 : tie.Need-returns-4
-unfolding text readAs
+unfolding text read_as
 returns-4 c =
     let b = c.before.before.before in
     let a = c.text_at.ensures in
     (a.0 ∙ value-is _ _ b.before.before.if1.false _ Text b.start_of_lem.ensures c.before.enum-told3.given.1, a.1)
 
 returns-5 : tie.Need-returns-5
-unfolding text readAs
+unfolding text read_as
 returns-5 c =
     let b = c.before.before.before in
     let a = c.positive-at.ensures in
     (a.0 ∙ value-is _ _ b.before.before.if1.false _ Positive b.start_of_lem.ensures c.before.enum-told4.given.1, a.1)
 
 returns-6 : tie.Need-returns-6
-unfolding text readAs
+unfolding text read_as
 returns-6 c =
     let b = c.before.before.before in
     let a = c.negative-at.ensures in
     (a.0 ∙ value-is _ _ b.before.before.if1.false _ Negative b.start_of_lem.ensures c.before.enum-told5.given.1, a.1)
 
 returns-7 : tie.Need-returns-7
-unfolding readAs placed behind
+unfolding read_as placed behind
 returns-7 c =
     let b = c.before.before in
     (value-is _ _ b.before.before.if1.false _ Other b.start_of_lem.ensures c.enum-told6.given.1, tt)

@@ -1,6 +1,6 @@
 -- A slot is shown to all, or to the user whose bit its mask has.
 use borrow.Author.Rules.{rules}
-use Rattle.writer.specs.Selected.{isShown}
+use Rattle.writer.specs.Selected.{is_shown}
 use Rattle.writer.proofs.saved.is_shown.Statement.{statement}
 use Rattle.writer.proofs.saved.is_shown.Tie as tie
 
@@ -20,11 +20,11 @@ has-bit-requires c κs =
     search rules
 
 returns : tie.Need-returns
-unfolding isShown
+unfolding is_shown
 returns c = rw c.enum_told.given.1
 
 returns-2 : tie.Need-returns-2
-unfolding isShown
+unfolding is_shown
 returns-2 c = rw (c.before.before.before.shown.given.1, ← c.before.mask-of.ensures) c.has-bit.ensures
 
 pub is-shown-spec : {M : Type 1} → statement M

@@ -4,21 +4,21 @@ use mathlib.Core.Path.{◌≡◌, refl, sym, ◌∙◌}
 use borrow.Author.Rules.{rules}
 use native.Mathlib.Omega.{arith}
 use lib.ListN.{length}
-use Rattle.layout.specs.Layout.{inUse}
+use Rattle.layout.specs.Layout.{in_use}
 use Rattle.layout.proofs.Used.{used-fit, used-more}
-use Rattle.record.specs.Slots.{slotBytes}
-use Rattle.model.specs.Limits.{maxFields}
-use Rattle.writer.specs.Selected.{shownFrom}
-use Rattle.writer.proofs.Shown.{slotsFrom, shown-over, shown-stop, shown-step, shown-here}
+use Rattle.record.specs.Slots.{slot_bytes}
+use Rattle.model.specs.Limits.{max_fields}
+use Rattle.writer.specs.Selected.{shown_from}
+use Rattle.writer.proofs.Shown.{slots_from, shown-over, shown-stop, shown-step, shown-here}
 use Rattle.writer.proofs.saved.next_shown.Statement.{statement}
 use Rattle.writer.proofs.saved.next_shown.Tie as tie
 
 abbrev invariant-loop : tie.invariant-loop
 invariant-loop table shown i j₀ j =
-    (j ≤ length (inUse slotBytes maxFields table)) × (shownFrom shown i (slotsFrom i table) ≡ shownFrom shown j (slotsFrom j table))
+    (j ≤ length (in_use slot_bytes max_fields table)) × (shown_from shown i (slots_from i table) ≡ shown_from shown j (slots_from j table))
 
 abbrev decreases-loop : tie.decreases-loop
-decreases-loop table shown i j₀ j = maxFields - j
+decreases-loop table shown i j₀ j = max_fields - j
 
 loop-holds : tie.Need-loop-init invariant-loop decreases-loop
 loop-holds c = (c.requires.0, refl)
@@ -57,12 +57,12 @@ loop-again c =
     let slot = t.before.before.slot_at.ensures.0 in
     let full = sym t.before.is-empty.ensures ∙ t.if1.false in
     let step = shown-step _ _ l.j (search rules) l.invariant.0 slot full (sym c.before.is-shown.ensures ∙ c.if2.false) in
-    (omega (arith, used-more slotBytes maxFields _ l.j (search rules) l.invariant.0 slot full), l.invariant.1 ∙ step)
+    (omega (arith, used-more slot_bytes max_fields _ l.j (search rules) l.invariant.0 slot full), l.invariant.1 ∙ step)
 
 returns-3 : tie.Need-returns-3 invariant-loop decreases-loop
 returns-3 c =
     let l = c.before.loop in
-    sym (l.invariant.1 ∙ shown-over _ _ l.j (omega (arith, used-fit slotBytes maxFields c.before.before.args.table.now)))
+    sym (l.invariant.1 ∙ shown-over _ _ l.j (omega (arith, used-fit slot_bytes max_fields c.before.before.args.table.now)))
 
 pub next-shown-spec : {M : Type 1} → statement M
 next-shown-spec =

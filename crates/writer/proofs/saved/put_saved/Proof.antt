@@ -2,34 +2,34 @@
 use Prim.Native.Nat.{ℕ, ◌+◌, ◌*◌, ◌-◌, ◌≤◌, ◌<◌}
 use mathlib.Core.Path.{◌≡◌, refl}
 use native.Mathlib.Omega.{arith}
-use Rattle.model.specs.Limits.{maxFields}
+use Rattle.model.specs.Limits.{max_fields}
 use borrow.Author.Rules.{rules}
 use lib.ListN.{length, take, drop, length-replicate}
 use Rattle.model.specs.Base.{Bytes, text}
-use Rattle.model.specs.SavedText.{savedBehind}
+use Rattle.model.specs.SavedText.{saved_behind}
 use Rattle.buffers.proofs.Writers.{wrote-both}
-use Rattle.paths.specs.Layout.{pathIn}
-use Rattle.layout.specs.Layout.{inUse}
-use Rattle.record.specs.Slots.{slotBytes}
+use Rattle.paths.specs.Layout.{path_in}
+use Rattle.layout.specs.Layout.{in_use}
+use Rattle.record.specs.Slots.{slot_bytes}
 use Rattle.writer.proofs.Remains.{Remains, remains-step, remains-end}
 use Rattle.writer.proofs.Turns.{saved-none, saved-some, behind-none, behind-some}
-use Rattle.writer.proofs.Shown.{fieldsFrom, Next, none-next, next}
+use Rattle.writer.proofs.Shown.{fields_from, Next, none-next, next}
 use Rattle.writer.specs.declared.saved.Shown.{Shown}
 use Rattle.writer.proofs.saved.put_saved.Statement.{statement}
 use Rattle.writer.proofs.saved.put_saved.Tie as tie
-use Rattle.writer.specs.Selected.{savedField, shownIn}
+use Rattle.writer.specs.Selected.{saved_field, shown_in}
 
 -- the text behind the value of the field in slot i
 abbrev behind : ℕ → Shown → Bytes → Bytes
-behind i shown table = savedBehind (pathIn (take slotBytes (drop (i * slotBytes) table))) (fieldsFrom (i + 1) shown table)
+behind i shown table = saved_behind (path_in (take slot_bytes (drop (i * slot_bytes) table))) (fields_from (i + 1) shown table)
 
 abbrev invariant-loop : tie.invariant-loop
 invariant-loop out₀ at table shown i₀ to₀ out i to =
-    (i < maxFields) × (i < length (inUse slotBytes maxFields table)) × (to ≤ at + savedField * (i + 1)) × (length out ≡ length out₀)
+    (i < max_fields) × (i < length (in_use slot_bytes max_fields table)) × (to ≤ at + saved_field * (i + 1)) × (length out ≡ length out₀)
     × Remains to₀ (behind i₀ shown table) out₀ to (behind i shown table) out
 
 abbrev decreases-loop : tie.decreases-loop
-decreases-loop out₀ at table shown i₀ to₀ out i to = maxFields - i
+decreases-loop out₀ at table shown i₀ to₀ out i to = max_fields - i
 
 -- the first field that is shown
 first-shown : (c : tie.Else1 invariant-loop decreases-loop) → let a = c.before.before.before.args in Next a.table.now a.shown 0 c.before.next-shown.result
@@ -53,7 +53,7 @@ same_length : tie.Need-same-length invariant-loop decreases-loop
 same_length c = search rules
 
 returns : tie.Need-returns invariant-loop decreases-loop
-unfolding text shownIn
+unfolding text shown_in
 returns c =
     let t = c.before.before.before.before.before in
     (rw (none-next _ _ 0 _ (omega arith) t.before.next-shown.ensures t.if1.true, saved-none) c.before.before.put.ensures, search rules)
@@ -94,7 +94,7 @@ same-length-2 : tie.Need-same-length-2 invariant-loop decreases-loop
 same-length-2 c = search rules
 
 returns-2 : tie.Need-returns-2 invariant-loop decreases-loop
-unfolding text shownIn
+unfolding text shown_in
 returns-2 c =
     let t = c.before.before.before.before.before.before in
     let h = c.before.before.before.before.before.before.before.before.before.before.before in

@@ -6,19 +6,19 @@ use borrow.Author.Rules.{rules}
 use lib.ListN.{length, drop, length-take}
 use Rattle.model.specs.Base.{text}
 use Rattle.model.specs.SavedText.{descend}
-use Rattle.paths.specs.Layout.{pathIn}
+use Rattle.paths.specs.Layout.{path_in}
 use Rattle.buffers.proofs.Writers.{wrote_none}
 use Rattle.layout.proofs.Named.{name-length}
 use Rattle.writer.proofs.Remains.{Remains, remains-step, remains-end}
 use Rattle.writer.proofs.Turns.{descend-more, descend-last, descend-over}
 use Rattle.writer.proofs.turn.put_descent.Statement.{statement}
 use Rattle.writer.proofs.turn.put_descent.Tie as tie
-use Rattle.model.specs.Limits.{maxKey}
+use Rattle.model.specs.Limits.{max_key}
 
 abbrev invariant-loop : tie.invariant-loop
 invariant-loop out₀ at path from n to₀ i₀ out to i =
-    (to + (maxKey + 4) * (n - i) ≤ at + (maxKey + 4) * (n - from)) × (length out ≡ length out₀)
-    × Remains at (descend (drop from (pathIn path))) out₀ to (descend (drop i (pathIn path))) out
+    (to + (max_key + 4) * (n - i) ≤ at + (max_key + 4) * (n - from)) × (length out ≡ length out₀)
+    × Remains at (descend (drop from (path_in path))) out₀ to (descend (drop i (path_in path))) out
 
 abbrev decreases-loop : tie.decreases-loop
 decreases-loop out₀ at path from n to₀ i₀ out to i = n - i
@@ -36,19 +36,19 @@ key-at-requires : tie.Need-key-at-requires invariant-loop decreases-loop
 key-at-requires c κs = search rules
 
 put-requires : tie.Need-put-requires invariant-loop decreases-loop
-put-requires c κs = let k = name-length maxKey _ c.key-at.ensures (simp length-take (omega arith)) in omega arith
+put-requires c κs = let k = name-length max_key _ c.key-at.ensures (simp length-take (omega arith)) in omega arith
 
 put-byte-requires-2 : tie.Need-put-byte-requires-2 invariant-loop decreases-loop
-put-byte-requires-2 c κs = let k = name-length maxKey _ c.before.before.before.before.key-at.ensures (simp length-take (omega arith)) in omega arith
+put-byte-requires-2 c κs = let k = name-length max_key _ c.before.before.before.before.key-at.ensures (simp length-take (omega arith)) in omega arith
 
 put-byte-requires-3 : tie.Need-put-byte-requires-3 invariant-loop decreases-loop
-put-byte-requires-3 c κs = let k = name-length maxKey _ c.before.before.before.before.before.before.before.before.key-at.ensures (simp length-take (omega arith)) in omega arith
+put-byte-requires-3 c κs = let k = name-length max_key _ c.before.before.before.before.before.before.before.before.key-at.ensures (simp length-take (omega arith)) in omega arith
 
 add-i : tie.Need-overflow-add-i invariant-loop decreases-loop
 add-i c = search rules
 
 put-byte-requires-4 : tie.Need-put-byte-requires-4 invariant-loop decreases-loop
-put-byte-requires-4 c κs = let k = name-length maxKey _ c.before.before.before.before.before.before.before.before.before.before.before.before.before.key-at.ensures (simp length-take (omega arith)) in omega arith
+put-byte-requires-4 c κs = let k = name-length max_key _ c.before.before.before.before.before.before.before.before.before.before.before.before.before.key-at.ensures (simp length-take (omega arith)) in omega arith
 
 loop-less : tie.Need-loop-smaller invariant-loop decreases-loop
 loop-less c = search rules
@@ -60,7 +60,7 @@ loop-again c =
     let n = p.before.before.before.before.before.before.before.before.before in
     let l = n.before.before.before.before.before.before.before.loop in
     let name = n.key-at.ensures in
-    let k = name-length maxKey _ name (simp length-take (omega arith)) in
+    let k = name-length max_key _ name (simp length-take (omega arith)) in
     let e = descend-more n.before.before.before.before.before.before.before.before.before.before.before.args.path.now l.i name (search rules) (search rules) in
     let opened = remains-step _ _ _ _ _ _ _ _ _ (rw e at l.invariant.2) n.before.before.before.before.put_byte.ensures in
     let key = remains-step _ _ _ _ _ _ _ _ _ opened p.before.before.before.before.before.before.before.before.put.ensures in
@@ -78,7 +78,7 @@ loop-again-2 c =
     let n = p.before.before.before.before.before.before.before.before.before in
     let l = n.before.before.before.before.before.before.before.loop in
     let name = n.key-at.ensures in
-    let k = name-length maxKey _ name (simp length-take (omega arith)) in
+    let k = name-length max_key _ name (simp length-take (omega arith)) in
     let e = descend-last n.before.before.before.before.before.before.before.before.before.before.before.args.path.now l.i name (search rules) (search rules) in
     let opened = remains-step _ _ _ _ _ _ _ _ _ (rw e at l.invariant.2) n.before.before.before.before.put_byte.ensures in
     let key = remains-step _ _ _ _ _ _ _ _ _ opened p.before.before.before.before.before.before.before.before.put.ensures in
