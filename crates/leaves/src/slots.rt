@@ -15,12 +15,8 @@ use steps::step::{BINDING, ENVIRONMENT, Kind, NAMES, Operator, Step, one_name, s
 // What is shown of a text.
 const OUT: usize = 40;
 
-// Where the second environment line has its value, and where the third stands.
+// Where the second of two environment lines has its value.
 const SECOND_VALUE: usize = BINDING + NAME_ROW;
-
-const THIRD: usize = 2 * BINDING;
-
-const THIRD_VALUE: usize = THIRD + NAME_ROW;
 
 fn kind(k: Kind) {
     match k {
@@ -142,15 +138,13 @@ fn order_of(a: &[u8], b: &[u8]) {
     order(&x, &y);
 }
 
-// A user's three lines, n 29, n 30 and m 29: before each name and value stands how long it is.
-fn three_lines() -> [u8; ENVIRONMENT] {
+// A user's two lines, n 29 and n 30: before each name and value stands how long it is.
+fn two_lines() -> [u8; ENVIRONMENT] {
     let mut lines = [0u8; ENVIRONMENT];
     put(&mut lines, 0, b"\x01n");
     put(&mut lines, NAME_ROW, b"\x0229");
     put(&mut lines, BINDING, b"\x01n");
     put(&mut lines, SECOND_VALUE, b"\x0230");
-    put(&mut lines, THIRD, b"\x01m");
-    put(&mut lines, THIRD_VALUE, b"\x0229");
     lines
 }
 
@@ -160,7 +154,7 @@ fn matched(lines: &[u8; ENVIRONMENT], steps: &[u8; STEPS], slot: &[u8; PATH]) {
 
 fn match_of(p: &[u8], k: &[u8]) {
     show::asked_both(b"matches", p, k);
-    let lines = three_lines();
+    let lines = two_lines();
     let steps = read_steps(p).slot;
     let slot = read_path(k).slot;
     matched(&lines, &steps, &slot);
@@ -197,12 +191,11 @@ fn orders() {
 fn matches_by_environment() {
     let first = b"$['29']['speed']";
     let second = b"$['30']['speed']";
+    let equals = b"$[=~n].speed";
     match_of(b"$.*.speed", first);
-    match_of(b"$[=~n].speed", first);
-    match_of(b"$[in~n].speed", first);
+    match_of(equals, first);
+    match_of(equals, second);
     match_of(b"$[in~n].speed", second);
-    match_of(b"$[=~m].speed", first);
-    match_of(b"$[=~m].speed", second);
 }
 
 fn matches_by_names() {

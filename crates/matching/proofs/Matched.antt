@@ -4,12 +4,10 @@ use mathlib.Core.Path.{◌≡◌, refl, sym, ap, ◌∙◌}
 use mathlib.Core.Bool.{Bool, true, false, ◌&&◌, ◌||◌, and-true, and-false, and_assoc}
 use mathlib.Core.List.{List, [], ◌∷◌}
 use native.Mathlib.Omega.{arith}
-use lib.Dec.{eqb}
 use lib.ListN.{length, get_or, take, drop}
 use lib.Seq.{take-take}
-use borrow.Author.Tests.{eqb-true, eqb-false}
 use Rattle.layout.specs.Layout.{in_use, name_row, key_row, name_in, counted}
-use Rattle.layout.proofs.Used.{used-fit, used-last, used-more, byte-empty, byte_full, row-left, rows-over}
+use Rattle.layout.proofs.Used.{used-last, used-more, byte-empty, byte_full, row-left, rows-over}
 use Rattle.rows.proofs.Parts.{part-part}
 use Rattle.model.specs.Base.{Bytes, any, among, keep, ◌==◌}
 use Rattle.model.specs.Fields.{Keys}
@@ -17,8 +15,7 @@ use Rattle.model.specs.Limits.{max_bindings, max_depth}
 use Rattle.model.specs.Paths.{Step, Steps}
 use Rattle.model.specs.Paths as paths
 use Rattle.model.specs.Tables.{Binding}
-use Rattle.model.specs.Rights.{listed, is_only, paired, admits_by, matches_by, admits, matches}
-use Rattle.model.proofs.Admitted.{only-among}
+use Rattle.model.specs.Rights.{listed, first_is, admits, matches}
 use Rattle.model.proofs.Lists.{by_cases, never, and_both, or-neither, all_keep, all_map, any_false, false-any, keep-yes, keep-no}
 use Rattle.paths.specs.Layout.{path_in}
 use Rattle.steps.specs.Steps.{step_row, names_in, by_kind, kind_of, step_in, steps_in}
@@ -26,7 +23,7 @@ use Rattle.steps.specs.Environments.{binding_row, binding_in, bindings_in}
 use Rattle.steps.specs.declared.step.Kind.{Kind}
 use Rattle.steps.proofs.StepRows.{step-told}
 use Rattle.layout.proofs.Counts.{length-counted, counted_step, counted-over}
-use Rattle.matching.specs.Parts.{binding_count, NamedFrom, may_admit, is_met, asks, has_value, may_match}
+use Rattle.matching.specs.Parts.{decides, may_admit, is_met, asks, has_value, paired, may_match}
 
 -- ── Whether any row of a slot passes, from the row i on ──
 module _ {A : Type 0} (decode : Bytes → A) (k m : ℕ) (p : A → Bool) (s : Bytes) (i : ℕ) where
@@ -89,85 +86,56 @@ module _ (s : Bytes) (i : ℕ) (h : i < max_bindings) (passed : i ≤ length (in
       unfolding listed
       listed-no y = rw (line-next, keep-no (λ (b : Binding). b.name == n) (binding_in (line_at s i)) (drop (i + 1) (bindings_in s)) (line-name ∙ y))
 
--- ── The values that are listed under a name ──
-pub listed-none : (n : Bytes) {bs : List Binding} → bs ≡ [] → listed bs n ≡ []
-unfolding listed keep
-listed-none n e = rw e
+-- ── What an environment step asks of the values that are listed under its name ──
+unfoldable pub asked : paths.Operator → Bytes → List Bytes → Bool
+asked paths.equals k vs = first_is k vs
+asked paths.is_in k vs = among k vs
 
-pub named_none : (s n : Bytes) (i : ℕ) → listed (drop i (bindings_in s)) n ≡ [] → NamedFrom s n i max_bindings
-named_none s n i e = record { none = λ _. e; below = λ f. absurd (f refl); first = λ f. absurd (f refl) }
+pub admits-listed : (bs : List Binding) (o : paths.Operator) (n k : Bytes) → admits bs (paths.environment o n) k ≡ asked o k (listed bs n)
+unfolding admits asked
+admits-listed bs paths.equals n k = refl
+admits-listed bs paths.is_in n k = refl
 
-pub named-first : (s n : Bytes) (i r : ℕ) → r < binding_count s
-    → listed (drop i (bindings_in s)) n ≡ name_in (take key_row (drop (r * binding_row + name_row) s)) ∷ listed (drop (r + 1) (bindings_in s)) n → NamedFrom s n i r
-named-first s n i r b e = record { none = λ z. absurd (omega (arith, used-fit binding_row max_bindings s)); below = λ _. b; first = λ _. e }
+-- the key is none of them
+asked-absent : (o : paths.Operator) (k : Bytes) (vs : List Bytes) → among k vs ≡ false → asked o k vs ≡ false
+unfolding asked first_is among any
+asked-absent paths.equals k [] h = refl
+asked-absent paths.equals k (v ∷ vs) h = (or-neither (k == v) (among k vs) h).0
+asked-absent paths.is_in k vs h = h
 
--- what no line has as its value is not among them
-listed-apart : (bs : List Binding) (n k : Bytes) → has_value bs k ≡ false → among k (listed bs n) ≡ false
-unfolding has_value listed among
-listed-apart bs n k h =
-    let named = keep (λ (b : Binding). b.name == n) bs in
-    let apart = all_keep _ (λ (b : Binding). b.name == n) bs (any_false (λ (b : Binding). k == b.value) bs h) in
-    false-any (λ (v : Bytes). k == v) _ (all_map (λ (v : Bytes). (k == v) ≡ false) (λ (b : Binding). b.value) named apart)
+pub asked-none : (o : paths.Operator) (n k : Bytes) {bs : List Binding} → bs ≡ [] → asked o k (listed bs n) ≡ false
+unfolding listed keep among any
+asked-none o n k e = rw e (asked-absent o k [] refl)
 
 -- an environment step that admits a key has a line with that value
-admits-held : (bs : List Binding) (o : paths.Operator) (n k : Bytes) → has_value bs k ≡ false → admits bs (paths.environment o n) k ≡ false
-unfolding admits_by
-admits-held bs paths.equals n k h = only-among k (listed bs n) ∙ rw (listed-apart bs n k h) (and-false (eqb (length (listed bs n)) 1))
-admits-held bs paths.is_in n k h = listed-apart bs n k h
-
--- ── Whether a key is among those that are left in a loop ──
-pub among_none : (k : Bytes) {vs : List Bytes} → vs ≡ [] → among k vs ≡ false
-unfolding among any
-among_none k e = rw e
+pub admits-held : (bs : List Binding) (o : paths.Operator) (n k : Bytes) → has_value bs k ≡ false → admits bs (paths.environment o n) k ≡ false
+unfolding has_value listed among
+admits-held bs o n k h =
+    let named = keep (λ (b : Binding). b.name == n) bs in
+    let apart = all_keep _ (λ (b : Binding). b.name == n) bs (any_false (λ (b : Binding). k == b.value) bs h) in
+    admits-listed bs o n k
+    ∙ asked-absent o k (listed bs n) (false-any (λ (v : Bytes). k == v) _ (all_map (λ (v : Bytes). (k == v) ≡ false) (λ (b : Binding). b.value) named apart))
 
 -- the first of them is v, and r says whether it is the key k
 module _ (k v : Bytes) {vs ws : List Bytes} (e : vs ≡ v ∷ ws) {r : Bool} (t : r ≡ (k == v)) where
-  pub among_first : r ≡ true → among k vs ≡ true
-  unfolding among any
-  among_first y = rw (e, ← t, y)
+  pub asked-decided : (o : paths.Operator) → decides o r ≡ true → asked o k vs ≡ r
+  unfolding asked first_is among any
+  asked-decided paths.equals d = rw (e, ← t)
+  asked-decided paths.is_in d = rw (e, ← t, d)
 
-  among-behind : r ≡ false → among k vs ≡ among k ws
-  unfolding among any
-  among-behind y = rw (e, ← t, y)
+  asked-left : (o : paths.Operator) → decides o r ≡ false → asked o k vs ≡ asked o k ws
+  unfolding asked among any
+  asked-left paths.equals d = never d
+  asked-left paths.is_in d = rw (e, ← t, d)
 
--- a line with another value, whether or not it has the name n, leaves the question for the lines behind it
-pub among_later : (s n : Bytes) (i : ℕ) → i < max_bindings → i ≤ length (in_use binding_row max_bindings s) → (get_or s (i * binding_row) 0 ≡ 0 → ⊥)
-    → (k : Bytes) {value : Bytes} {r : Bool} → value ≡ name_in (take key_row (drop (i * binding_row + name_row) s)) → r ≡ (k == value)
-    → r ≡ false → among k (listed (drop i (bindings_in s)) n) ≡ among k (listed (drop (i + 1) (bindings_in s)) n)
-among_later s n i h passed f k v t d =
+-- a line that does not decide, whether or not it has the name n, leaves the question for the lines behind it
+pub asked-later : (s n : Bytes) (i : ℕ) → i < max_bindings → i ≤ length (in_use binding_row max_bindings s) → (get_or s (i * binding_row) 0 ≡ 0 → ⊥)
+    → (o : paths.Operator) (k : Bytes) {value : Bytes} {r : Bool} → value ≡ name_in (take key_row (drop (i * binding_row + name_row) s)) → r ≡ (k == value)
+    → decides o r ≡ false → asked o k (listed (drop i (bindings_in s)) n) ≡ asked o k (listed (drop (i + 1) (bindings_in s)) n)
+asked-later s n i h passed f o k v t d =
     by_cases (name_in (take name_row (drop (i * binding_row) s)) == n)
-    (λ y. among-behind k _ (listed-yes s i h passed f n refl refl y v) t d)
-    (λ y. ap (among k) (listed-no s i h passed f n refl refl y))
-
--- ── Whether a key is the only value ──
-pub only_none : (k : Bytes) {vs : List Bytes} → vs ≡ [] → is_only k vs ≡ false
-unfolding is_only
-only_none k e = rw e
-
--- the first of them is v, and r says whether it is the key k
-module _ (k v : Bytes) {vs ws : List Bytes} (e : vs ≡ v ∷ ws) where
-  pub only_one : {r : Bool} → r ≡ (k == v) → ws ≡ [] → is_only k vs ≡ r
-  unfolding is_only
-  only_one t last = rw (e, last) (sym t)
-
-  pub only-several : (w : Bytes) {xs : List Bytes} → ws ≡ w ∷ xs → is_only k vs ≡ false
-  unfolding is_only
-  only-several w more = rw (e, more)
-
-  pub only-other : {r : Bool} → r ≡ (k == v) → r ≡ false → is_only k vs ≡ false
-  unfolding is_only
-  only-other t d = rw e (other ws (sym t ∙ d))
-    where
-      other : (ws : List Bytes) → (k == v) ≡ false → is_only k (v ∷ ws) ≡ false
-      other [] x = x
-      other (w ∷ xs) x = refl
-
--- v is the key, and those behind it are listed from the row i on: it is the only one where none of them is found
-pub only-last : (s n : Bytes) {i r : ℕ} → NamedFrom s n i r → (k v : Bytes) {vs : List Bytes} → vs ≡ v ∷ listed (drop i (bindings_in s)) n → {same : Bool} → same ≡ (k == v) → same ≡ true
-    → eqb r max_bindings ≡ is_only k vs
-only-last s n {i} {r} found k v e t y = by_cases (eqb r max_bindings)
-    (λ z. z ∙ sym (only_one k v e t (found.none (eqb-true r max_bindings z)) ∙ y))
-    (λ z. z ∙ sym (only-several k v e _ (found.first (eqb-false r max_bindings z))))
+    (λ y. asked-left k _ (listed-yes s i h passed f n refl refl y v) t o d)
+    (λ y. ap (asked o k) (listed-no s i h passed f n refl refl y))
 
 -- ── What a step admits: its kind k was matched with v, and the names are the part of its row behind the first byte ──
 module _ (row key : Bytes) {k v : Kind} (h : k ≡ kind_of (get_or row 0 0)) (e : k ≡ v) where
@@ -179,14 +147,14 @@ module _ (row key : Bytes) {k v : Kind} (h : k ≡ kind_of (get_or row 0 0)) (e 
 
 -- a step admits a key where the key may be admitted and the lines let it be
 admits-parts : (bs : List Binding) (t : Step) (k : Bytes) → admits bs t k ≡ (may_admit t k && is_met bs t k)
-unfolding admits_by may_admit is_met
+unfolding admits may_admit is_met
 admits-parts bs (paths.names ns) k = sym (and-true (among k ns))
 admits-parts bs paths.wildcard k = refl
 admits-parts bs (paths.environment o n) k = refl
 
 -- a step that does not ask the lines admits what it may admit
 admits-unasked : (bs : List Binding) (t : Step) (k : Bytes) → asks t ≡ false → admits bs t k ≡ may_admit t k
-unfolding asks admits_by may_admit
+unfolding asks admits may_admit
 admits-unasked bs (paths.names ns) k h = refl
 admits-unasked bs paths.wildcard k h = refl
 admits-unasked bs (paths.environment o n) k h = never h
@@ -234,7 +202,7 @@ and-swap a false c d = simp and-false
 
 -- a path matches where it may match and the lines meet each step
 pub matches-parts : (bs : List Binding) (ts : Steps) (ks : Keys) → matches bs ts ks ≡ (may_match ts ks && paired (is_met bs) ts ks)
-unfolding matches_by may_match paired
+unfolding matches may_match paired
 matches-parts bs [] [] = refl
 matches-parts bs [] (k ∷ ks) = refl
 matches-parts bs (t ∷ ts) [] = refl
@@ -247,7 +215,7 @@ matches-not bs ts ks h = matches-parts bs ts ks ∙ rw h
 
 -- where no step asks the lines, a path that may match does
 pub matches-unasked : (bs : List Binding) (ts : Steps) (ks : Keys) → any asks ts ≡ false → may_match ts ks ≡ true → matches bs ts ks ≡ true
-unfolding any may_match paired matches_by
+unfolding any may_match paired matches
 matches-unasked bs [] [] h m = refl
 matches-unasked bs [] (k ∷ ks) h m = m
 matches-unasked bs (t ∷ ts) [] h m = m
@@ -259,7 +227,7 @@ matches-unasked bs (t ∷ ts) (k ∷ ks) h m =
 -- where a step asks the lines and none has its key as the value, the path does not match
 pub matches-unheld : (bs : List Binding) (ts : Steps) (ks : Keys) (i : ℕ) (z : Step) → i < length ts → asks (get_or ts i z) ≡ true → has_value bs (get_or ks i []) ≡ false
     → matches bs ts ks ≡ false
-unfolding matches_by paired
+unfolding matches
 matches-unheld bs [] ks i z h a v = absurd (omega arith)
 matches-unheld bs (t ∷ ts) [] i z h a v = refl
 matches-unheld bs (t ∷ ts) (k ∷ ks) zero z h a v = rw (admits-unheld bs t k a v)

@@ -2,11 +2,11 @@
 ghost use Rattle.std.specs.Prelude.{◌≡◌, true, ◌≤◌, length};
 ghost use Rattle.model.specs.Paths.{environment};
 ghost use Rattle.model.specs.Base.{any, among};
-ghost use Rattle.model.specs.Rights.{listed, is_only, admits, matches};
+ghost use Rattle.model.specs.Rights.{admits, matches};
 ghost use Rattle.paths.specs.Layout.{path_slot, path_in};
 ghost use Rattle.steps.specs.Steps.{names_slot, step_row, steps_slot, operator_of, names_in, step_in, steps_in};
 ghost use Rattle.steps.specs.Environments.{bindings_bytes, bindings_in};
-ghost use Rattle.matching.specs.Parts.{binding_count, NamedFrom, may_admit, is_met, asks, has_value, may_match};
+ghost use Rattle.matching.specs.Parts.{decides, may_admit, is_met, asks, has_value, may_match};
 
 use layout::counted::{count, row_at};
 use layout::name::{KEY_ROW, NAME_ROW, name_from};
@@ -32,10 +32,20 @@ pub fn has_name(names: &[u8], key: &[u8]) -> bool
     false
 }
 
-// Whether a line of the name n has the key as its value. The value is compared first: where it is another, the name need not be.
-fn has_line(lines: &[u8], n: &[u8], key: &[u8]) -> bool
+// Whether a line of the name decides: for `=~n` the first does, for `in~n` only one that holds the key.
+fn decides(operator: Operator, holds: bool) -> bool
+    ensures { result ≡ decides (operator_of operator) holds }
+{
+    match operator {
+        Operator::Equals => true,
+        Operator::In => holds,
+    }
+}
+
+// Whether the key is the first value listed under the name n, or any of them, as the operator says. The value is compared first: where it does not decide, the name need not be.
+fn is_listed(lines: &[u8], operator: Operator, n: &[u8], key: &[u8]) -> bool
     requires { bindings_bytes ≤ length lines.now }
-    ensures { result ≡ among key.now (listed (bindings_in lines.now) n.now) }
+    ensures { result ≡ admits (bindings_in lines.now) (environment (operator_of operator) n.now) key.now }
 {
     let mut i = 0;
     while i < BINDINGS {
@@ -43,61 +53,15 @@ fn has_line(lines: &[u8], n: &[u8], key: &[u8]) -> bool
         if lines[at] == 0 {
             return false;
         }
-        let value = name_from(lines, at + NAME_ROW, KEY_ROW);
-        if same(key, value) {
+        let holds = same(key, name_from(lines, at + NAME_ROW, KEY_ROW));
+        if decides(operator, holds) {
             if same(name_from(lines, at, NAME_ROW), n) {
-                return true;
+                return holds;
             }
         }
         i += 1;
     }
     false
-}
-
-// The first row from `from` on whose line has the name n, or BINDINGS where there is none.
-fn line_named(lines: &[u8], from: usize, n: &[u8]) -> usize
-    requires { (bindings_bytes ≤ length lines.now) × (from ≤ binding_count lines.now) }
-    ensures { NamedFrom lines.now n.now from result }
-{
-    let mut i = from;
-    while i < BINDINGS {
-        let at = i * BINDING;
-        if lines[at] == 0 {
-            return BINDINGS;
-        }
-        let name = name_from(lines, at, NAME_ROW);
-        if same(name, n) {
-            return i;
-        }
-        i += 1;
-    }
-    BINDINGS
-}
-
-// Whether there is exactly one line of the name n, and the key is its value.
-fn is_only(lines: &[u8], n: &[u8], key: &[u8]) -> bool
-    requires { bindings_bytes ≤ length lines.now }
-    ensures { result ≡ is_only key.now (listed (bindings_in lines.now) n.now) }
-{
-    let first = line_named(lines, 0, n);
-    if first == BINDINGS {
-        return false;
-    }
-    if !same(key, name_from(lines, first * BINDING + NAME_ROW, KEY_ROW)) {
-        return false;
-    }
-    line_named(lines, first + 1, n) == BINDINGS
-}
-
-// Whether the environment lines let `=~n` or `in~n`, as the operator says, admit the key.
-fn is_listed(lines: &[u8], operator: Operator, n: &[u8], key: &[u8]) -> bool
-    requires { bindings_bytes ≤ length lines.now }
-    ensures { result ≡ admits (bindings_in lines.now) (environment (operator_of operator) n.now) key.now }
-{
-    match operator {
-        Operator::Equals => is_only(lines, n, key),
-        Operator::In => has_line(lines, n, key),
-    }
 }
 
 // Whether some line has the key as its value: where none has, no environment step admits it.

@@ -6,7 +6,7 @@ use Rattle.model.specs.Base.{Bytes, any, among, ◌==◌}
 use Rattle.model.specs.Fields.{Keys}
 use Rattle.model.specs.Paths.{Step, names, wildcard, environment, Steps, as_steps}
 use Rattle.model.specs.Tables.{Binding}
-use Rattle.model.specs.Rights.{paired, admits_by, matches_by, admits, matches, overlap, is_above, conflict}
+use Rattle.model.specs.Rights.{admits, matches, overlap, is_above, conflict}
 use Rattle.model.proofs.Lists.{by_cases, never, and_both, or_right, or_left, bytes_eq, bytes-refl}
 
 -- ── Lists that share a name, in either order ──
@@ -44,7 +44,7 @@ unfolding among any
 among_one n k h = by_cases (n == k) (λ e. bytes_eq n k e) (λ e. never (sym (rw e at h)))
 
 overlap-right : (u : List Binding) (s t : Step) (k : Bytes) → admits u t k ≡ true → overlap s (names (k ∷ [])) ≡ true → overlap s t ≡ true
-unfolding overlap admits_by
+unfolding overlap admits
 overlap-right u (names a) (names b) k h o = let w = shared a (k ∷ []) o in share a b w.name w.in_first (ap (λ (x : Bytes). among x b) (among_one _ k w.in_second) ∙ h)
 overlap-right u (names a) wildcard k h o = refl
 overlap-right u (names a) (environment e n) k h o = refl
@@ -52,7 +52,7 @@ overlap-right u wildcard t k h o = refl
 overlap-right u (environment e n) t k h o = refl
 
 overlap-left : (u : List Binding) (s t : Step) (k : Bytes) → admits u t k ≡ true → overlap (names (k ∷ [])) s ≡ true → overlap t s ≡ true
-unfolding overlap admits_by
+unfolding overlap admits
 overlap-left u (names a) (names b) k h o = let w = shared (k ∷ []) a o in share b a w.name (ap (λ (x : Bytes). among x b) (among_one _ k w.in_first) ∙ h) w.in_second
 overlap-left u (names a) wildcard k h o = refl
 overlap-left u (names a) (environment e n) k h o = refl
@@ -65,7 +65,7 @@ overlap-left u (environment e n) (environment f m) k h o = refl
 
 -- ── The same of whole paths ──
 above-right : (u : List Binding) (q ts : Steps) (p : Keys) → matches u ts p ≡ true → is_above q (as_steps p) ≡ true → is_above q ts ≡ true
-unfolding matches_by paired is_above as_steps
+unfolding matches is_above as_steps
 above-right u [] [] [] m h = h
 above-right u [] [] (k ∷ p) m h = never (sym m)
 above-right u [] (t ∷ ts) p m h = refl
@@ -78,7 +78,7 @@ above-right u (s ∷ q) (t ∷ ts) (k ∷ p) m h =
     rw (overlap-right u s t k w.0 o.0) (above-right u q ts p w.1 o.1)
 
 above-left : (u : List Binding) (q ts : Steps) (p : Keys) → matches u ts p ≡ true → is_above (as_steps p) q ≡ true → is_above ts q ≡ true
-unfolding matches_by paired is_above as_steps
+unfolding matches is_above as_steps
 above-left u q [] [] m h = h
 above-left u q [] (k ∷ p) m h = never (sym m)
 above-left u q (t ∷ ts) [] m h = never (sym m)

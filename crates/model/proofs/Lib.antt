@@ -5,10 +5,8 @@ pub mod Valid
 pub mod Reading
 pub mod Spelling
 pub mod Diverge
-pub mod Admitted
 pub mod Conflict
 pub mod TablesRead
-pub mod Reordered
 pub mod TreeValid
 pub mod Loads
 pub mod OpenObjects

@@ -2,8 +2,7 @@
 use Prim.Native.Nat.{ℕ, zero, suc, ◌+◌, ◌≤◌, ◌<◌}
 use mathlib.Core.Path.{◌≡◌, refl, sym, ap, ap₂, ◌∙◌}
 use mathlib.Core.Option.{Option, none, some}
-use mathlib.Core.List.Permᴰ
-use mathlib.Core.List.{List, [], ◌∷◌, ◌++◌, map, Permᴰ}
+use mathlib.Core.List.{List, [], ◌∷◌, ◌++◌, map}
 use mathlib.Core.Bool.{Bool, true, false, ◌&&◌, ◌||◌}
 use lib.Dec.{eqb}
 use lib.ListN.{length, take, set, get_or, get_elem?, replicate}
@@ -188,11 +187,6 @@ module _ {A : Type 0} where
   any-mono f g w (x ∷ xs) h = by_cases (f x) (λ e. rw (w x e)) (λ e. or_right (g x) _ (any-mono f g w xs (rw e at h)))
 
   -- ── What is kept ──
-  pub any-agree : (f g : A → Bool) → ((x : A) → f x ≡ g x) → (xs : List A) → any f xs ≡ any g xs
-  unfolding any
-  any-agree f g h [] = refl
-  any-agree f g h (x ∷ xs) = rw (h x, any-agree f g h xs)
-
   pub keep-yes : (f : A → Bool) (x : A) (xs : List A) → f x ≡ true → keep f (x ∷ xs) ≡ x ∷ keep f xs
   unfolding keep
   keep-yes f x xs e = rw e
@@ -200,16 +194,6 @@ module _ {A : Type 0} where
   pub keep-no : (f : A → Bool) (x : A) (xs : List A) → f x ≡ false → keep f (x ∷ xs) ≡ keep f xs
   unfolding keep
   keep-no f x xs e = rw e
-
-  pub keep_all : (f : A → Bool) (xs : List A) → All (λ x. f x ≡ true) xs → keep f xs ≡ xs
-  unfolding keep
-  keep_all f [] h = refl
-  keep_all f (x ∷ xs) h = rw (h.0, keep_all f xs h.1)
-
-  pub any-keep : (f g : A → Bool) (xs : List A) → any f (keep g xs) ≡ any (λ x. g x && f x) xs
-  unfolding any keep
-  any-keep f g [] = refl
-  any-keep f g (x ∷ xs) = by_cases (g x) (λ e. rw (e, any-keep f g xs)) (λ e. rw (e, any-keep f g xs))
 
   pub keep_append : (f : A → Bool) (xs ys : List A) → keep f (xs ++ ys) ≡ keep f xs ++ keep f ys
   unfolding keep
@@ -293,40 +277,3 @@ any-range f i zero j p q h = absurd (omega arith)
 any-range f i (suc n) j p q h = by_cases (eqb i j)
     (λ e. rw (eqb-true i j e, h))
     (λ e. or_right (f i) _ (any-range f (suc i) n j (omega (arith, borrow.Author.Tests.eqb-false i j e)) (omega arith) h))
-
--- ── Lists in another order ──
-swap_or : (a b c : Bool) → (a || (b || c)) ≡ (b || (a || c))
-swap_or true true c = refl
-swap_or true false c = refl
-swap_or false b c = refl
-
-module _ {A : Type 0} where
-  pub perm-any : (f : A → Bool) {xs ys : List A} → Permᴰ xs ys → any f xs ≡ any f ys
-  unfolding any
-  perm-any f Permᴰ.nil = refl
-  perm-any f (Permᴰ.cons e d) = rw (e, perm-any f d)
-  perm-any f (Permᴰ.swap {a' = a'} {b' = b'} {l = l} e₁ e₂) = rw (e₁, e₂) (swap_or (f b') (f a') (any f l))
-  perm-any f (Permᴰ.trans d₁ d₂) = perm-any f d₁ ∙ perm-any f d₂
-
-  pub perm-length : {xs ys : List A} → Permᴰ xs ys → length xs ≡ length ys
-  perm-length Permᴰ.nil = refl
-  perm-length (Permᴰ.cons e d) = ap suc (perm-length d)
-  perm-length (Permᴰ.swap e₁ e₂) = refl
-  perm-length (Permᴰ.trans d₁ d₂) = perm-length d₁ ∙ perm-length d₂
-
-  pub perm-keep : (f : A → Bool) {xs ys : List A} → Permᴰ xs ys → Permᴰ (keep f xs) (keep f ys)
-  unfolding keep
-  perm-keep f Permᴰ.nil = Permᴰ.nil
-  perm-keep f (Permᴰ.cons {b = b} e d) = rw e (by_cases (f b)
-      (λ y. rw y (Permᴰ.cons refl (perm-keep f d)))
-      (λ y. rw y (perm-keep f d)))
-  perm-keep f (Permᴰ.swap {a' = a'} {b' = b'} {l = l} e₁ e₂) = rw (e₁, e₂) (by_cases (f a')
-      (λ x. by_cases (f b') (λ y. rw (x, y) (Permᴰ.swap refl refl)) (λ y. rw (x, y) (Permᴰ.refl _)))
-      (λ x. by_cases (f b') (λ y. rw (x, y) (Permᴰ.refl _)) (λ y. rw (x, y) (Permᴰ.refl _))))
-  perm-keep f (Permᴰ.trans d₁ d₂) = Permᴰ.trans (perm-keep f d₁) (perm-keep f d₂)
-
-  pub perm-map : {B : Type 0} (f : A → B) {xs ys : List A} → Permᴰ xs ys → Permᴰ (map f xs) (map f ys)
-  perm-map f Permᴰ.nil = Permᴰ.nil
-  perm-map f (Permᴰ.cons e d) = Permᴰ.cons (ap f e) (perm-map f d)
-  perm-map f (Permᴰ.swap e₁ e₂) = Permᴰ.swap (ap f e₁) (ap f e₂)
-  perm-map f (Permᴰ.trans d₁ d₂) = Permᴰ.trans (perm-map f d₁) (perm-map f d₂)

@@ -15,7 +15,7 @@ use Rattle.model.specs.RecordText.{count}
 use Rattle.model.specs.Paths.{names, as_steps}
 use Rattle.model.specs.Refusals.{done}
 use Rattle.model.specs.Tables.{User, Rule, Tables}
-use Rattle.model.specs.Rights.{matches, is_write, is_for, may_write_by, may_write, overlap, is_above, conflict, conflicts_with}
+use Rattle.model.specs.Rights.{matches, is_write, is_for, may_write, overlap, is_above, conflict, conflicts_with}
 use Rattle.model.specs.Opening.{LoginState, State, empty_login, empty_logins, Texts, opened}
 use Rattle.model.specs.Requests.{Ask, Request, in_session, get, logout, read_login, read_ask, read_get, read_push, read_logout, readers, first_of, request_of, push_of}
 use Rattle.model.specs.Serving.{login_at, Change, sets_login, shows, stores, apply, Act, line, save, outcome}
@@ -158,7 +158,7 @@ module _ (t : Tables) (valid : ValidTables t) (u : User) (p : Keys) (writes : ma
     has : P rule
 
   write-line : (P : Rule → Type 0) → All P t.policy → WriteLine P
-  unfolding may_write_by
+  unfolding may_write
   write-line P h =
       let (r, e, k) = any-true P _ t.policy h writes in
       let w = and-three (is_for u r) (is_write r) (matches u.environment r.path p) e in

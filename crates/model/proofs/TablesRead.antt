@@ -25,7 +25,7 @@ use Rattle.model.proofs.Diverge.{Pairs, pairs-last, pairs-all}
 use Rattle.model.proofs.Conflict.{conflict-flip, conflict-self}
 
 -- ── What holds above a table and what each of its rows keeps, holds of what is read ──
-pub line-done : {A : Type 0} (n : ℕ) (r : Result ℕ A) (a : A) → in_line n r ≡ done a → r ≡ done a
+line-done : {A : Type 0} (n : ℕ) (r : Result ℕ A) (a : A) → in_line n r ≡ done a → r ≡ done a
 unfolding in_line
 line-done n (refused e) a h = refused-done h
 line-done n (done b) a h = cc
@@ -138,7 +138,7 @@ binding-keeps val us us₁ v h =
     let user = first-all ValidUser 0 _ f us found v.each in
     subst ValidUsers (done-same h₃) (record {
       few = rw length-set v.few;
-      each = all_set ValidUser us _ _ (bound-valid f.1 _ user room (record { name = name; value = value })) v.each;
+      each = all_set ValidUser us f.0 _ (bound-valid f.1 _ user room (record { name = name; value = value })) v.each;
     })
 
 -- ── Policy ──
@@ -188,7 +188,7 @@ pub record ValidTables (t : Tables) : Type 0 where
   pub policy : ValidRules t.policy
   pub apart : Pairs Apart t.policy
 
-pub from-done : {A : Type 0} (n : ℕ) (r : Result (ℕ × ℕ) A) (a : A) → from n r ≡ done a → r ≡ done a
+from-done : {A : Type 0} (n : ℕ) (r : Result (ℕ × ℕ) A) (a : A) → from n r ≡ done a → r ≡ done a
 unfolding from
 from-done n (refused e) a h = refused-done h
 from-done n (done b) a h = cc

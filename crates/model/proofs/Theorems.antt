@@ -1,4 +1,4 @@
--- The claims of specs/Claims, proved, in their order; some stand where their argument does (Changes, Spelling, Loads, Admitted, Reordered).
+-- The claims of specs/Claims, proved, in their order; some stand where their argument does (Changes, Spelling, Loads).
 use Prim.Native.Nat.{ℕ, zero, suc, ◌+◌, ◌*◌, ◌≤◌}
 use mathlib.Core.Path.{◌≡◌, refl, sym, ap, ap₂, ◌∙◌}
 use mathlib.Core.Option.{some}

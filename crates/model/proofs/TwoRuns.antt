@@ -18,7 +18,7 @@ use Rattle.model.specs.Values.{Value}
 use Rattle.model.specs.Fields.{Keys, Field, holds, put, store, field_of}
 use Rattle.model.specs.Refusals.{Result, refused, done, ◌>>=◌}
 use Rattle.model.specs.Tables.{User, Rule, Tables, user_at}
-use Rattle.model.specs.Rights.{matches, is_write, is_for, may_read_by, may_write_by, may_read, may_write}
+use Rattle.model.specs.Rights.{matches, is_write, is_for, may_read, may_write}
 use Rattle.model.specs.Opening.{LoginState, State, empty_login}
 use Rattle.model.specs.Requests.{Request, login, in_session, get, push, logout, request_of, push_of}
 use Rattle.model.specs.Serving.{session_number, index_in, login_at, readable, copy_for, Change, sets_login, shows, stores, Asker, asker, decide_login, decide_get, decide_push, decide_logout, room_for, decide, apply, reads_by, reads_at, receivers, notified, shown, answer_of, refusal, Act, line, save, Outcome, buffer_of, list_of, decide_line, decision, over, unchanged, conclude, outcome}
@@ -35,7 +35,7 @@ and-drop true false c h = never (sym h)
 and-drop false b c h = h
 
 pub write-reads : (rs : List Rule) (u : User) (p : Keys) → may_write rs u p ≡ true → may_read rs u p ≡ true
-unfolding may_write_by may_read_by
+unfolding may_write may_read
 write-reads rs u p h = any-mono _ _ (λ r. and-drop (is_for u r) (is_write r) (matches u.environment r.path p)) rs h
 
 -- ── Login states of which those outside the set are blanked ──

@@ -5,14 +5,10 @@ use Rattle.model.specs.Base.{Bytes, text, all, ◌==◌}
 use Rattle.model.specs.Limits.{list_room}
 use Rattle.model.specs.Values.{whole}
 use Rattle.model.specs.Fields.{order_key, by_order}
-use Rattle.model.specs.Paths.{equals, environment}
 use Rattle.model.specs.Refusals.{Result, refused, done}
-use Rattle.model.specs.Tables.{Binding}
-use Rattle.model.specs.Rights.{admits_by, admits}
 use Rattle.model.specs.Opening.{State, initial, Texts, Fault, opened, after_opening}
 use Rattle.model.specs.Serving.{index_in, count_in, Act, line, save, Answer, refusal, session, length_is, accepted, outcome}
 use Rattle.model.specs.Runs.{end, events, only, sequence, own, others, got, answer, copy, delivery}
-use Rattle.model.specs.Claims.{first_is}
 use Rattle.model.specs.Program.{serve}
 use Rattle.model.specs.Program
 
@@ -279,88 +275,6 @@ bob_is_answered : got (only 1) (events club_state leaving_acts) ≡
     answer 1 (session 65537) ∷ answer 1 accepted ∷ answer 1 (refusal 14) ∷ answer 1 (session 65538) ∷ []
 unfolding Program.Opened club_state leaving_acts
 bob_is_answered = refl
-
--- ── 02, 4: one engine or several ──
--- the club's texts with these environment lines, and this step in the policy line of the owners
-unfoldable pub engines_texts : List String → String → Texts
-unfolding rows club_texts
-engines_texts lines step = record {
-  users_text = club_texts.users_text;
-  environments_text = rows ("user;name;value" ∷ lines);
-  policy_text = rows ("role;access;path" ∷ "*;READ;$.*.name" ∷ []) ++ (text "owner;WRITE;$[" ++ (text step ++ rows ("].note" ∷ [])));
-  record_text = club_texts.record_text;
-}
-
-unfoldable pub two_engines : List String
-two_engines = "cy;my-engine;e7" ∷ "cy;my-engine;e9" ∷ []
-
--- cy writes a note for each engine, and copies
-notes_input : Bytes
-unfolding rows
-notes_input = rows ("LOGIN;cy;k3" ∷ "PUSH;131073;$['e7']['note'];\"shelf C\"" ∷ "PUSH;131073;$['e9']['note'];\"shelf D\"" ∷ "GET;131073" ∷ [])
-
--- "With two lines it admits nothing": the note of e7 is neither written nor copied, and what `*` lets him read is
-second_engine : serve (engines_texts two_engines "=~my-engine") notes_input ≡ rows (
-    "OK;131073" ∷
-    "NO;16" ∷
-    "NO;16" ∷
-    "OK;159" ∷
-    "role;access;path" ∷
-    "owner;READ;$[*]['name']" ∷
-    "owner;WRITE;$[=~my-engine]['note']" ∷
-    "name;value" ∷
-    "my-engine;e7" ∷
-    "my-engine;e9" ∷
-    "{\"e7\":{\"name\":\"Tank 7\"},\"e9\":{\"name\":\"Mail\"}}" ∷ [])
-unfolding Program.Opened rows club_texts engines_texts two_engines notes_input
-second_engine = refl
-
--- "the member's policy line should say `in~n`": then both
-both_engines : serve (engines_texts two_engines "in~my-engine") notes_input ≡ rows (
-    "OK;131073" ∷
-    "OK" ∷
-    "OK" ∷
-    "OK;194" ∷
-    "role;access;path" ∷
-    "owner;READ;$[*]['name']" ∷
-    "owner;WRITE;$[in~my-engine]['note']" ∷
-    "name;value" ∷
-    "my-engine;e7" ∷
-    "my-engine;e9" ∷
-    "{\"e7\":{\"name\":\"Tank 7\",\"note\":\"shelf C\"},\"e9\":{\"name\":\"Mail\",\"note\":\"shelf D\"}}" ∷ [])
-unfolding Program.Opened rows club_texts engines_texts two_engines notes_input
-both_engines = refl
-
--- what is answered to his two pushes with these environment lines
-notes_with : List String → List Answer
-unfolding asked rows club_texts engines_texts
-notes_with lines = map (λ s. (outcome (end (after_opening initial (engines_texts lines "=~my-engine")) (map (asked 0) ("LOGIN;cy;k3" ∷ []))) (asked 0 s)).answer)
-    ("PUSH;131073;$['e7']['note'];true" ∷ "PUSH;131073;$['e9']['note'];true" ∷ [])
-
--- one line, none, two in either order, and one beside those of another name and of another user
-notes_hold : map notes_with (
-    ("cy;my-engine;e9" ∷ []) ∷
-    [] ∷
-    ("cy;my-engine;e7" ∷ "cy;my-engine;e9" ∷ []) ∷
-    ("cy;my-engine;e9" ∷ "cy;my-engine;e7" ∷ []) ∷
-    ("cy;old-engine;e7" ∷ "bob;my-engine;e7" ∷ "cy;my-engine;e9" ∷ "bob;my-engine;e8" ∷ "cy;new-engine;e8" ∷ []) ∷ []) ≡
-    (refusal 16 ∷ accepted ∷ []) ∷
-    (refusal 16 ∷ refusal 16 ∷ []) ∷
-    (refusal 16 ∷ refusal 16 ∷ []) ∷
-    (refusal 16 ∷ refusal 16 ∷ []) ∷
-    (refusal 16 ∷ accepted ∷ []) ∷ []
-unfolding Program.Opened notes_with
-notes_hold = refl
-
-engine_line : String → Binding
-engine_line engine = record { name = text "my-engine"; value = text engine }
-
--- by the former reading it "hung on the order of the lines": e7 is admitted, then not; now in neither order
-order_before : map {B = Bool × Bool} (λ bs. (admits_by first_is bs (environment equals (text "my-engine")) (text "e7"), admits bs (environment equals (text "my-engine")) (text "e7"))) (
-    (engine_line "e7" ∷ engine_line "e9" ∷ []) ∷
-    (engine_line "e9" ∷ engine_line "e7" ∷ []) ∷ []) ≡ (true, false) ∷ (false, false) ∷ []
-unfolding Program.Opened first_is engine_line
-order_before = refl
 
 -- ── What bob sends and gets in the afternoon ──
 club_acts : List Act

@@ -1,18 +1,15 @@
 -- The claims about runs, by the club's three conditions, each with its sentence: of document 01, of document 02 where a request is named, or of the conditions where it says so.
-use Rattle.std.specs.Prelude.{ℕ, suc, ◌+◌, ◌*◌, ◌≤◌, ◌<◌, ◌≡◌, Bool, true, false, not, ◌&&◌, ◌||◌, leb, ltb, eqb, length, take, replicate}
+use Rattle.std.specs.Prelude.{ℕ, suc, ◌+◌, ◌*◌, ◌≤◌, ◌<◌, ◌≡◌, List, [], ◌∷◌, map, Bool, true, false, not, ◌&&◌, ◌||◌, leb, ltb, eqb, length, take, replicate}
 use Rattle.std.proofs.Math.Option.{some}
-use mathlib.Core.List.{List, [], ◌∷◌, map, Perm}
 use Rattle.model.specs.Base.{Bytes, if◌then◌else◌, any, all, keep, joined, sum, range, ◌==◌}
 use Rattle.model.specs.Limits.{max_fields, max_copy, list_room, per_user, max_logins}
 use Rattle.model.specs.Values.{Value, value_of, value_text, valid_value}
 use Rattle.model.specs.Fields.{Keys, valid_keys, Field, Fields, order_path, by_order, value_at, holds, put, store}
 use Rattle.model.specs.RecordText.{Members, object, tree_of, leaf_at}
 use Rattle.model.specs.SavedText.{saved}
-use Rattle.model.specs.Paths.{equals, is_in, Step, names, wildcard, environment, Steps, steps_text, keys_text, steps_of, keys_of}
+use Rattle.model.specs.Paths.{Steps, steps_text, keys_text, steps_of, keys_of}
 use Rattle.model.specs.Refusals.{refused, done}
-use Rattle.model.specs.Table.{Line, lines}
-use Rattle.model.specs.Tables.{Binding, User, Access, Rule, Tables, user_at, user_named}
-use Rattle.model.specs.Rights.{listed, may_read_by, may_write_by, admits, may_read, may_write}
+use Rattle.model.specs.Tables.{User, Access, Rule, Tables, user_at, user_named}
 use Rattle.model.specs.Opening.{LoginState, State, empty_logins, Texts, Fault, fault, quotas, opened, after_opening}
 use Rattle.model.specs.Requests.{Ask, Request, login, in_session, get, push, logout, request_of}
 use Rattle.model.specs.Serving.{index_in, count_in, login_at, readable, copy_for, stores, decide, refusal, session, length_is, accepted, Act, line, buffer_of, list_of, Outcome, outcome}
@@ -293,76 +290,6 @@ abbrev pub WithinQuota : Type 0
 WithinQuota =
     (t : Texts) (s : State) → Reached t s → (i : ℕ) (u : User) → user_at s.tables.users i ≡ some u →
     (login_at s i).created ≤ u.quota
-
--- ── Condition 2: rights by environment lines (02, 4) ──
--- with "exactly one line for n", `=~n` and `in~n` admit the same keys
-abbrev pub OneLineAlike : Type 0
-OneLineAlike =
-    (bs : List Binding) (n k : Bytes) → length (listed bs n) ≡ 1 →
-    admits bs (environment equals n) k ≡ admits bs (environment is_in n) k
-
--- "With two lines it admits nothing": nor with none, nor with more
-abbrev pub OtherwiseNothing : Type 0
-OtherwiseNothing =
-    (bs : List Binding) (n k : Bytes) → (length (listed bs n) ≡ 1 → ⊥) →
-    admits bs (environment equals n) k ≡ false
-
--- what it "hung on", "the order of the lines", decides no right any more
-abbrev pub OrderDecidesNoRight : Type 0
-OrderDecidesNoRight =
-    (rs : List Rule) (u v : User) → u.role ≡ v.role → Perm u.environment v.environment → (p : Keys) →
-    (may_read rs u p ≡ may_read rs v p) × (may_write rs u p ≡ may_write rs v p)
-
--- texts of two openings: the same users, the same policy, and the same environment lines under the same head, in any order
-pub record LinesReordered (t₁ t₂ : Texts) : Type 0 where
-  pub head : Line
-  pub lines₁ : List Line
-  pub lines₂ : List Line
-  pub text₁ : lines t₁.environments_text ≡ head ∷ lines₁
-  pub text₂ : lines t₂.environments_text ≡ head ∷ lines₂
-  pub order : Perm lines₁ lines₂
-  pub same_users : t₁.users_text ≡ t₂.users_text
-  pub same_policy : t₁.policy_text ≡ t₂.policy_text
-
--- nor does their order in the text: where both are accepted, the users at each index have equal rights
-abbrev pub TextOrderDecidesNoRight : Type 0
-TextOrderDecidesNoRight =
-    (t₁ t₂ : Texts) (s₁ s₂ : State) → LinesReordered t₁ t₂ → opened t₁ ≡ done s₁ → opened t₂ ≡ done s₂ →
-    (i : ℕ) (u v : User) → user_at s₁.tables.users i ≡ some u → user_at s₂.tables.users i ≡ some v → (p : Keys) →
-    (may_read s₁.tables.policy u p ≡ may_read s₂.tables.policy v p) × (may_write s₁.tables.policy u p ≡ may_write s₂.tables.policy v p)
-
--- what `=~n` asked before: "where it equals the first listed value of n for that user"
-unfoldable pub first_is : Bytes → List Bytes → Bool
-first_is k [] = false
-first_is k (v ∷ vs) = k == v
-
--- a step `=~n` whose n passes
-unfoldable pub equals_where : (Bytes → Bool) → Step → Bool
-equals_where test (names ns) = false
-equals_where test wildcard = false
-equals_where test (environment equals n) = test n
-equals_where test (environment is_in n) = false
-
--- a line with such a step in its path
-unfoldable pub has_equals : (Bytes → Bool) → Rule → Bool
-has_equals test r = any (equals_where test) r.path
-
--- the user has several lines for n
-unfoldable pub has_several : User → Bytes → Bool
-has_several u n = ltb 1 (length (listed u.environment n))
-
--- the rights are those that the former reading gives where the lines with `=~n` and several lines for n are left out
-abbrev pub RightsAsBefore : Type 0
-RightsAsBefore =
-    (rs : List Rule) (u : User) (p : Keys) →
-    (may_read rs u p ≡ may_read_by first_is (keep (λ r. not (has_equals (has_several u) r)) rs) u p) ×
-    (may_write rs u p ≡ may_write_by first_is (keep (λ r. not (has_equals (has_several u) r)) rs) u p)
-
--- so a user's rights by paths without `=~` are what they were
-abbrev pub OtherPathsStay : Type 0
-OtherPathsStay =
-    (rs : List Rule) (u : User) (p : Keys) → any (has_equals (λ n. true)) rs ≡ false →
-    (may_read rs u p ≡ may_read_by first_is rs u p) × (may_write rs u p ≡ may_write_by first_is rs u p)
 
 -- ── Condition 2: lengths ──
 -- "A copy never exceeds 51,069 bytes"

@@ -3,11 +3,11 @@
 use Rattle.std.specs.Prelude.{ℕ, ◌≡◌, refl, List, [], ◌∷◌, map, Bool, true, ◌&&◌, take, replicate}
 use Prim.Native.String.{String}
 use Rattle.model.specs.Base.{all, ◌==◌}
-use Rattle.model.specs.Opening.{State, initial, after_opening}
+use Rattle.model.specs.Opening.{State}
 use Rattle.model.specs.Serving.{over}
 use Rattle.model.specs.Runs.{end}
 use Rattle.model.specs.Runs
-use Rattle.model.specs.Cases.{rows, club_texts, asked, club_state, engines_texts, two_engines}
+use Rattle.model.specs.Cases.{rows, club_texts, asked, club_state}
 use Rattle.masks.specs.Bits.{bit_at, mask_of}
 use Rattle.masks.specs.Readers.{readers_of, policy_masks}
 use Rattle.record.specs.Search.{place_in, stored_masks}
@@ -26,16 +26,6 @@ given = 3 ∷ 3 ∷ 7 ∷ 4 ∷ 3 ∷ 7 ∷ []
 policy_gives : policy_masks club_state.tables club_state.fields ≡ given
 unfolding Opened given
 policy_gives = refl
-
--- the masks where cy has two lines for my-engine (02, 4), names and the notes of my-engine being all that may be read
-masks_by : String → List ℕ
-unfolding rows club_texts engines_texts two_engines
-masks_by step = let s = after_opening initial (engines_texts two_engines step) in policy_masks s.tables s.fields
-
--- by `=~` the note is for nobody, by `in~` for cy
-second_line : map masks_by ("=~my-engine" ∷ "in~my-engine" ∷ []) ≡ (0 ∷ 0 ∷ 7 ∷ 0 ∷ 0 ∷ 7 ∷ []) ∷ (0 ∷ 0 ∷ 7 ∷ 4 ∷ 0 ∷ 7 ∷ []) ∷ []
-unfolding Opened masks_by
-second_line = refl
 
 -- others: a mask beside e7 cv 29, and one beside e7 note
 masks : ℕ → ℕ → List ℕ

@@ -10,7 +10,7 @@ use Rattle.model.specs.Base.{Bytes, any}
 use Rattle.model.specs.Limits.{max_users, max_rules}
 use Rattle.model.specs.Fields.{Keys}
 use Rattle.model.specs.Tables.{User, Rule, user_at}
-use Rattle.model.specs.Rights.{is_for, may_read_by, matches}
+use Rattle.model.specs.Rights.{is_for, matches, may_read}
 use Rattle.model.specs.Serving.{reads_by, reads_at}
 use Rattle.masks.specs.Bits.{bit_at}
 use Rattle.masks.specs.Readers.{readers_of}
@@ -25,13 +25,13 @@ use Rattle.tables.proofs.Policy.{rule-left, rules-over}
 
 -- ── A user may read a path by no line, by the first line, or by the later ones ──
 reads_none : (p : Keys) (o : Option User) → reads_by [] o p ≡ false
-unfolding reads_by may_read_by any
+unfolding reads_by may_read any
 reads_none p none = refl
 reads_none p (some u) = refl
 
 module _ (p : Keys) (r : Rule) where
   reads_more : (rs : List Rule) (o : Option User) → reads_by (r ∷ rs) o p ≡ (reads_by_line p r o || reads_by rs o p)
-  unfolding reads_by may_read_by any reads_by_line gives_read
+  unfolding reads_by may_read any reads_by_line gives_read
   reads_more rs none = refl
   reads_more rs (some u) = refl
 

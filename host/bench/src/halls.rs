@@ -286,12 +286,8 @@ fn own_engines(user: usize) -> impl Iterator<Item = usize> {
     (0..OWN).map(move |place| (user + place * ENGINES / OWN) % ENGINES)
 }
 
-/// A list of the engines, and a line of its own for the first.
 fn environment_lines(user: usize) -> impl Iterator<Item = String> {
-    let mine = own_engines(user).map(|engine| ("mine", engine));
-    let first = own_engines(user).take(1).map(|engine| ("first", engine));
-    let lines = mine.chain(first);
-    lines.map(move |(list, engine)| format!("user{user};{list};{}", engine_name(engine)))
+    own_engines(user).map(move |engine| format!("user{user};mine;{}", engine_name(engine)))
 }
 
 /// An engine's part of the record: a name, a note and six settings.
@@ -312,7 +308,7 @@ fn policy_line(place: usize) -> String {
         1 => format!("{role};READ;$['{one}','{other}'].name"),
         2 => format!("{role};READ;$['{one}','{other}'].cv.*"),
         _ if turn == 15 => "*;READ;$.*.name".into(),
-        _ => format!("{role};WRITE;$[=~first].note"),
+        _ => format!("{role};WRITE;$[=~mine].note"),
     }
 }
 
@@ -325,7 +321,7 @@ fn keepers_line(place: usize) -> String {
         0 => "WRITE;$[in~mine].cv['3','4']".into(),
         1 => format!("READ;$['{one}','{other}'].name"),
         2 => format!("READ;$['{one}','{other}'].cv['5','6']"),
-        _ => "WRITE;$[=~first].note".into(),
+        _ => "WRITE;$[=~mine].note".into(),
     };
     format!("{KEEPER};{right}")
 }

@@ -22,14 +22,11 @@ const SETTINGS: usize = 8;
 const ALLOWANCE: usize = SETTINGS - HELD;
 
 /// Lists of the environment: engines that the user may write to, engines that
-/// the user may read of, blocks and banks; and one block and one bank, each in the
-/// only line of its name.
+/// the user may read of, blocks and banks.
 const WRITTEN: &str = "own-names-no-01";
 const READ: &str = "own-names-no-02";
 const BLOCKS: &str = "own-names-no-03";
 const BANKS: &str = "own-names-no-04";
-const BLOCK: &str = "own-names-no-05";
-const BANK: &str = "own-names-no-06";
 
 /// Engines in either list of them, and how far apart they are.
 const LISTED: usize = 5;
@@ -125,16 +122,15 @@ fn engines_from(first: usize) -> impl Iterator<Item = usize> {
     (0..LISTED).map(move |place| (first + APART * place) % ENGINES)
 }
 
-/// 16 lines. No engine has the second of the banks.
+/// 16 lines. No engine has the second of the blocks, the second of the banks or
+/// the third.
 fn environment_lines(user: usize) -> impl Iterator<Item = String> {
     let name = user_name(user);
     let read = read_engines(user).map(|engine| (READ, engine_name(engine)));
     let written = written_engines(user).map(|engine| (WRITTEN, engine_name(engine)));
-    let (block, bank) = (user % 2, user / 2 % 2);
-    let blocks = [block, 1 - block].map(|block| (BLOCKS, block_name(block)));
-    let banks = [bank, 2].map(|bank| (BANKS, bank_name(bank)));
-    let single = [(BLOCK, block_name(block)), (BANK, bank_name(bank))];
-    let lines = read.chain(written).chain(blocks).chain(banks).chain(single);
+    let blocks = [user % 2, 2, 1 - user % 2].map(|block| (BLOCKS, block_name(block)));
+    let banks = [user / 2 % 2, 2, 3].map(|bank| (BANKS, bank_name(bank)));
+    let lines = read.chain(written).chain(blocks).chain(banks);
     lines.map(move |(list, value)| format!("{name};{list};{value}"))
 }
 
@@ -147,9 +143,9 @@ fn policy_line(place: usize) -> String {
     let settings = listed((0..4).map(|step| setting_name((turn + apart * step) % SETTINGS)));
     let blocks = listed((0..4).map(|step| block_name((turn + step) % 4)));
     match kind {
-        0 => format!("{role};READ;$[in~{READ}][=~{BLOCK}][*]{settings}"),
+        0 => format!("{role};READ;$[in~{READ}][=~{BLOCKS}][*]{settings}"),
         1 => format!("{role};READ;$[*][in~{BLOCKS}][in~{BANKS}]{settings}"),
-        2 => format!("{role};READ;$[in~{READ}]{blocks}[=~{BANK}][*]"),
+        2 => format!("{role};READ;$[in~{READ}]{blocks}[=~{BANKS}][*]"),
         _ => format!("{role};WRITE;$[in~{WRITTEN}][*][*]{settings}"),
     }
 }

@@ -32,7 +32,7 @@ pub struct Setting {
 pub enum Step {
     Any,
     Names(Vec<Name>),
-    Only(Name),
+    First(Name),
     Each(Name),
 }
 
@@ -94,25 +94,14 @@ impl Hall {
         keys.collect()
     }
 
-    /// For each step `=~n` and each user, the user's lines for n.
-    pub fn lines_asked(&self) -> Vec<usize> {
-        let names = self.rules.iter().flat_map(|rule| &rule.steps).filter_map(|step| match step {
-            Step::Only(name) => Some(name),
-            _ => None,
-        });
-        let lines = |name| self.users.iter().map(move |user| self.listed(user, name).len());
-        names.flat_map(lines).collect()
-    }
-
-    fn listed(&self, user: &User, name: &Name) -> Vec<&Setting> {
-        let own = |setting: &&Setting| setting.user == user.name && setting.name == *name;
-        self.settings.iter().filter(own).collect()
-    }
-
     fn matching_key(&self, rng: &mut Rng, step: &Step, user: &User) -> Name {
+        let listed = |name: &Name| -> Vec<&Setting> {
+            let own = |setting: &&Setting| setting.user == user.name && setting.name == *name;
+            self.settings.iter().filter(own).collect()
+        };
         match step {
             Step::Names(names) if !names.is_empty() => rng.pick(names).clone(),
-            Step::Only(name) | Step::Each(name) => match &self.listed(user, name)[..] {
+            Step::First(name) | Step::Each(name) => match &listed(name)[..] {
                 [] => rng.pick(&self.names).clone(),
                 [first, ..] if rng.one_in(2) => first.value.clone(),
                 several => rng.pick(several).value.clone(),
@@ -193,11 +182,7 @@ impl Maker<'_> {
 
     fn make_settings(&mut self) {
         for place in 0..self.hall.users.len() {
-            let count = match self.rng.below(6) {
-                0..=1 => 0,
-                2..=3 => self.rng.between(1, 2),
-                _ => self.count(5, 16),
-            };
+            let count = if self.rng.one_in(3) { 0 } else { self.count(5, 16) };
             let wanted = self.hall.settings.len() + count;
             for _ in 0..4 * count {
                 if self.hall.settings.len() < wanted {
@@ -282,7 +267,7 @@ impl Maker<'_> {
                 Step::Names((0..count).map(|_| self.name()).collect())
             }
             11..=15 => Step::Any,
-            16..=17 => Step::Only(self.plain()),
+            16..=17 => Step::First(self.plain()),
             _ => Step::Each(self.plain()),
         }
     }

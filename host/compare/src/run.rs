@@ -121,7 +121,6 @@ impl Run {
         let accepted = self.pair.open(&texts)?;
         if accepted {
             self.forget();
-            self.pair.tally.count_lines(&hall.lines_asked());
             (self.hall, self.texts) = (hall, texts);
         }
         Ok(accepted)

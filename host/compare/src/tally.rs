@@ -12,7 +12,6 @@ pub struct Tally {
     refused: BTreeMap<usize, usize>,
     requests: usize,
     answers: BTreeMap<String, usize>,
-    lines: [usize; 3],
     closed: usize,
     copied: usize,
     brief: usize,
@@ -41,14 +40,6 @@ impl Tally {
             Answer::Length(length) => self.count_text("copy", length),
             Answer::Accepted(_) if logged_out(line).is_some() => self.count("logged out".into()),
             Answer::Accepted(_) => self.count("pushed".into()),
-        }
-    }
-
-    /// For each step `=~n` of an accepted opening and each user, the user's lines
-    /// for n: none, one or several.
-    pub fn count_lines(&mut self, lines: &[usize]) {
-        for lines in lines {
-            self.lines[*lines.min(&2)] += 1;
         }
     }
 
@@ -97,8 +88,6 @@ impl fmt::Display for Tally {
         for (number, count) in &self.refused {
             writeln!(out, "  refused {number}: {count}")?;
         }
-        let [none, one, several] = self.lines;
-        writeln!(out, "users of =~n with no line {none}, one {one}, several {several}")?;
         writeln!(out, "requests {}", self.requests)?;
         for (kind, count) in &self.answers {
             writeln!(out, "  {kind}: {count}")?;

@@ -71,7 +71,7 @@ fn policy_path(rng: &mut Rng, steps: &[Step]) -> Vec<u8> {
     for step in steps {
         match step {
             Step::Any => out.extend_from_slice(if rng.one_in(2) { b".*" } else { b"[*]" }),
-            Step::Only(name) => out.extend([b"[=~", &name[..], b"]"].concat()),
+            Step::First(name) => out.extend([b"[=~", &name[..], b"]"].concat()),
             Step::Each(name) => out.extend([b"[in~", &name[..], b"]"].concat()),
             Step::Names(names) => out.extend(listed(rng, names)),
         }

@@ -32,10 +32,10 @@ fn parse_steps<T>(text: &[u8], read: impl Fn(&mut Cursor) -> Option<T>) -> Optio
     (cursor.at_end() && !steps.is_empty()).then_some(steps)
 }
 
-/// Which values of a user's own list a step admits: the value of its only line, or that of each.
+/// Which values of a user's own list a step admits.
 #[derive(Clone, Copy, Debug, PartialEq, Eq)]
 enum Own {
-    Only,
+    First,
     Each,
 }
 
@@ -58,7 +58,7 @@ impl Step {
         let step = if cursor.eat(b"*") {
             Step::Any
         } else if cursor.eat(b"=~") {
-            Step::Own(Own::Only, read_plain(cursor)?)
+            Step::Own(Own::First, read_plain(cursor)?)
         } else if cursor.eat(b"in~") {
             Step::Own(Own::Each, read_plain(cursor)?)
         } else {
@@ -75,7 +75,7 @@ impl Step {
             Step::Any => out.push(b'*'),
             Step::Own(own, name) => {
                 out.extend_from_slice(match own {
-                    Own::Only => b"=~",
+                    Own::First => b"=~",
                     Own::Each => b"in~",
                 });
                 out.extend_from_slice(name.as_bytes());
@@ -98,10 +98,7 @@ impl Step {
             Step::Own(own, name) => {
                 let mut listed = environment.iter().filter(|setting| setting.name == *name);
                 match own {
-                    Own::Only => {
-                        let holds = listed.next().is_some_and(|setting| setting.value == key);
-                        holds && listed.next().is_none()
-                    }
+                    Own::First => listed.next().is_some_and(|setting| setting.value == key),
                     Own::Each => listed.any(|setting| setting.value == key),
                 }
             }

@@ -1,4 +1,4 @@
-//! The afternoon of the scope document, its further cases, one engine or several, and leaving the hall.
+//! The afternoon of the scope document, its further cases, and leaving the hall.
 
 use second::{printed, Fault, Reply, Server, COPY_LIMIT, LIST_LENGTH};
 
@@ -132,29 +132,6 @@ fn a_policy_path_ends_where_the_field_does() {
     printed(&mut server, b"LOGIN;ann;k1", &mut out);
     printed(&mut server, b"GET;1", &mut out);
     assert!(out.ends_with(b"name;value\n{\"r\":{\"b\":true}}\n"));
-}
-
-#[test]
-fn one_engine_or_several() {
-    let notes = |lines: &str, step: &str| {
-        let mut server = Server::new();
-        let environments = format!("user;name;value\n{lines}");
-        let policy = format!("role;access;path\nowner;WRITE;$[{step}].note\n");
-        let texts = [USERS, &environments, &policy, RECORD].map(str::as_bytes);
-        server.open(texts[0], texts[1], texts[2], texts[3]).expect("the tables are sound");
-        ask(&mut server, "LOGIN;cy;k3");
-        ["e7", "e9"].map(|engine| {
-            ask(&mut server, &format!("PUSH;131073;$['{engine}']['note'];1")) == Reply::Accepted(0)
-        })
-    };
-    let [e7, e9] = ["cy;my-engine;e7\n", "cy;my-engine;e9\n"];
-    let others = "cy;engine;e9\nbob;my-engine;e9\n";
-    assert_eq!(notes(e7, "=~my-engine"), [true, false]);
-    assert_eq!(notes("", "=~my-engine"), [false, false]);
-    assert_eq!(notes(&[e7, e9].concat(), "=~my-engine"), [false, false]);
-    assert_eq!(notes(&[e9, e7].concat(), "=~my-engine"), [false, false]);
-    assert_eq!(notes(&[others, e7].concat(), "=~my-engine"), [true, false]);
-    assert_eq!(notes(&[e7, e9].concat(), "in~my-engine"), [true, true]);
 }
 
 #[test]

@@ -5,11 +5,11 @@ use lib.ListN.{get_or, drop}
 use borrow.Author.Tests.{not-true, not-false}
 use borrow.Author.Rules.{rules}
 use Rattle.model.specs.Limits.{max_depth}
-use Rattle.model.specs.Rights.{paired, matches}
+use Rattle.model.specs.Rights.{matches}
 use Rattle.paths.specs.Layout.{path_in}
 use Rattle.steps.specs.Steps.{steps_in}
 use Rattle.steps.specs.Environments.{bindings_in}
-use Rattle.matching.specs.Parts.{is_met, may_match}
+use Rattle.matching.specs.Parts.{is_met, paired, may_match}
 use Rattle.matching.proofs.Matched.{paired-counts, paired-step, paired-end, matches-parts}
 use Rattle.matching.proofs.path.lines_match.Statement.{statement}
 use Rattle.matching.proofs.path.lines_match.Tie as tie

@@ -8,7 +8,7 @@ use Rattle.layout.specs.Layout.{in_use}
 use Rattle.layout.proofs.Used.{used-fit, used-last, used-more}
 use Rattle.model.specs.Base.{any}
 use Rattle.model.specs.Limits.{max_rules}
-use Rattle.model.specs.Rights.{may_write_by, may_write}
+use Rattle.model.specs.Rights.{may_write}
 use Rattle.paths.specs.Layout.{path_in}
 use Rattle.tables.specs.Memory.{rule_row, user_in, policy_in}
 use Rattle.tables.specs.Grants.{gives_write}
@@ -24,7 +24,7 @@ abbrev decreases-loop : tie.decreases-loop
 decreases-loop policy user path i₀ i = max_rules - i
 
 loop-holds : tie.Need-loop-init invariant-loop decreases-loop
-unfolding may_write_by gives_write
+unfolding may_write gives_write
 loop-holds c = (search rules, refl)
 
 row-at-requires : tie.Need-row-at-requires invariant-loop decreases-loop
