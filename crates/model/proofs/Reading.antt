@@ -174,7 +174,7 @@ decimal-digits = by-decimal (λ n. all is_digit (decimal n) ≡ true)
 worth-snoc : (m : ℕ) (a : Bytes) (x : ℕ) → worth m (a ++ x ∷ []) ≡ worth m a * 10 + (x - 48)
 unfolding worth
 worth-snoc m [] x = refl
-worth-snoc m (y ∷ a) x = worth-snoc _ a x
+worth-snoc m (y ∷ a) x = worth-snoc (m * 10 + (y - 48)) a x
 
 pub worth-decimal : (n : ℕ) → worth 0 (decimal n) ≡ n
 worth-decimal = by-decimal (λ n. worth 0 (decimal n) ≡ n)

@@ -1,7 +1,7 @@
 -- Saved text reads back: field by field, the readers come to the field's value inside the objects of its path.
 use Prim.Native.Nat.{Ordering}
 use Prim.Native.Nat.{ℕ, zero, suc, ◌+◌, ◌-◌, ◌≤◌, ◌<◌}
-use mathlib.Core.Path.{◌≡◌, refl, sym, ap, ◌∙◌}
+use mathlib.Core.Path.{◌≡◌, refl, sym, ap, subst, ◌∙◌}
 use mathlib.Core.Option.{Option, some}
 use mathlib.Core.List.{List, [], ◌∷◌, ◌++◌, append_assoc, append-nil, foldl}
 use mathlib.Core.Bool.{true, false}
@@ -132,7 +132,7 @@ module _ (w : Value) (s : Bytes) (valid : valid_value w ≡ true) (ends : Ends s
     next-within : (g.key == l) ≡ true → (All (Good (length (turn (keys gs) q ++ rest))) gs → Next d gs v q) → Next (suc d) (g ∷ gs) v (l ∷ q)
     unfolding resume around store_node count_in
     next-within e f =
-        let a = f (rw (turn-within g.key l (keys gs) q e) at good.1) in
+        let a = f (subst (λ (t : Bytes). All (Good (length (t ++ rest))) gs) (turn-within g.key l (keys gs) q e) good.1) in
         let b = length-append (turn (keys (g ∷ gs)) (l ∷ q)) rest in
         let c : Good (length s) g = good-less (omega (arith, rest-length)) good.0 in
         rw (turn-within g.key l (keys gs) q e, ← bytes_eq g.key l e) (enter {g = g} a refl c (λ p fs. refl) refl)
@@ -234,7 +234,7 @@ reads-behind f (g ∷ fs) a s v d =
     let e = behind-ends g.path fs d.1.0 in
     let t = turns_at g.value (saved_behind g.path fs) v.1.0.value e max_depth a.frames f.path g.path in
     let b = t (leaf f.value) a.named d.0.0 s.0.0 i h refl a.good in
-    let r = reads-behind g fs b s.1 v.1 d.1 in
+    let r = reads-behind {x = resume max_depth a.frames (leaf f.value, turn f.path g.path ++ (value_text g.value ++ saved_behind g.path fs))} {u = around a.frames (leaf f.value)} g fs b s.1 v.1 d.1 in
     record {
       node = r.node;
       whole = a.reads ∙ r.whole;
