@@ -1,4 +1,6 @@
 // Writers: each stores what falls inside the buffer from `at` on, and answers where the text ends; and a slice copied or wiped.
+#![tactic(auto)]
+
 ghost use Rattle.std.specs.Prelude.{◌≡◌, [], ◌∷◌, ◌++◌, ◌+◌, ◌≤◌, ◌<◌, ◌^◌, length, drop, replicate};
 ghost use Rattle.rows.specs.Rows.{Wrote};
 ghost use Rattle.model.specs.Base.{decimal};

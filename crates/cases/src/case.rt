@@ -6,7 +6,7 @@ use opening::answer::Opening;
 use server::open::{LOGINS, RECORD, TABLES, open};
 
 // Where the next text's pieces stand, and what the opening came to.
-#[derive(Drop)]
+#[derive(Clone, Copy)]
 pub struct Opened {
     pub to: usize,
     pub done: Opening,

@@ -1,4 +1,6 @@
 // Recorded openings, each with what came of it; then recorded afternoons, with all that is printed.
+#![tactic(auto)]
+
 mod afternoon;
 mod case;
 mod outcome;

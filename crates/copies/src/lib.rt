@@ -1,4 +1,6 @@
 // The copy of a user: policy lines, environment lines, and the fields that the user may read, as their masks say.
+#![tactic(auto)]
+
 ghost use Rattle.std.specs.Prelude.{◌≡◌, map, ◌+◌, ◌≤◌, ◌<◌, ◌^◌, length};
 ghost use Rattle.rows.specs.Rows.{Wrote};
 ghost use Rattle.model.specs.Base.{joined, keep};

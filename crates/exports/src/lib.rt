@@ -1,4 +1,6 @@
 // The three operations for callers in C and Rust. Slices go as a pointer and a length, arrays as a pointer.
+#![tactic(auto)]
+
 ghost use Rattle.std.specs.Prelude.{◌≡◌};
 ghost use Rattle.model.specs.Limits.{max_copy, list_room};
 ghost use Rattle.model.specs.Serving as serving;

@@ -1,4 +1,6 @@
 // Runs a table of inputs through the public functions of `lexical`, `buffers`, `layout`, `values`, `paths`, `steps` and `matching`, and prints what came out.
+#![tactic(auto)]
+
 mod scalars;
 mod show;
 mod slots;

@@ -1,7 +1,7 @@
 // Tables of inputs, one to a line, each handed to the function that shows what comes of it.
 use crate::{scalars, slots};
 
-#[derive(Drop)]
+#[derive(Clone, Copy)]
 pub enum Shown {
     Names,
     Numbers,

@@ -11,7 +11,7 @@ ghost use Rattle.lexical.specs.Classes.{in_class, scan_end, read_between, text_a
 use crate::limits::{MAX_KEY, MAX_NAME};
 use crate::slice::is_at;
 
-#[derive(Drop)]
+#[derive(Clone, Copy)]
 pub enum Class {
     Name,
     Plain,
@@ -22,7 +22,7 @@ pub enum Class {
 }
 
 // Where a reader ends, or that it reads nothing.
-#[derive(Drop)]
+#[derive(Clone, Copy)]
 pub enum End {
     At(usize),
     Bad,

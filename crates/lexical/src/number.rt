@@ -6,7 +6,7 @@ ghost use Rattle.lexical.specs.Numbers.{number_answer};
 
 use crate::class::is_digit;
 
-#[derive(Drop)]
+#[derive(Clone, Copy)]
 pub enum Natural {
     Is(u64),
     Bad,

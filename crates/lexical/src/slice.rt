@@ -12,7 +12,7 @@ use crate::bounds::least;
 // Bytes that are compared at once, as one number.
 const WORD: usize = 8;
 
-#[derive(Drop)]
+#[derive(Clone, Copy)]
 pub enum Order {
     Less,
     Equal,

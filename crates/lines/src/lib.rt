@@ -1,4 +1,6 @@
 // The text of a table taken apart: lines, and the values in a line.
+#![tactic(auto)]
+
 ghost use Rattle.std.specs.Prelude.{◌≡◌, [], ◌≤◌, length, get_or};
 ghost use Rattle.model.specs.Base.{among};
 ghost use Rattle.model.specs.Limits.{max_text};

@@ -1,4 +1,6 @@
 // The fields of a record's text, put into a table.
+#![tactic(auto)]
+
 ghost use Rattle.std.specs.Prelude.{◌≡◌, [], ◌∷◌, ◌++◌, ◌+◌, ◌≤◌, length, take, replicate};
 ghost use Rattle.rows.specs.Positions.{placed};
 ghost use Rattle.model.specs.RecordText.{read_object};

@@ -1,4 +1,6 @@
 // A mask in a u32, a bit for each user place, and the four bytes that it is kept in: bits are set and tested by shifts, and bytes put together and taken apart by them.
+#![tactic(auto)]
+
 ghost use Rattle.std.specs.Prelude.{◌≡◌, true, false, not, ◌&&◌, ◌||◌, ℕ, ◌+◌, ◌-◌, ◌*◌, ◌%◌, ◌≤◌, ◌<◌, ◌^◌, eqb, ltb, length};
 ghost use Rattle.model.specs.Limits.{max_users};
 ghost use Rattle.masks.specs.Bits.{bit_at, none_from, byte_bits, mask_bytes, decode_mask, encode_mask};

@@ -1,7 +1,7 @@
 // What an opening answers.
 
 // An opening: accepted, or a refusal's number, text and line.
-#[derive(Drop)]
+#[derive(Clone, Copy)]
 pub enum Opening {
     Done,
     Refused(usize, usize, usize),

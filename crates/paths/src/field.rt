@@ -23,7 +23,7 @@ use lexical::slice::{Order, compare, is_at, same};
 pub const PATH: usize = 1 + MAX_DEPTH * KEY_ROW;
 
 // A path that was read, in a slot of its own.
-#[derive(Drop)]
+#[derive(Clone, Copy)]
 pub struct PathRead {
     pub ok: bool,
     pub slot: [u8; PATH],

@@ -1,4 +1,6 @@
 // What a push comes to, before anything is changed.
+#![tactic(auto)]
+
 ghost use Rattle.std.specs.Prelude.{◌≡◌, false, ◌+◌, ◌<◌, ◌^◌, length};
 ghost use Rattle.model.specs.Serving.{creating};
 ghost use Rattle.tables.specs.Memory.{user_row, user_in};
@@ -13,7 +15,7 @@ use tables::memory::{TABLES, USER, policy_of, quota};
 use tables::rights::may_write;
 
 // A refusal's number; or the login state of the user at an index becomes this one, and the field is stored at this place.
-#[derive(Drop)]
+#[derive(Clone, Copy)]
 pub enum Ruling {
     Refused(usize),
     Stores(usize, LoginState, Place),

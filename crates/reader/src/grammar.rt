@@ -23,14 +23,14 @@ const SHORT_TEXT: usize = MAX_TEXT / 16;
 const SHORT_KEYS: usize = SHORT_TEXT / MEMBER;
 
 // Where an object ends, how many fields it has, and whether a key stands twice in it or in an object in it.
-#[derive(Drop)]
+#[derive(Clone, Copy)]
 pub enum ObjectAt {
     At(usize, usize, bool),
     Bad,
 }
 
 // A record's text: refused, or how many fields it has.
-#[derive(Drop)]
+#[derive(Clone, Copy)]
 pub enum RecordRead {
     NotRecord,
     KeyTwice,

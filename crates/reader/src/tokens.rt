@@ -10,7 +10,7 @@ use lexical::limits::MAX_KEY;
 use values::value::{ValueAt, value_at};
 
 // A token of one byte, and where the next token stands.
-#[derive(Drop)]
+#[derive(Clone, Copy)]
 pub enum TokenAt {
     Open(usize),
     Close(usize),
@@ -20,7 +20,7 @@ pub enum TokenAt {
 }
 
 // A key is a part of the text: where it begins and ends, and where the next token stands.
-#[derive(Drop)]
+#[derive(Clone, Copy)]
 pub enum KeyAt {
     At(usize, usize, usize),
     Bad,

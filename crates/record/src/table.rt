@@ -28,7 +28,7 @@ pub const SLOTS: usize = MAX_FIELDS;
 pub const RECORD: usize = SLOTS * SLOT;
 
 // The place of a path, or the place before which it belongs.
-#[derive(Drop)]
+#[derive(Clone, Copy)]
 pub enum Place {
     At(usize),
     Before(usize),

@@ -1,4 +1,6 @@
 // A request line taken apart.
+#![tactic(auto)]
+
 ghost use Rattle.model.specs.Fields.{Keys};
 ghost use Rattle.model.specs.Requests.{read_login, read_get, read_push, read_logout, request_of};
 ghost use Rattle.paths.specs.Layout.{path_in};
@@ -12,7 +14,7 @@ use paths::field::{PATH, read_path};
 use values::value::{Scalar, ValueAt, value_at};
 
 // What a session asks for: a copy; a value for the path in the slot, both of which stand in the line from a position on; or its end.
-#[derive(Drop)]
+#[derive(Clone, Copy)]
 pub enum Ask {
     Get,
     Push(usize, Scalar),
@@ -20,14 +22,14 @@ pub enum Ask {
 }
 
 // A login, with the positions where the user begins and ends: behind the `;` there stands the key. Or what the session of a number asks for.
-#[derive(Drop)]
+#[derive(Clone, Copy)]
 pub enum Request {
     Login(usize, usize),
     InSession(u32, Ask),
 }
 
 // What a line asks for, if it can be taken apart.
-#[derive(Drop)]
+#[derive(Clone, Copy)]
 pub enum Parsed {
     Is(Request),
     Bad,

@@ -1,4 +1,6 @@
 // The program: opens the four files of the folder where it is started, then answers each line of its input.
+#![tactic(auto)]
+
 mod files;
 mod input;
 

@@ -2,7 +2,7 @@
 
 // A refusal's number; the number of the session that a login opened; how many first bytes of the buffer were written; that a request is
 // accepted, and for the caller alone how many numbers the list received, and from which position on the line says what they are told.
-#[derive(Drop)]
+#[derive(Clone, Copy)]
 pub enum Reply {
     Refused(usize),
     Session(u32),

@@ -1,4 +1,6 @@
 // The three operations of the server: open, request, save.
+#![tactic(auto)]
+
 pub mod answer;
 pub mod open;
 pub mod request;

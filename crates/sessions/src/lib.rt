@@ -1,4 +1,6 @@
 // Login states: for each user index the logins, whether a session is open, and the fields created.
+#![tactic(auto)]
+
 ghost use Rattle.std.specs.Prelude.{◌≡◌, ◌<◌, get_or};
 ghost use Rattle.model.specs.Limits.{max_users, max_logins};
 ghost use Rattle.model.specs.Opening.{empty_login};
@@ -19,7 +21,7 @@ pub const LOGINS: usize = USERS * LOGIN_ROW;
 // The bits of the logins, all set.
 const LOGIN_MASK: u32 = (1 << LOGIN_BITS) - 1;
 
-#[derive(Drop)]
+#[derive(Clone, Copy)]
 pub struct LoginState {
     pub logins: u16,
     pub is_open: bool,
@@ -27,21 +29,21 @@ pub struct LoginState {
 }
 
 // A login: the session's number, or a refusal's.
-#[derive(Drop)]
+#[derive(Clone, Copy)]
 pub enum LoginReply {
     Session(u32),
     Refused(usize),
 }
 
 // A number in the two parts that document 01 divides it into: a user's index, if there is such a user, and a count of logins.
-#[derive(Drop)]
+#[derive(Clone, Copy)]
 pub struct NumberParts {
     pub index: usize,
     pub logins: u16,
 }
 
 // The user index of an open session.
-#[derive(Drop)]
+#[derive(Clone, Copy)]
 pub enum SessionAt {
     Of(usize),
     Unknown,

@@ -19,7 +19,7 @@ pub const STEP: usize = 1 + NAMES;
 
 pub const STEPS: usize = 1 + MAX_DEPTH * STEP;
 
-#[derive(Drop)]
+#[derive(Clone, Copy)]
 pub struct StepsRead {
     pub ok: bool,
     pub slot: [u8; STEPS],

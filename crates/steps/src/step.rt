@@ -24,13 +24,13 @@ pub const BINDINGS: usize = MAX_BINDINGS;
 
 pub const ENVIRONMENT: usize = BINDINGS * BINDING;
 
-#[derive(Drop)]
+#[derive(Clone, Copy)]
 pub enum Operator {
     Equals,
     In,
 }
 
-#[derive(Drop)]
+#[derive(Clone, Copy)]
 pub enum Kind {
     Names,
     Wildcard,
@@ -38,13 +38,13 @@ pub enum Kind {
 }
 
 // The names of a list, or the one of an environment step, stand beside the kind: how many, and four rows.
-#[derive(Drop)]
+#[derive(Clone, Copy)]
 pub struct Step {
     pub kind: Kind,
     pub names: [u8; NAMES],
 }
 
-#[derive(Drop)]
+#[derive(Clone, Copy)]
 pub struct StepRead {
     pub ok: bool,
     pub to: usize,

@@ -43,7 +43,7 @@ pub const RULES: usize = MAX_RULES;
 pub const TABLES: usize = POLICY + RULES * RULE;
 
 // The index of a user.
-#[derive(Drop)]
+#[derive(Clone, Copy)]
 pub enum UserAt {
     At(usize),
     Unknown,

@@ -12,7 +12,7 @@ use lexical::slice::until;
 use lines::{count, has_column, value};
 use tables::memory::{POLICY, TABLES};
 
-#[derive(Drop)]
+#[derive(Clone, Copy)]
 pub enum Table {
     Users,
     Environments,
@@ -20,7 +20,7 @@ pub enum Table {
 }
 
 // Read to its end, or the number and the line of a refusal.
-#[derive(Drop)]
+#[derive(Clone, Copy)]
 pub enum TableRead {
     Done,
     Refused(usize, usize),

@@ -20,13 +20,13 @@ use steps::step::{BINDING, BINDINGS, ENVIRONMENT};
 use tables::memory::{LINES, RULE, RULES, USER, USERS, UserAt, find_user};
 use tables::push::{push_binding, push_rule, push_user};
 
-#[derive(Drop)]
+#[derive(Clone, Copy)]
 pub enum RowRead {
     Done,
     Refused(usize),
 }
 
-#[derive(Drop)]
+#[derive(Clone, Copy)]
 pub enum AccessRead {
     Is(u8),
     Bad,

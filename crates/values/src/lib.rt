@@ -1,3 +1,5 @@
 // Values read and written.
+#![tactic(auto)]
+
 pub mod value;
 pub mod whole;

@@ -14,7 +14,7 @@ use lexical::number::{Natural, number};
 use lexical::slice::{is_at, starts};
 
 // A value; a string is a part of the text that it was read from.
-#[derive(Drop)]
+#[derive(Clone, Copy)]
 pub enum Scalar {
     True,
     False,
@@ -22,14 +22,14 @@ pub enum Scalar {
     Whole(i32),
 }
 
-#[derive(Drop)]
+#[derive(Clone, Copy)]
 pub enum ValueAt {
     At(Scalar, usize),
     Bad,
 }
 
 // What a value is, by its first byte.
-#[derive(Drop)]
+#[derive(Clone, Copy)]
 enum Start {
     True,
     False,

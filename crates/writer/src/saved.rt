@@ -25,7 +25,7 @@ pub const MOST_SAVED: usize = SLOTS * (SAVED_FIELD + 1);
 const SAVED_FIELD: usize = (MAX_KEY + 5) * MAX_DEPTH + VALUE_ROOM;
 
 // Which fields are shown: all, or those whose mask has the bit of a user's place.
-#[derive(Drop)]
+#[derive(Clone, Copy)]
 pub enum Shown {
     All,
     To(usize),
