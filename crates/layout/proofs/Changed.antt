@@ -177,4 +177,4 @@ module _ {A : Type 0} (decode : Bytes → A) (k n : ℕ) (xs ys row : Bytes) whe
   pub table-inserted : (i : ℕ) → in_use k n ys ≡ take n (insert_at i row (in_use k n xs))
       → table decode k n ys ≡ take n (insert_at i (decode row) (table decode k n xs))
   unfolding table
-  table-inserted i e = rw (e, map-take, map-append, map-take, map-drop)
+  table-inserted i e = rw e (simp (map-take, map-append, map-drop))

@@ -19,7 +19,7 @@ use Rattle.model.proofs.Reading.{decimal-length}
 
 -- one that is passed on as its bits is the same
 pub i32-kept : (z : ℤ) → mag z < 2147483648 → to_z w32 (of_z w32 z) ≡ z
-i32-kept z h = to_z-of_z (record { sfits = h })
+i32-kept z h = to_z-of_z {w = w32} (record { sfits = h })
 
 -- the smallest one
 least : value_text (whole (negsuc 2147483647)) ≡ text "-2147483648"
