@@ -1,0 +1,41 @@
+use mathlib.Core.Path.{◌≡◌, sym, ◌∙◌}
+use mathlib.Core.Bool.{true}
+use mathlib.Core.List.{[], ◌∷◌}
+use native.Mathlib.Omega.{arith}
+use lib.ListN.{drop}
+use Rattle.model.specs.Base.{after, is_some}
+use Rattle.lexical.proofs.Runs.{byte-stands}
+use Rattle.paths.proofs.KeySteps.{key-unopened, key-empty, key-unclosed, key-closed}
+use borrow.Author.Tests.{not-true, not-false}
+use Rattle.paths.proofs.field.key_step.Goals.{Else-not-is_at}
+use Rattle.paths.proofs.field.key_step.Goals as goal
+
+-- The brackets stand where the bytes say, and what `between` answers behind the opening one is the key.
+
+-- the opening bracket stands there
+opens : (c : Else-not-is_at) → let a = c.args in is_some (after (0x5B ∷ []) (drop a.at a.s.now)) ≡ true
+opens c = sym c.is_at.ensures ∙ not-false _ c.if-not-is_at.false-raw
+
+pub returns-then-not-is_at : goal.returns-then-not-is_at
+returns-then-not-is_at c = key-unopened _ _ (sym c.is_at.ensures ∙ not-true _ c.if-not-is_at.true-raw)
+
+pub between-requires : goal.between-requires
+between-requires c = (byte-stands _ _ _ (opens c)).0
+
+pub returns-in_default : goal.returns-in_default
+returns-in_default c =
+    key-empty _ _ (opens (goal.at.returns-in_default c).Else-not-is_at) _ c.between.ensures c.in_default.is
+
+pub returns-then-not-is_at-2 : goal.returns-then-not-is_at-2
+returns-then-not-is_at-2 c =
+    key-unclosed _ _ (opens (goal.at.returns-then-not-is_at-2 c).Else-not-is_at) _ c.between.ensures _ c.in-At.is (sym c.is_at-2.ensures ∙ not-true _ c.if-not-is_at-2.true-raw)
+
+pub overflow_add-result : goal.overflow_add-result
+overflow_add-result c =
+    let s = c.args.s.now in
+    let inside = (byte-stands 0x5D s c.in-At.e (sym c.is_at-2.ensures ∙ not-false _ c.if-not-is_at-2.false-raw)).0 in
+    omega arith
+
+pub returns : goal.returns
+returns c =
+    key-closed _ _ (opens (goal.at.returns c).Else-not-is_at) _ c.between.ensures _ c.in-At.is (sym c.is_at-2.ensures ∙ not-false _ c.if-not-is_at-2.false-raw)

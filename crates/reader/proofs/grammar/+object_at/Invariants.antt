@@ -1,0 +1,13 @@
+use Prim.Native.Nat.{◌-◌}
+use lib.ListN.{length}
+use Rattle.model.specs.RecordText.{Members, twice}
+use Rattle.reader.proofs.Objects.{Left}
+use Rattle.reader.proofs.Sums.{Sums}
+use Rattle.reader.proofs.grammar.+object_at.Given as goal
+
+abbrev pub invariant-loop-from : goal.invariant-loop-from
+invariant-loop-from l =
+    (before : Members) × Left l.s l.at l.depth before l.i × Sums l.s l.at l.top l.initial.keys l.keys l.n l.fields l.twice before l.i
+
+abbrev pub decreases-loop-from : goal.decreases-loop-from
+decreases-loop-from l = length l.s - l.i
