@@ -1,0 +1,75 @@
+use Prim.Native.Nat.{◌≤◌}
+use mathlib.Core.Path.{◌≡◌, refl, sym, ◌∙◌}
+use mathlib.Core.Option.{some}
+use native.Mathlib.Omega.{arith}
+use borrow.Author.Tests.{not-true, not-false}
+use lib.ListN.{length, drop}
+use Rattle.rows.proofs.Parts.{tail-part}
+use Rattle.model.specs.Base.{text, after, check, ◌>>◌}
+use Rattle.model.specs.Requests.{read_login}
+use Rattle.requests.proofs.ByPositions.{word-ends, word-other, other_word, UserEnds, user-last, user-ends}
+use Rattle.requests.proofs.login_line.Goals.{Else-cut-line, In-At}
+use Rattle.requests.proofs.login_line.Goals as goal
+
+-- The line is cut where the user ends, and both sides are names: each exit is what one of these tests says of the model's reader.
+
+-- the line begins with `LOGIN;`, and the user ends inside of it
+begins : (c : In-At)
+    → let line = c.args.line.now in
+    let from = c.in-At.from in
+    (after (text "LOGIN;") line ≡ some (drop from line)) × (from ≤ length line)
+unfolding text
+begins c = word-ends _ _ _ c.behind.ensures c.in-At.is
+
+ends : (c : Else-cut-line)
+    → UserEnds c.args.line.now c.in-At.from c.until-cut.result
+ends c =
+    let (word, long) = (word-ends _ _ _ c.behind.ensures c.in-At.is) in
+    user-ends _ _ word _ c.until-cut.ensures long c.if-cut-line.false
+
+pub returns-in_default : goal.returns-in_default
+unfolding read_login text
+returns-in_default c = λ p. record { asks = other_word (text "LOGIN;") _ _ (word-other _ _ _ c.behind.ensures c.in_default.is); stands = tt }
+
+pub until-cut-requires : goal.until-cut-requires
+until-cut-requires c = (begins c).1
+
+pub returns-then-cut-line : goal.returns-then-cut-line
+returns-then-cut-line c = λ p. record { asks = user-last _ _ (begins (goal.at.returns-then-cut-line c).In-At).0 _ c.until-cut.ensures c.if-cut-line.true; stands = tt }
+
+pub slice_bounds-is_name-count : goal.slice_bounds-is_name-count
+slice_bounds-is_name-count c = (ends c).starts
+
+pub slice_bounds-is_name-start : goal.slice_bounds-is_name-start
+slice_bounds-is_name-start c = (ends c).starts
+
+pub slice_bounds-is_name-end : goal.slice_bounds-is_name-end
+slice_bounds-is_name-end c = omega (arith, ends c)
+
+pub returns-then-not-is_name : goal.returns-then-not-is_name
+unfolding check ◌>>◌
+returns-then-not-is_name c = λ p. record { asks = (ends (goal.at.returns-then-not-is_name c).Else-cut-line).read (sym c.is_name.ensures ∙ not-true _ c.if-not-is_name.true-raw) refl; stands = tt }
+
+pub overflow_add-key : goal.overflow_add-key
+overflow_add-key c = omega (arith, ends (goal.at.overflow_add-key c).Else-cut-line)
+
+pub slice_bounds-is_name-count-2 : goal.slice_bounds-is_name-count-2
+slice_bounds-is_name-count-2 c = omega (arith, ends (goal.at.slice_bounds-is_name-count-2 c).Else-cut-line)
+
+pub slice_bounds-is_name-start-2 : goal.slice_bounds-is_name-start-2
+slice_bounds-is_name-start-2 c = omega (arith, ends (goal.at.slice_bounds-is_name-start-2 c).Else-cut-line)
+
+pub returns-then-not-is_name-2 : goal.returns-then-not-is_name-2
+unfolding check ◌>>◌
+returns-then-not-is_name-2 c =
+    let user = sym c.is_name.ensures ∙ not-false _ c.if-not-is_name.false-raw in
+    let key = sym (rw tail-part at c.is_name-2.ensures) ∙ not-true _ c.if-not-is_name-2.true-raw in
+    λ p. record { asks = (ends (goal.at.returns-then-not-is_name-2 c).Else-cut-line).read user key; stands = tt }
+
+pub returns : goal.returns
+unfolding check ◌>>◌
+returns c =
+    let e = ends (goal.at.returns c).Else-cut-line in
+    let user = sym c.is_name.ensures ∙ not-false _ c.if-not-is_name.false-raw in
+    let key = sym (rw tail-part at c.is_name-2.ensures) ∙ not-false _ c.if-not-is_name-2.false-raw in
+    λ p. record { asks = e.read user key; stands = (e.starts, e.to) }

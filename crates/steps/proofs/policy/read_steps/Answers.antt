@@ -1,0 +1,20 @@
+use mathlib.Core.Path.{◌∙◌}
+use mathlib.Core.Logic.{⊎_elim}
+use native.Mathlib.Omega.{arith}
+use Rattle.steps.proofs.StepPushes.{steps-none, steps-fit, steps-long}
+use borrow.Author.Rules.{rules}
+use Rattle.steps.proofs.policy.read_steps.Goals as goal
+
+-- A path that was read is a policy path if its text, written into no bytes at all, ends at 121 or before.
+
+pub slice_bounds-put_steps-end-then-path : goal.slice_bounds-put_steps-end-then-path
+slice_bounds-put_steps-end-then-path c = search rules
+
+pub put_steps-requires : goal.put_steps-requires
+put_steps-requires c = (omega (arith, slice_bounds-put_steps-end-then-path c), search rules)
+
+pub returns-then-put_steps-le-MAX_PATH_TEXT : goal.returns-then-put_steps-le-MAX_PATH_TEXT
+returns-then-put_steps-le-MAX_PATH_TEXT c =
+    let read = c.read_all-path.ensures in
+    (steps-fit _ _ read.0 c.if-path.true _ c.put_steps.ensures.wrote.0 (omega arith), read.1)
+
