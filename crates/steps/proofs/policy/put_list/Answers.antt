@@ -13,7 +13,7 @@ use Rattle.steps.specs.Steps.{names_in}
 use Rattle.steps.proofs.StepTexts.{spelled_names, divider, divider-some, divider-none, names-step, names-all}
 use borrow.Author.Rules.{rules}
 use Rattle.model.specs.Limits.{max_key}
-use Rattle.steps.proofs.policy.put_list.Goals.{Joined-i-gt0}
+use Rattle.steps.proofs.policy.put_list.Goals.{Joined-i-gt0, then-i-gt0, else-i-gt0}
 use Rattle.steps.proofs.policy.put_list.Goals as goal
 
 -- Behind the opening bracket, before each turn the names so far are written, with commas between, each with at most 19 bytes.
@@ -29,12 +29,12 @@ unfolding text
 met c =
     let l = c.loop-i in
     let comma = text "," in
-    ⊎_elim
-    (λ w.
-    let more = wrote-both _ _ _ _ _ _ _ _ l.invariant.3 w.2.ensures in
-    rw (w.5, w.6) (omega (arith, w.2.ensures.0), w.2.kept.0 ∙ l.invariant.2, rw (divider-some comma l.i w.0.taken) more))
-    (λ w. rw (w.1, w.2) (omega arith, l.invariant.2, rw (divider-none comma l.i w.0.left, append-nil) l.invariant.3))
-    c.if-i-gt0.branch-raw
+    elim c.if-i-gt0.branch [
+      then-i-gt0 w ↦
+          let comma_written = w.put_byte-to-then-i-gt0.ensures in
+          let more = wrote-both _ _ _ _ _ _ _ _ l.invariant.3 comma_written in
+          rw (w.to-is, w.out-is) (omega (arith, comma_written.0), w.put_byte-to-then-i-gt0.auto.out ∙ l.invariant.2, rw (divider-some comma l.i w.if-i-gt0.true) more)
+    | else-i-gt0 w ↦ rw (w.to-is, w.out-is) (omega arith, l.invariant.2, rw (divider-none comma l.i w.if-i-gt0.false, append-nil) l.invariant.3) ]
 
 pub loop-i-init : goal.loop-i-init
 unfolding spelled_names between

@@ -1,7 +1,6 @@
 use mathlib.Core.Path.{◌≡◌, sym, ◌∙◌}
 use mathlib.Core.Bool.{true}
 use mathlib.Core.List.{[], ◌∷◌}
-use mathlib.Core.Logic.{⊎_elim}
 use native.Mathlib.Omega.{arith}
 use lib.ListN.{drop}
 use Rattle.model.specs.Base.{after, is_some}
@@ -9,6 +8,7 @@ use Rattle.lexical.proofs.Runs.{byte-stands}
 use Rattle.steps.proofs.StepReaders.{bracketed-not, bracketed-empty, bracketed-unclosed, bracketed-is}
 use borrow.Author.Tests.{not-true, not-false}
 use Rattle.steps.proofs.step.bracketed_at.Goals.{Else-not-is_at}
+use Rattle.steps.proofs.step.bracketed_at.Goals.{then-inner+else-is_at, else-inner}
 use Rattle.steps.proofs.step.bracketed_at.Goals as goal
 
 -- The brackets stand where the bytes say, and what `selector_at` answers between them is the step.
@@ -34,3 +34,11 @@ returns-then-is_at c =
     let ok = c.if-inner.true in
     (rw ok (bracketed-is _ _ (opens (goal.at.returns-then-is_at c).Else-not-is_at) c.selector_at-inner.result c.selector_at-inner.ensures.0 ok (sym c.is_at-then-inner.ensures ∙ c.if-is_at.true)), c.selector_at-inner.ensures.1)
 
+pub returns : goal.returns
+returns c =
+    (
+      c.no_step-2.ensures.0 ∙ elim c.if-inner.branch [
+          then-inner+else-is_at w ↦ bracketed-unclosed _ _ (opens (goal.at.returns c).Else-not-is_at) c.selector_at-inner.result c.selector_at-inner.ensures.0 w.if-inner.true (sym w.is_at-then-inner.ensures ∙ w.if-is_at.false)
+        | else-inner w ↦ bracketed-empty _ _ (opens (goal.at.returns c).Else-not-is_at) c.selector_at-inner.result c.selector_at-inner.ensures.0 w.if-inner.false ],
+      c.no_step-2.ensures.1,
+    )

@@ -43,7 +43,7 @@ within : (c : In-At)
     let to = c.in-At.to in
     (from + 1 ≤ to) × (to ≤ from + max_name) × (to ≤ length a.s.now)
 within c =
-    scan-within _ _ _ _ _ _ c.scan.ensures (scan-requires c.before.before.before.before) _ c.in-At.is
+    scan-within _ _ _ _ _ _ c.scan.ensures (after-at _ _ _ c.requires.0 (sym c.starts.ensures ∙ not-false _ c.if-not-starts.false-raw)).1 _ c.in-At.is
 
 pub slice_bounds-found_one-count : goal.slice_bounds-found_one-count
 slice_bounds-found_one-count c = omega (arith, within c)

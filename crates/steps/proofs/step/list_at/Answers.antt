@@ -61,3 +61,6 @@ pub returns : goal.returns
 returns c =
     let l = c.loop-n in
     (c.no_step-2.ensures.0 ∙ list-none _ _ (l.invariant.4 ∙ names-full l.n _ _ (omega arith)), c.no_step-2.ensures.1)
+
+pub overflow_sub-b : goal.overflow_sub-b
+overflow_sub-b c = omega (arith, either-at _ _ _ c.either_at.ensures (omega arith) _ c.in-At.is)
