@@ -2,17 +2,15 @@
 use Prim.Native.Nat.{ℕ, suc, ◌+◌, ◌-◌, ◌≤◌, ◌<◌}
 use mathlib.Core.Path.{◌≡◌, refl, sym, ap, ◌∙◌}
 use mathlib.Core.Option.{Option, none, some}
-use mathlib.Core.Bool.{Bool, true, false, not}
-use mathlib.Core.List.{List, [], ◌∷◌}
+use mathlib.Core.Bool.{Bool, true, false}
+use mathlib.Core.List.{[], ◌∷◌}
 use native.Mathlib.Omega.{arith}
-use types.Run.{OneOf}
-use denote.Enum.Declared.{tag_of}
-use borrow.Author.Tests.{eq-eqb, eqb-true, not-true}
+use borrow.Author.Tests.{eq-eqb, eqb-true}
 use lib.Dec.{eqb}
 use lib.ListN.{length, get_or, take, drop, length-drop}
 use Rattle.rows.specs.Positions.{Reader, Reads, behind, placed, run_end, LeavesEnd}
 use Rattle.rows.proofs.Positions.{here, over, run-within, placed-reads, placed-none, none-placed, reads-placed}
-use Rattle.model.specs.Base.{Bytes, text, any, if◌then◌else◌, ◌>>=◌, ◌>>◌, check, after, span}
+use Rattle.model.specs.Base.{Bytes, text, if◌then◌else◌, ◌>>=◌, ◌>>◌, check, after, span}
 use Rattle.model.specs.Names.{name_byte, is_key}
 use Rattle.model.specs.Values.{read_value}
 use Rattle.model.specs.Paths.{read_quoted}
@@ -25,7 +23,6 @@ use Rattle.values.specs.declared.value.ValueAt.{ValueAt}
 use Rattle.values.specs.declared.value.ValueAt.TheVariants as value-at
 use Rattle.lexical.specs.Classes.{read_between}
 use Rattle.values.specs.Scalars.{value_in, value_answer}
-use Rattle.lexical.proofs.Classes.{differs, keyed}
 use Rattle.lexical.proofs.Runs.{span-at, rest_of, bind-same, bind-bind, check_bind}
 use Rattle.lexical.proofs.Between.{Stands, Quoted, between-gives, between-leaves, quoted-between}
 use Rattle.values.proofs.Values.{told, value-leaves}
@@ -33,7 +30,6 @@ use Rattle.lexical.proofs.Readers.{rest-on, leaves-bind, leaves_word, leaves-som
 use Rattle.reader.specs.Tokens.{is_structural, read_structural, read_token, read_scalar, read_member, token_answer, key_answer, MemberInText}
 use Rattle.reader.specs.declared.tokens.TokenAt.{TokenAt}
 use Rattle.reader.specs.declared.tokens.TokenAt.TheVariants.{Open, Close, Colon, Comma, Bad}
-use Rattle.reader.specs.contracts.tokens.TokenAt.{the_type}
 use Rattle.reader.specs.declared.tokens.KeyAt.{KeyAt}
 use Rattle.reader.specs.declared.tokens.KeyAt.TheVariants as key-at
 use Rattle.model.specs.Limits.{max_key}
@@ -163,22 +159,43 @@ pub scalar-leaves : LeavesEnd read_scalar
 scalar-leaves = spaced-leaves _ _ scalar-spaced value-leaves
 
 -- ── For a caller: what an answer says ──
--- the tokens of one byte in the order of the variants; a number behind them is none
-structurals : Bytes
-structurals = 0x7B ∷ 0x7D ∷ 0x3A ∷ 0x2C ∷ []
-
 -- the answer's token is b
 answers : ℕ → Option (ℕ × ℕ) → Bool
 answers b none = false
 answers b (some p) = eqb b p.0
 
-variant-not : (b : ℕ) (x : TokenAt) → true ≡ not (eqb b (get_or structurals (tag_of the_type x) 0)) → answers b (token_answer x) ≡ false
-unfolding structurals answers
-variant-not b (Open e) h = not-true _ (sym h)
-variant-not b (Close e) h = not-true _ (sym h)
-variant-not b (Colon e) h = not-true _ (sym h)
-variant-not b (Comma e) h = not-true _ (sym h)
-variant-not b Bad h = refl
+-- a token that is not the variant that the code's `let` asks for
+not-open : (x : TokenAt) → ((e : ℕ) → x ≡ Open e → ⊥) → answers 0x7B (token_answer x) ≡ false
+unfolding answers
+not-open (Open e) h = absurd (h e refl)
+not-open (Close e) h = refl
+not-open (Colon e) h = refl
+not-open (Comma e) h = refl
+not-open Bad h = refl
+
+not-close : (x : TokenAt) → ((e : ℕ) → x ≡ Close e → ⊥) → answers 0x7D (token_answer x) ≡ false
+unfolding answers
+not-close (Open e) h = refl
+not-close (Close e) h = absurd (h e refl)
+not-close (Colon e) h = refl
+not-close (Comma e) h = refl
+not-close Bad h = refl
+
+not-colon : (x : TokenAt) → ((e : ℕ) → x ≡ Colon e → ⊥) → answers 0x3A (token_answer x) ≡ false
+unfolding answers
+not-colon (Open e) h = refl
+not-colon (Close e) h = refl
+not-colon (Colon e) h = absurd (h e refl)
+not-colon (Comma e) h = refl
+not-colon Bad h = refl
+
+not-comma : (x : TokenAt) → ((e : ℕ) → x ≡ Comma e → ⊥) → answers 0x2C (token_answer x) ≡ false
+unfolding answers
+not-comma (Open e) h = refl
+not-comma (Close e) h = refl
+not-comma (Colon e) h = refl
+not-comma (Comma e) h = absurd (h e refl)
+not-comma Bad h = refl
 
 module _ (s : Bytes) (at : ℕ) (x : TokenAt) (answer : token_answer x ≡ placed read_structural s at) where
   module _ (b : ℕ) (k : is_structural b ≡ true) where
@@ -214,26 +231,22 @@ module _ (s : Bytes) (at : ℕ) (x : TokenAt) (answer : token_answer x ≡ place
     unfolding is_structural
     comma-stands i = structural-stands 0x2C refl h e (ap token_answer i)
 
-  -- a token that is none of the variants that the code's `else` tells by their numbers
-  no-structural : (b : ℕ) → is_structural b ≡ true → (ks : List ℕ) → any (differs (λ n. not (eqb b (get_or structurals n 0))) true) ks ≡ false → OneOf ks (tag_of the_type x)
-      → read_token b (drop at s) ≡ none
-  no-structural b k ks t h = structural-other b k (variant-not b x (keyed (λ n. not (eqb b (get_or structurals n 0))) true ks t _ h))
+  -- a token that the code's `else` is left with
+  pub no-open : ((e : ℕ) → x ≡ Open e → ⊥) → read_token 0x7B (drop at s) ≡ none
+  unfolding is_structural
+  no-open h = structural-other 0x7B refl (not-open x h)
 
-  pub no-open : OneOf (1 ∷ 2 ∷ 3 ∷ 4 ∷ []) (tag_of the_type x) → read_token 0x7B (drop at s) ≡ none
-  unfolding is_structural any structurals
-  no-open = no-structural 0x7B refl (1 ∷ 2 ∷ 3 ∷ 4 ∷ []) refl
+  pub no-close : ((e : ℕ) → x ≡ Close e → ⊥) → read_token 0x7D (drop at s) ≡ none
+  unfolding is_structural
+  no-close h = structural-other 0x7D refl (not-close x h)
 
-  pub no-close : OneOf (0 ∷ 2 ∷ 3 ∷ 4 ∷ []) (tag_of the_type x) → read_token 0x7D (drop at s) ≡ none
-  unfolding is_structural any structurals
-  no-close = no-structural 0x7D refl (0 ∷ 2 ∷ 3 ∷ 4 ∷ []) refl
+  pub no-colon : ((e : ℕ) → x ≡ Colon e → ⊥) → read_token 0x3A (drop at s) ≡ none
+  unfolding is_structural
+  no-colon h = structural-other 0x3A refl (not-colon x h)
 
-  pub no-colon : OneOf (0 ∷ 1 ∷ 3 ∷ 4 ∷ []) (tag_of the_type x) → read_token 0x3A (drop at s) ≡ none
-  unfolding is_structural any structurals
-  no-colon = no-structural 0x3A refl (0 ∷ 1 ∷ 3 ∷ 4 ∷ []) refl
-
-  pub no-comma : OneOf (0 ∷ 1 ∷ 2 ∷ 4 ∷ []) (tag_of the_type x) → read_token 0x2C (drop at s) ≡ none
-  unfolding is_structural any structurals
-  no-comma = no-structural 0x2C refl (0 ∷ 1 ∷ 2 ∷ 4 ∷ []) refl
+  pub no-comma : ((e : ℕ) → x ≡ Comma e → ⊥) → read_token 0x2C (drop at s) ≡ none
+  unfolding is_structural
+  no-comma h = structural-other 0x2C refl (not-comma x h)
 
 module _ (f : Reader ℕ Bytes) (s : Bytes) (at : ℕ) (x : KeyAt) (answer : key_answer s x ≡ placed f s at) where
   pub key-bad : x ≡ key-at.Bad → f (drop at s) ≡ none

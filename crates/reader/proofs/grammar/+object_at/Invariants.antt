@@ -1,6 +1,6 @@
 use Prim.Native.Nat.{◌-◌}
 use lib.ListN.{length}
-use Rattle.model.specs.RecordText.{Members, twice}
+use Rattle.model.specs.RecordText.{Members}
 use Rattle.reader.proofs.Objects.{Left}
 use Rattle.reader.proofs.Sums.{Sums}
 use Rattle.reader.proofs.grammar.+object_at.Given as goal
@@ -11,3 +11,6 @@ invariant-loop-from l =
 
 abbrev pub decreases-loop-from : goal.decreases-loop-from
 decreases-loop-from l = length l.s - l.i
+
+abbrev pub decreases-object_at : goal.decreases-object_at
+decreases-object_at l = l.depth

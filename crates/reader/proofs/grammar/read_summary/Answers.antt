@@ -16,8 +16,7 @@ use Rattle.reader.proofs.grammar.read_summary.Goals as goal
 
 -- the object stands where `top_at` says, and has so many fields
 top : (c : In-At)
-    → let got = c.e-1.given.0 in
-    (m : Members) × Reads read_top c.args.s.now c.run-at.result m got.0 × (summary m ≡ (got.1.0, got.1.1.0))
+    → (m : Members) × Reads read_top c.args.s.now c.run-at.result m c.in-At.e × (summary m ≡ (c.in-At.fields, c.in-At.twice))
 top c =
     mapped-reads summary read_top _ _ leaves-top (run-within _ _ _ _ c.run-at.ensures (search rules)).1 _ _ (told object_answer c.top_at.ensures c.in-At.is)
 

@@ -6,7 +6,6 @@ use Rattle.reader.specs.Tokens.{read_token, mapped, read_top}
 use Rattle.reader.specs.Summaries.{summary}
 use Rattle.reader.proofs.Spaced.{open-stands, close-stands, no-open, no-close}
 use Rattle.reader.proofs.Tops.{top-unopened, top-empty, top-object}
-use borrow.Author.Rules.{rules}
 use Rattle.reader.proofs.grammar.top_at.Goals.{In-Open, In_default-token_at}
 use Rattle.reader.proofs.grammar.top_at.Goals as goal
 
@@ -14,8 +13,8 @@ use Rattle.reader.proofs.grammar.top_at.Goals as goal
 
 -- the brace stands where `token_at` says
 opened : (c : In-Open)
-    → let a = c.args in Reads (read_token 0x7B) a.s.now a.at tt c.«open».given.0.0
-opened c = open-stands _ _ _ c.token_at.ensures (search rules) _ c.«open».given.1
+    → let a = c.args in Reads (read_token 0x7B) a.s.now a.at tt c.in-Open.open
+opened c = open-stands _ _ _ c.token_at.ensures c.requires.0 _ c.in-Open.is
 
 -- no brace closes it there, so that it has members
 with-members : (c : In_default-token_at)
@@ -23,10 +22,10 @@ with-members : (c : In_default-token_at)
     placed (mapped summary (read_object max_depth)) a.s.now a.at ≡ placed (mapped summary read_top) a.s.now a.at
 with-members c =
     let token = c.token_at-2 in
-    top-object _ _ _ _ ((open-stands _ _ _ c.token_at.ensures (search rules) _ c.«open».given.1)) (no-close _ _ token.result token.ensures c.in_default-token_at.in_default-token_at-own.keys2)
+    top-object _ _ _ _ (open-stands _ _ _ c.token_at.ensures c.requires.0 _ c.in-Open.is) (no-close _ _ token.result token.ensures c.in_default-token_at.not-Close)
 
 pub returns-in_default : goal.returns-in_default
-returns-in_default c = top-unopened _ _ _ (no-open _ _ c.token_at.result c.token_at.ensures c.in_default.in_default-own.keys2)
+returns-in_default c = top-unopened _ _ _ (no-open _ _ c.token_at.result c.token_at.ensures c.in_default.not-Open)
 
 pub token_at-requires-2 : goal.token_at-requires-2
 token_at-requires-2 c = (opened c).to

@@ -20,6 +20,9 @@ returns-in_default c = record { result_value = member-no-key _ _ (key-bad _ _ _ 
 pub token_at-requires : goal.token_at-requires
 token_at-requires c = (key c).1.to
 
+pub returns-in_default-token_at : goal.returns-in_default-token_at
+returns-in_default-token_at c = record { result_value = member-no-colon _ _ _ _ (key (goal.at.returns-in_default-token_at c).In-At).1 (no-colon _ _ c.token_at.result c.token_at.ensures c.in_default-token_at.not-Colon); member_in_text = tt }
+
 pub returns : goal.returns
 unfolding key
 returns c =

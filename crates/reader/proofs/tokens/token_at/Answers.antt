@@ -37,5 +37,5 @@ returns-in-44 c = structural-is _ _ c.if-s-at.false _ c.run-next.ensures 0x2C re
 pub returns-in_default : goal.returns-in_default
 unfolding Opened is_structural
 returns-in_default c =
-    let small = c.shared_slice_known-2-1.given c.args.at in
+    let small = c.type_inv.s c.args.at in
     structural-not _ _ c.if-s-at.false (sym (clear is_structural false keys 0x00 0xFF refl _ (omega arith) (omega (arith, small)) (apart c.in_default.in_default-own.rest)))
