@@ -28,7 +28,7 @@ reads : (c : After-number) {v : Natural} (a : Ask) → c.number.result ≡ v
     → let args = c.args in
     (number_answer v >>= λ n. some (in_session n a)) ≡ read_ask args.word.now a args.line.now
 unfolding read_ask session_of ◌>>=◌
-reads c a is = rw (((word-ends _ _ _ c.behind.ensures c.in-At.is)).0, told number_answer (rw tail-part at c.number.ensures) is)
+reads c a is = rw ((word-ends _ _ _ c.behind.ensures c.in-At.is).0, told number_answer (rw tail-part at c.number.ensures) is)
 
 pub returns-in_default : goal.returns-in_default
 unfolding read_ask

@@ -2,7 +2,6 @@ use Prim.Native.Nat.{◌≤◌}
 use mathlib.Core.Path.{◌≡◌, refl, sym, ◌∙◌}
 use mathlib.Core.Option.{some}
 use native.Mathlib.Omega.{arith}
-use borrow.Author.Tests.{not-true, not-false}
 use lib.ListN.{length, drop}
 use Rattle.rows.proofs.Parts.{tail-part}
 use Rattle.model.specs.Base.{text, after, check, ◌>>◌}
@@ -23,8 +22,9 @@ begins c = word-ends _ _ _ c.behind.ensures c.in-At.is
 
 ends : (c : Else-cut-line)
     → UserEnds c.args.line.now c.in-At.from c.until-cut.result
+unfolding text
 ends c =
-    let (word, long) = (word-ends _ _ _ c.behind.ensures c.in-At.is) in
+    let (word, long) = word-ends _ _ _ c.behind.ensures c.in-At.is in
     user-ends _ _ word _ c.until-cut.ensures long c.if-cut-line.false
 
 pub returns-in_default : goal.returns-in_default
@@ -48,7 +48,7 @@ slice_bounds-is_name-end c = omega (arith, ends c)
 
 pub returns-then-not-is_name : goal.returns-then-not-is_name
 unfolding check ◌>>◌
-returns-then-not-is_name c = λ p. record { asks = (ends (goal.at.returns-then-not-is_name c).Else-cut-line).read (sym c.is_name.ensures ∙ not-true _ c.if-not-is_name.true-raw) refl; stands = tt }
+returns-then-not-is_name c = λ p. record { asks = (ends (goal.at.returns-then-not-is_name c).Else-cut-line).read (sym c.is_name.ensures ∙ c.if-not-is_name.true) refl; stands = tt }
 
 pub overflow_add-key : goal.overflow_add-key
 overflow_add-key c = omega (arith, ends (goal.at.overflow_add-key c).Else-cut-line)
@@ -62,14 +62,14 @@ slice_bounds-is_name-start-2 c = omega (arith, ends (goal.at.slice_bounds-is_nam
 pub returns-then-not-is_name-2 : goal.returns-then-not-is_name-2
 unfolding check ◌>>◌
 returns-then-not-is_name-2 c =
-    let user = sym c.is_name.ensures ∙ not-false _ c.if-not-is_name.false-raw in
-    let key = sym (rw tail-part at c.is_name-2.ensures) ∙ not-true _ c.if-not-is_name-2.true-raw in
+    let user = sym c.is_name.ensures ∙ c.if-not-is_name.false in
+    let key = sym (rw tail-part at c.is_name-2.ensures) ∙ c.if-not-is_name-2.true in
     λ p. record { asks = (ends (goal.at.returns-then-not-is_name-2 c).Else-cut-line).read user key; stands = tt }
 
 pub returns : goal.returns
 unfolding check ◌>>◌
 returns c =
     let e = ends (goal.at.returns c).Else-cut-line in
-    let user = sym c.is_name.ensures ∙ not-false _ c.if-not-is_name.false-raw in
-    let key = sym (rw tail-part at c.is_name-2.ensures) ∙ not-false _ c.if-not-is_name-2.false-raw in
+    let user = sym c.is_name.ensures ∙ c.if-not-is_name.false in
+    let key = sym (rw tail-part at c.is_name-2.ensures) ∙ c.if-not-is_name-2.false in
     λ p. record { asks = e.read user key; stands = (e.starts, e.to) }

@@ -31,14 +31,16 @@ begins c = word-ends _ _ _ c.behind.ensures c.in-At.is
 session-inside : (c : Else-a-line)
     → let line = c.args.line.now in
     (c.in-At.from ≤ c.until-a.result) × (c.until-a.result + 1 ≤ length line)
+unfolding text
 session-inside c =
-    let (word, long) = (word-ends _ _ _ c.behind.ensures c.in-At.is) in
+    let (word, long) = word-ends _ _ _ c.behind.ensures c.in-At.is in
     omega (arith, session-ends _ _ word _ c.until-a.ensures long c.if-a-line.false)
 
 ends : (c : Else-b-line)
     → PathEnds c.args.line.now c.in-At.from c.until-a.result c.until-b.result
+unfolding text
 ends c =
-    let (word, long) = (word-ends _ _ _ c.behind.ensures c.in-At.is) in
+    let (word, long) = word-ends _ _ _ c.behind.ensures c.in-At.is in
     path-ends _ _ word _ c.until-a.ensures long c.if-a-line.false _ c.until-b.ensures c.if-b-line.false
 
 -- the session is a number
@@ -52,9 +54,12 @@ by_value : (c : Else-not-read) {v : Option Value}
     → let line = c.args.line.now in
     value_of (drop (c.until-b.result + 1) line) ≡ v
     → push_of (some c.in-Is.session) (some (path_in c.read_path-read.result.slot)) v ≡ read_push line
+unfolding text
 by_value c v =
     let path = path-told c.read_path-read.result c.read_path-read.ensures.0 (not-false _ c.if-not-read.false) in
-    ((let (word, long) = (word-ends _ _ _ c.behind.ensures c.in-At.is) in path-ends _ _ word _ c.until-a.ensures long c.if-a-line.false _ c.until-b.ensures c.if-b-line.false)).read ((told number_answer c.number.ensures c.in-Is.is)) path v
+    let (word, long) = word-ends _ _ _ c.behind.ensures c.in-At.is in
+    let e = path-ends _ _ word _ c.until-a.ensures long c.if-a-line.false _ c.until-b.ensures c.if-b-line.false in
+    e.read (told number_answer c.number.ensures c.in-Is.is) path v
 
 pub returns-in_default : goal.returns-in_default
 unfolding read_push text
