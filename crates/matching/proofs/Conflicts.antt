@@ -3,11 +3,8 @@ use Prim.Native.Nat.{ℕ, ◌+◌, ◌*◌, ◌-◌, ◌≤◌, ◌<◌, min}
 use mathlib.Core.Path.{◌≡◌, refl, ◌∙◌}
 use mathlib.Core.Bool.{Bool, true, false, ◌&&◌, and-false, or-false}
 use mathlib.Core.List.{List, [], ◌∷◌}
-use mathlib.Core.Logic.{inl, inr}
 use native.Mathlib.Omega.{arith}
 use lib.ListN.{length, get_or, take, drop}
-use types.Run.{OneOf}
-use denote.Enum.Declared.{tag_of}
 use Rattle.model.specs.Limits.{max_depth}
 use Rattle.model.specs.Base.{Bytes, any, among}
 use Rattle.model.specs.Paths.{Step, Steps, names, wildcard, environment}
@@ -15,26 +12,23 @@ use Rattle.model.specs.Rights.{overlap, is_above, conflict}
 use Rattle.steps.specs.Steps.{step_row, names_in, by_kind, kind_of, step_in, steps_in}
 use Rattle.steps.specs.declared.step.Kind.{Kind}
 use Rattle.steps.specs.declared.step.Kind.TheVariants.{Names, Wildcard, Environment}
-use Rattle.steps.specs.contracts.step.Kind.{the_type}
 use Rattle.steps.proofs.StepRows.{step-told}
 use Rattle.layout.proofs.Counts.{length-counted, counted_step, counted-over}
 
 -- ── A step of another kind than a list of names overlaps every step ──
--- the variants Wildcard and Environment by their numbers, as the code's `else` tells them
+-- what the code's `else` tells of a kind
 abbrev NoNames : Kind → Type 0
-NoNames k = OneOf (1 ∷ 2 ∷ []) (tag_of the_type k)
+NoNames k = k ≡ Names → ⊥
 
 kind-left : (k : Kind) (ns : List Bytes) (t : Step) → NoNames k → overlap (by_kind k ns) t ≡ true
 unfolding overlap
-kind-left Names ns t (inl e) = absurd (omega arith)
-kind-left Names ns t (inr e) = absurd (omega arith)
+kind-left Names ns t o = absurd (o refl)
 kind-left Wildcard ns t o = refl
 kind-left (Environment x) ns t o = refl
 
 kind-right : (t : Step) (k : Kind) (ns : List Bytes) → NoNames k → overlap t (by_kind k ns) ≡ true
 unfolding overlap
-kind-right (names a) Names ns (inl e) = absurd (omega arith)
-kind-right (names a) Names ns (inr e) = absurd (omega arith)
+kind-right (names a) Names ns o = absurd (o refl)
 kind-right (names a) Wildcard ns o = refl
 kind-right (names a) (Environment x) ns o = refl
 kind-right wildcard k ns o = refl
