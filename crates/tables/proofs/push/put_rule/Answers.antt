@@ -1,0 +1,16 @@
+use mathlib.Core.Path.{ap}
+use native.Mathlib.Omega.{arith}
+use lib.ListN.{length}
+use Rattle.buffers.proofs.Writers.{wrote-both}
+use Rattle.tables.proofs.Pushed.{rule-put}
+use Rattle.tables.proofs.push.put_rule.Goals as goal
+
+-- The access and the steps, and then the role before them, are written into a row of zeros: nothing else is there.
+
+pub slice_bounds-put_name-end : goal.slice_bounds-put_name-end
+slice_bounds-put_name-end c = omega (arith, ap length c.requires.0)
+
+pub returns : goal.returns
+returns c =
+    let tail = wrote-both _ _ _ _ _ _ _ _ c.put_byte-path.ensures c.put.ensures in
+    rule-put c.args.role.now c.args.access c.args.steps.now c.requires.0 c.requires.1 tail.1 c.put_name.ensures
