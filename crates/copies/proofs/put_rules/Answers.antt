@@ -1,0 +1,32 @@
+use Prim.Native.Nat.{◌-◌}
+use mathlib.Core.Path.{refl, sym, ◌∙◌}
+use mathlib.Core.Logic.{⊎_elim}
+use native.Mathlib.Omega.{arith}
+use lib.ListN.{length}
+use borrow.Author.Rules.{rules}
+use Rattle.buffers.proofs.Writers.{wrote_none}
+use Rattle.layout.proofs.Used.{counted-fit}
+use Rattle.model.specs.Limits.{max_rules}
+use Rattle.tables.specs.Memory.{rule_row}
+use Rattle.tables.proofs.Policy.{rule-inside}
+use Rattle.writer.proofs.Remains.{remains-step, remains-end}
+use Rattle.copies.proofs.Lines.{rules-yes, rules-no, rules-end}
+use Rattle.copies.proofs.put_rules.Goals as goal
+
+-- Each turn writes the line of one row, if it is the user's, of bounded length; the lines of the later rows remain to be written.
+
+pub loop-i-init : goal.loop-i-init
+loop-i-init c = (search rules, search rules, refl, (refl, refl))
+
+pub row_at-rule-requires : goal.row_at-rule-requires
+row_at-rule-requires c = rule-inside _ c.row_count-n.ensures c.loop-i.i c.loop-i-test.true (search rules)
+
+pub put_rule_line-to-requires : goal.put_rule_line-to-requires
+put_rule_line-to-requires c = let f = counted-fit rule_row max_rules _ c.row_count-n.ensures in search rules
+
+pub returns : goal.returns
+returns c =
+    let l = c.loop-i in
+    let n = c.row_count-n.ensures in
+    let f = counted-fit rule_row max_rules _ n in
+    record { wrote = remains-end _ _ _ _ _ _ _ _ (rw (rules-end _ _ n l.i (search rules)) at l.invariant.3) (wrote_none _ _); upper_bound = search rules }
