@@ -4,10 +4,7 @@ use mathlib.Core.Path.{◌≡◌, refl, sym, ap, ◌∙◌}
 use mathlib.Core.Bool.{true, false}
 use mathlib.Core.Option.{Option, none, some}
 use mathlib.Core.List.{[], ◌∷◌, ◌++◌}
-use mathlib.Core.Logic.{inl, inr}
 use native.Mathlib.Omega.{arith}
-use types.Run.{OneOf}
-use denote.Enum.Declared.{tag_of}
 use borrow.Author.Tests.{ne_eqb, le-leb, lt-leb}
 use lib.ListN.{length, get_or, take, drop, set, length-append}
 use lib.Seq.{set-get_or}
@@ -43,7 +40,6 @@ use Rattle.loader.specs.Loaded.{loaded, load_answer, fields_of}
 use Rattle.reader.specs.Summaries.{reading_of, read_answer}
 use Rattle.reader.specs.declared.grammar.RecordRead.{RecordRead}
 use Rattle.reader.specs.declared.grammar.RecordRead.TheVariants as record-read
-use Rattle.reader.specs.contracts.grammar.RecordRead.{the_type}
 use Rattle.reader.proofs.Spaced.{skip_at, scalar-reads}
 use Rattle.reader.proofs.Mapped.{mapped-is}
 use Rattle.reader.proofs.Objects.{read_node, node-leaf, node-mapped}
@@ -142,10 +138,6 @@ loaded-same : (fs gs : Fields) (e : ℕ) (x : End) → load_answer fs x ≡ some
 loaded-same fs gs e (At n) h = ap (λ (t : Fields × ℕ). t.0) (some_same h)
 loaded-same fs gs e Bad h = none-some h
 
--- the variants NotRecord and KeyTwice by their numbers, as the code's `else` tells them
-abbrev NoFields : RecordRead → Type 0
-NoFields r = OneOf (0 ∷ 1 ∷ []) (tag_of the_type r)
-
 module _ (s : Bytes) where
   -- a text that is refused has no fields for a table
   unread : (e : ℕ) → refused e ≡ reading_of s → fields_of s ≡ none
@@ -156,11 +148,10 @@ module _ (s : Bytes) where
       go none i = rw i
       go (some m) i = by_cases (twice m) (λ t. rw (i, t)) (λ t. let d : reading_of s ≡ done (count m) = rw (i, t) in refused-done (h ∙ d))
 
-  pub refused-fields : (r : RecordRead) → read_answer r ≡ reading_of s → NoFields r → fields_of s ≡ none
+  pub refused-fields : (r : RecordRead) → read_answer r ≡ reading_of s → ((n : ℕ) → r ≡ record-read.Fields n → ⊥) → fields_of s ≡ none
   refused-fields record-read.NotRecord h o = unread 8 h
   refused-fields record-read.KeyTwice h o = unread 6 h
-  refused-fields (record-read.Fields n) h (inl e) = absurd (omega arith)
-  refused-fields (record-read.Fields n) h (inr e) = absurd (omega arith)
+  refused-fields (record-read.Fields n) h o = absurd (o n refl)
 
   -- one with n fields
   module _ (n : ℕ) (h : reading_of s ≡ done n) where
