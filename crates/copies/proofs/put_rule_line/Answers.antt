@@ -1,7 +1,6 @@
 use Prim.Native.Nat.{◌+◌, ◌≤◌}
 use mathlib.Core.Path.{◌≡◌, ◌∙◌}
 use mathlib.Core.List.{◌++◌}
-use mathlib.Core.Logic.{⊎_elim}
 use native.Mathlib.Omega.{arith}
 use lib.ListN.{length, length-take}
 use borrow.Author.Rules.{rules}
@@ -12,7 +11,7 @@ use Rattle.layout.proofs.Named.{name-length}
 use Rattle.tables.specs.Memory.{user_in, rule_in}
 use Rattle.copies.proofs.Lines.{access_part, rule-line, access-part}
 use Rattle.model.specs.Limits.{max_name}
-use Rattle.copies.proofs.put_rule_line.Goals.{Joined-is_write}
+use Rattle.copies.proofs.put_rule_line.Goals.{Joined-is_write, then-is_write, else-is_write}
 use Rattle.copies.proofs.put_rule_line.Goals as goal
 
 -- The user's role, the access between two `;`, the path and the end of the line are written one behind the other.
@@ -30,10 +29,11 @@ met c =
     let put = c.put-to in
     let role = rw name at put.ensures in
     let part = access-part (rule_in a.rule.now) c.is_write.ensures in
-    ⊎_elim
-    (λ w. rw (w.6, w.7, part, w.0.taken) (omega (arith, w.3.ensures.0, put.ensures.0), w.3.kept.0 ∙ put.auto.out, wrote-both _ _ _ _ _ _ _ _ role w.3.ensures))
-    (λ w. rw (w.6, w.7, part, w.0.left) (omega (arith, w.3.ensures.0, put.ensures.0), w.3.kept.0 ∙ put.auto.out, wrote-both _ _ _ _ _ _ _ _ role w.3.ensures))
-    c.if-is_write.branch-raw
+    elim c.if-is_write.branch [
+      then-is_write w ↦ let access = w.put-to-then-is_write in
+          rw (w.to-is, w.out-is, part, w.if-is_write.true) (omega (arith, access.ensures.0, put.ensures.0), access.auto.out ∙ put.auto.out, wrote-both _ _ _ _ _ _ _ _ role access.ensures)
+    | else-is_write w ↦ let access = w.put-to-else-is_write in
+          rw (w.to-is, w.out-is, part, w.if-is_write.false) (omega (arith, access.ensures.0, put.ensures.0), access.auto.out ∙ put.auto.out, wrote-both _ _ _ _ _ _ _ _ role access.ensures) ]
 
 pub put-to-requires : goal.put-to-requires
 put-to-requires c = let k = name-length max_name _ c.name_from.ensures (simp length-take (omega arith)) in omega arith
