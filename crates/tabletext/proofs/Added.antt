@@ -27,17 +27,17 @@ use Rattle.tabletext.specs.declared.row.AccessRead.TheVariants.{Is, Bad}
 use Rattle.tabletext.specs.Reading.{access_answer, row_answer, kept_or}
 use Rattle.tabletext.proofs.Standing.{one_more}
 
--- ── A test that the code negates: it failed, or it was passed ──
-pub failed : {a b : Bool} → b ≡ a → not b ≡ true → a ≡ false
-failed {b = b} h e = sym h ∙ not-true b e
+-- ── A test that was called: it failed, or it was passed ──
+pub failed : {a b : Bool} → b ≡ a → b ≡ false → a ≡ false
+failed h e = sym h ∙ e
 
-pub passed : {a b : Bool} → b ≡ a → not b ≡ false → a ≡ true
-passed {b = b} h e = sym h ∙ not-false b e
+pub passed : {a b : Bool} → b ≡ a → b ≡ true → a ≡ true
+passed h e = sym h ∙ e
 
 -- ── A line's outcome, and what the code says of it: where it is refused, what was so stays so ──
-pub refuses : {A : Type 0} (a : A) {x : Result ℕ A} {e : ℕ} {P : Type 0} → x ≡ refused e → ((Refused e ≡ row_answer x) × (a ≡ kept_or a x)) × (P → P)
+pub refuses : {A : Type 0} (a : A) {x : Result ℕ A} {e : ℕ} → x ≡ refused e → (Refused e ≡ row_answer x) × (a ≡ kept_or a x)
 unfolding kept_or
-refuses a h = (rw h (refl, refl), λ p. p)
+refuses a h = rw h (refl, refl)
 
 -- ── Names: none is empty, and none is cut ──
 pub plain-named : (n : Bytes) → is_plain n ≡ true → Named max_name n

@@ -16,67 +16,63 @@ use Rattle.tabletext.proofs.row.add_binding.Goals as goal
 -- The tests are made in the order of the definition: each exit is at the first that fails, and a line that passes them all joins the lines of its user's row.
 
 -- the line's values under its columns
-abbrev val : Start → Bytes → Bytes
-val s = under (split s.args.head.now) (split s.args.line.now)
-
-abbrev start : Else-not-is_name → Start
-start c = c.before.before.before.before.before.before.before.before.before.before.before
+abbrev val : Bytes → Bytes → Bytes → Bytes
+val head line = under (split head) (split line)
 
 -- ── The tests that were passed ──
-user : (c : Else-not-is_name) → is_name (val (start c) (text "user")) ≡ true
+user : (c : Else-not-is_name) → is_name (val c.args.head.now c.args.line.now (text "user")) ≡ true
 unfolding text
-user c = rw (← c.value_under-user.ensures) (passed c.is_name.ensures c.if-not-is_name.false-raw)
+user c = rw (← c.value_under-user.ensures) (passed c.is_name.ensures c.if-not-is_name.false)
 
-name : (c : Else-not-is_plain) → is_plain (val (start c.before.before) (text "name")) ≡ true
+name : (c : Else-not-is_plain) → is_plain (val c.args.head.now c.args.line.now (text "name")) ≡ true
 unfolding text
-name c = rw (← c.value_under-name.ensures) (passed c.is_plain.ensures c.if-not-is_plain.false-raw)
+name c = rw (← c.value_under-name.ensures) (passed c.is_plain.ensures c.if-not-is_plain.false)
 
-names : (c : Else-not-is_key) → binding_names (val (start c.before.before.before.before)) ≡ true
+names : (c : Else-not-is_key) → binding_names (val c.args.head.now c.args.line.now) ≡ true
 unfolding text
 names c =
-    let value = passed c.is_key.ensures c.if-not-is_key.false-raw in
-    rw ((rw (← c.value_under-user.ensures) (passed c.is_name.ensures c.if-not-is_name.false-raw)), (rw (← c.value_under-name.ensures) (passed c.is_plain.ensures c.if-not-is_plain.false-raw)), ← c.value_under-value.ensures, value)
+    let user_named : is_name (val c.args.head.now c.args.line.now (text "user")) ≡ true = rw (← c.value_under-user.ensures) (passed c.is_name.ensures c.if-not-is_name.false) in
+    let name_plain : is_plain (val c.args.head.now c.args.line.now (text "name")) ≡ true = rw (← c.value_under-name.ensures) (passed c.is_plain.ensures c.if-not-is_plain.false) in
+    let value = passed c.is_key.ensures c.if-not-is_key.false in
+    rw (user_named, name_plain, ← c.value_under-value.ensures, value)
 
 -- the line's user stands at i
-found : (c : In-At) → let s = start c.before.before.before.before.before.before.before.before.before in Stands s.args.users.now (val s (text "user")) c.in-At.i
+found : (c : In-At) → Stands c.args.users.now (val c.args.head.now c.args.line.now (text "user")) c.in-At.i
 unfolding text
 found c = stands _ (user-known _ c.value_under-user.ensures c.find_user.ensures c.in-At.is).1
 
 inside : (c : In-At) → c.in-At.i * user_row + user_row ≤ users_bytes
 inside c = (found c).inside
 
--- what the search for the line said, and that it found none
-has : (c : After-has_binding) → c.has_binding.result ≡ any (same_binding (new_binding (val (start c.before.before.before.before.before.before.before.before.before.before.before.before)))) (found c.before.before).user.environment
+-- what the search for the line said
+has : (c : After-has_binding) (f : Stands c.args.users.now (val c.args.head.now c.args.line.now (text "user")) c.in-At.i)
+    → c.has_binding.result ≡ any (same_binding (new_binding (val c.args.head.now c.args.line.now))) f.user.environment
 unfolding text
-has c =
-    rw (lines_are (found c.before.before) (start c.before.before.before.before.before.before.before.before.before.before.before.before).requires.0, ← c.value_under-name.ensures, ← c.value_under-value.ensures) c.has_binding.ensures
+has c f = rw (lines_are f c.requires.0, ← c.value_under-name.ensures, ← c.value_under-value.ensures) c.has_binding.ensures
 
-new : (c : Else-has_binding) → any (same_binding (new_binding (val (start c.before.before.before.before.before.before.before.before.before.before.before.before.before)))) (found c.before.before.before).user.environment ≡ false
-new c = sym ((rw (lines_are (found c.before.before) (start c.before.before.before.before.before.before.before.before.before.before.before.before).requires.0, ← c.value_under-name.ensures, ← c.value_under-value.ensures) c.has_binding.ensures)) ∙ c.if-has_binding.false
-
-pub returns-then-not-is_name : goal.returns-then-not-is_name
+pub returns-then-not-is_name-clause-adds : goal.returns-then-not-is_name-clause-adds
 unfolding text
-returns-then-not-is_name c =
-    let bad = failed c.is_name.ensures c.if-not-is_name.true-raw in
+returns-then-not-is_name-clause-adds c =
+    let bad = failed c.is_name.ensures c.if-not-is_name.true in
     refuses _ (binding-unnamed _ _ (rw (← c.value_under-user.ensures, bad)))
 
-pub returns-then-not-is_plain : goal.returns-then-not-is_plain
+pub returns-then-not-is_plain-clause-adds : goal.returns-then-not-is_plain-clause-adds
 unfolding text
-returns-then-not-is_plain c =
-    let bad = failed c.is_plain.ensures c.if-not-is_plain.true-raw in
-    refuses _ (binding-unnamed _ _ (rw (user (goal.at.returns-then-not-is_plain c).Else-not-is_name, ← c.value_under-name.ensures, bad)))
+returns-then-not-is_plain-clause-adds c =
+    let bad = failed c.is_plain.ensures c.if-not-is_plain.true in
+    refuses _ (binding-unnamed _ _ (rw (user (goal.at.returns-then-not-is_plain-clause-adds c).Else-not-is_name, ← c.value_under-name.ensures, bad)))
 
-pub returns-then-not-is_key : goal.returns-then-not-is_key
+pub returns-then-not-is_key-clause-adds : goal.returns-then-not-is_key-clause-adds
 unfolding text
-returns-then-not-is_key c =
-    let bad = failed c.is_key.ensures c.if-not-is_key.true-raw in
-    refuses _ (binding-unnamed _ _ (rw (user (goal.at.returns-then-not-is_key c).Else-not-is_name, name (goal.at.returns-then-not-is_key c).Else-not-is_plain, ← c.value_under-value.ensures, bad)))
+returns-then-not-is_key-clause-adds c =
+    let bad = failed c.is_key.ensures c.if-not-is_key.true in
+    refuses _ (binding-unnamed _ _ (rw (user (goal.at.returns-then-not-is_key-clause-adds c).Else-not-is_name, name (goal.at.returns-then-not-is_key-clause-adds c).Else-not-is_plain, ← c.value_under-value.ensures, bad)))
 
-pub returns-in_default : goal.returns-in_default
+pub returns-in_default-clause-adds : goal.returns-in_default-clause-adds
 unfolding text
-returns-in_default c =
+returns-in_default-clause-adds c =
     let lost = user-unknown _ c.value_under-user.ensures c.find_user.ensures c.in_default.is in
-    refuses _ (binding-lost _ _ (names (goal.at.returns-in_default c).Else-not-is_key) lost)
+    refuses _ (binding-lost _ _ (names (goal.at.returns-in_default-clause-adds c).Else-not-is_key) lost)
 
 pub overflow_mul-start : goal.overflow_mul-start
 overflow_mul-start c = omega (arith, inside c)
@@ -88,31 +84,31 @@ pub overflow_add-end : goal.overflow_add-end
 overflow_add-end c = omega (arith, inside c)
 
 pub slice_bounds-has_binding-end : goal.slice_bounds-has_binding-end
-slice_bounds-has_binding-end c = omega (arith, inside c, (start (goal.at.slice_bounds-has_binding-end c).After-value_under-value).requires.0)
+slice_bounds-has_binding-end c = omega (arith, inside c, c.requires.0)
 
-pub returns-then-has_binding : goal.returns-then-has_binding
-returns-then-has_binding c = refuses _ (binding-doubled _ _ (names (goal.at.returns-then-has_binding c).Else-not-is_key) (found (goal.at.returns-then-has_binding c).In-At).named (sym (has (goal.at.returns-then-has_binding c).After-has_binding) ∙ c.if-has_binding.true))
+pub returns-then-has_binding-clause-adds : goal.returns-then-has_binding-clause-adds
+returns-then-has_binding-clause-adds c = refuses _ (binding-doubled _ _ (names (goal.at.returns-then-has_binding-clause-adds c).Else-not-is_key) (found (goal.at.returns-then-has_binding-clause-adds c).In-At).named (sym (has (goal.at.returns-then-has_binding-clause-adds c).After-has_binding (found (goal.at.returns-then-has_binding-clause-adds c).In-At)) ∙ c.if-has_binding.true))
 
 pub slice_bounds-row_count-end : goal.slice_bounds-row_count-end
-slice_bounds-row_count-end c = omega (arith, inside (goal.at.slice_bounds-row_count-end c).In-At, (start (goal.at.slice_bounds-row_count-end c).After-value_under-arg-6-1).requires.0)
+slice_bounds-row_count-end c = omega (arith, inside (goal.at.slice_bounds-row_count-end c).In-At, c.requires.0)
 
-pub returns-then-row_count-ge-BINDINGS : goal.returns-then-row_count-ge-BINDINGS
-returns-then-row_count-ge-BINDINGS c =
-    let count = lines-counted (found (goal.at.returns-then-row_count-ge-BINDINGS c).In-At) (start (goal.at.returns-then-row_count-ge-BINDINGS c).After-value_under-arg-6-1).requires.0 c.row_count.ensures in
-    refuses _ (binding-full _ _ (names (goal.at.returns-then-row_count-ge-BINDINGS c).Else-not-is_key) (found (goal.at.returns-then-row_count-ge-BINDINGS c).In-At).named (new (goal.at.returns-then-row_count-ge-BINDINGS c).Else-has_binding) count (omega (arith, c.if-row_count-ge-BINDINGS.true)))
+pub returns-then-row_count-ge-BINDINGS-clause-adds : goal.returns-then-row_count-ge-BINDINGS-clause-adds
+returns-then-row_count-ge-BINDINGS-clause-adds c =
+    let count = lines-counted (found (goal.at.returns-then-row_count-ge-BINDINGS-clause-adds c).In-At) c.requires.0 c.row_count.ensures in
+    refuses _ (binding-full _ _ (names (goal.at.returns-then-row_count-ge-BINDINGS-clause-adds c).Else-not-is_key) (found (goal.at.returns-then-row_count-ge-BINDINGS-clause-adds c).In-At).named (sym (has (goal.at.returns-then-row_count-ge-BINDINGS-clause-adds c).After-has_binding (found (goal.at.returns-then-row_count-ge-BINDINGS-clause-adds c).In-At)) ∙ c.if-has_binding.false) count (omega (arith, c.if-row_count-ge-BINDINGS.true)))
 
 pub slice_bounds-push_binding-end : goal.slice_bounds-push_binding-end
-slice_bounds-push_binding-end c = omega (arith, inside (goal.at.slice_bounds-push_binding-end c).In-At, (start (goal.at.slice_bounds-push_binding-end c).After-value_under-arg-6-1).requires.0)
+slice_bounds-push_binding-end c = omega (arith, inside (goal.at.slice_bounds-push_binding-end c).In-At, c.requires.0)
 
 pub push_binding-requires : goal.push_binding-requires
 push_binding-requires c =
-    (lines_long (found (goal.at.push_binding-requires c).In-At) (start (goal.at.push_binding-requires c).After-value_under-arg-6-1).requires.0, (plain-named _ (passed c.is_plain.ensures c.if-not-is_plain.false-raw)).low)
+    (lines_long (found (goal.at.push_binding-requires c).In-At) c.requires.0, (plain-named _ (passed c.is_plain.ensures c.if-not-is_plain.false)).low)
 
 pub returns : goal.returns
 unfolding text
 returns c =
-    let size = (start (goal.at.returns c).After-value_under-arg-6-1).requires.0 in
+    let size = c.requires.0 in
     let put = c.push_binding in
     let count = lines-counted (found (goal.at.returns c).In-At) size c.row_count.ensures in
     let long = put.auto.lines ∙ lines_long (found (goal.at.returns c).In-At) size in
-    let joined = lines-joined (found (goal.at.returns c).In-At) size _ long _ count (omega (arith, c.if-row_count-ge-BINDINGS.false)) put.ensures.lines_after in record { adds = binding-added _ _ (names (goal.at.returns c).Else-not-is_key) (found (goal.at.returns c).In-At).named (new (goal.at.returns c).Else-has_binding) count (omega (arith, c.if-row_count-ge-BINDINGS.false)) c.value_under-name.ensures c.value_under-value.ensures joined; keeps = lines-kept (found (goal.at.returns c).In-At) size _ long put.ensures.keeps }
+    let joined = lines-joined (found (goal.at.returns c).In-At) size _ long _ count (omega (arith, c.if-row_count-ge-BINDINGS.false)) put.ensures.lines_after in record { adds = binding-added _ _ (names (goal.at.returns c).Else-not-is_key) (found (goal.at.returns c).In-At).named (sym (has (goal.at.returns c).After-has_binding (found (goal.at.returns c).In-At)) ∙ c.if-has_binding.false) count (omega (arith, c.if-row_count-ge-BINDINGS.false)) c.value_under-name.ensures c.value_under-value.ensures joined; keeps = lines-kept (found (goal.at.returns c).In-At) size _ long put.ensures.keeps }

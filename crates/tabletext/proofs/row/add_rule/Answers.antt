@@ -19,46 +19,49 @@ use Rattle.tabletext.proofs.row.add_rule.Goals as goal
 -- The tests are made in the order of the definition: each exit is at the first that fails, and a line that passes them all finds room.
 
 -- the line's values under its columns
-abbrev val : Start → Bytes → Bytes
-val s = under (split s.args.head.now) (split s.args.line.now)
-
-abbrev start : Else-not-is_name → Start
-start c = c.before.before.before.before.before.before.before
+abbrev val : Bytes → Bytes → Bytes → Bytes
+val head line = under (split head) (split line)
 
 -- ── The tests that were passed ──
-role : (c : Else-not-is_name) → is_name (val (start c) (text "role")) ≡ true
+role : (c : Else-not-is_name) → is_name (val c.args.head.now c.args.line.now (text "role")) ≡ true
 unfolding text
-role c = rw (← c.value_under-role.ensures) (passed c.is_name.ensures c.if-not-is_name.false-raw)
+role c = rw (← c.value_under-role.ensures) (passed c.is_name.ensures c.if-not-is_name.false)
 
-access : (c : In-Is) → let b = c.in-Is.b in (access_of (val (start c.before.before.before.before.before.before) (text "access")) ≡ some (access_in b)) × (b ≡ access_byte (access_in b))
+access : (c : In-Is) → let b = c.in-Is.b in (access_of (val c.args.head.now c.args.line.now (text "access")) ≡ some (access_in b)) × (b ≡ access_byte (access_in b))
 unfolding text
 access c = access-known c.value_under.ensures c.access.ensures c.in-Is.is
 
-path : (c : Else-not-path) → steps_of (val (start c.before.before.before.before.before.before.before.before.before.before.before) (text "path")) ≡ some (steps_in c.read_steps-path.result.slot)
+path : (c : Else-not-path) → steps_of (val c.args.head.now c.args.line.now (text "path")) ≡ some (steps_in c.read_steps-path.result.slot)
 unfolding text
 path c = path-read c.read_steps-path.result c.value_under-2.ensures c.read_steps-path.ensures.0 c.if-not-path.false
 
-pub returns-in_default : goal.returns-in_default
+pub returns-then-not-is_name-clause-adds : goal.returns-then-not-is_name-clause-adds
 unfolding text
-returns-in_default c =
+returns-then-not-is_name-clause-adds c =
+    let bad = failed c.is_name.ensures c.if-not-is_name.true in
+    refuses _ (rule-unnamed _ _ (rw (← c.value_under-role.ensures, bad)))
+
+pub returns-in_default-clause-adds : goal.returns-in_default-clause-adds
+unfolding text
+returns-in_default-clause-adds c =
     let bad = access-unknown c.value_under.ensures c.access.ensures c.in_default.is in
-    refuses _ (rule-bad _ _ (role (goal.at.returns-in_default c).Else-not-is_name) bad)
+    refuses _ (rule-bad _ _ (role (goal.at.returns-in_default-clause-adds c).Else-not-is_name) bad)
 
-pub returns-then-not-path : goal.returns-then-not-path
+pub returns-then-not-path-clause-adds : goal.returns-then-not-path-clause-adds
 unfolding text
-returns-then-not-path c =
+returns-then-not-path-clause-adds c =
     let bad = path-unread c.read_steps-path.result c.value_under-2.ensures c.read_steps-path.ensures.0 c.if-not-path.true in
-    refuses _ (rule-unread _ _ (role (goal.at.returns-then-not-path c).Else-not-is_name) (access (goal.at.returns-then-not-path c).In-Is).0 bad)
+    refuses _ (rule-unread _ _ (role (goal.at.returns-then-not-path-clause-adds c).Else-not-is_name) (access (goal.at.returns-then-not-path-clause-adds c).In-Is).0 bad)
 
-pub returns-then-row_count-ge-RULES : goal.returns-then-row_count-ge-RULES
-returns-then-row_count-ge-RULES c =
-    refuses _ (rule-full _ _ (role (goal.at.returns-then-row_count-ge-RULES c).Else-not-is_name) (access (goal.at.returns-then-row_count-ge-RULES c).In-Is).0 (path (goal.at.returns-then-row_count-ge-RULES c).Else-not-path) (rules-counted _ c.row_count.ensures) (omega (arith, c.if-row_count-ge-RULES.true)))
+pub returns-then-row_count-ge-RULES-clause-adds : goal.returns-then-row_count-ge-RULES-clause-adds
+returns-then-row_count-ge-RULES-clause-adds c =
+    refuses _ (rule-full _ _ (role (goal.at.returns-then-row_count-ge-RULES-clause-adds c).Else-not-is_name) (access (goal.at.returns-then-row_count-ge-RULES-clause-adds c).In-Is).0 (path (goal.at.returns-then-row_count-ge-RULES-clause-adds c).Else-not-path) (rules-counted _ c.row_count.ensures) (omega (arith, c.if-row_count-ge-RULES.true)))
 
 pub slice_bounds-push_rule-end : goal.slice_bounds-push_rule-end
 slice_bounds-push_rule-end c = search rules
 
 pub push_rule-requires : goal.push_rule-requires
-push_rule-requires c = (search rules, (name-named _ (passed c.is_name.ensures c.if-not-is_name.false-raw)).low, omega (arith, slice_bounds-push_rule-end c))
+push_rule-requires c = (search rules, (name-named _ (passed c.is_name.ensures c.if-not-is_name.false)).low, omega (arith, slice_bounds-push_rule-end c))
 
 pub returns : goal.returns
 unfolding text

@@ -1,11 +1,10 @@
 use Prim.Native.Nat.{◌-◌, ◌≤◌, ◌+◌, ◌*◌}
 use mathlib.Core.Path.{refl, sym, ◌∙◌}
-use mathlib.Core.Logic.{⊎_elim}
 use native.Mathlib.Omega.{arith}
 use borrow.Author.Rules.{rules}
 use Rattle.steps.specs.Environments.{binding_row, bindings_bytes}
 use Rattle.tabletext.proofs.Bindings.{binding-inside, binding-left, binding-over}
-use Rattle.tabletext.proofs.row.has_binding.Goals.{In-loop-i}
+use Rattle.tabletext.proofs.row.has_binding.Goals.{In-loop-i, then-same+else-same-2, else-same}
 use Rattle.tabletext.proofs.row.has_binding.Goals as goal
 
 -- Each turn leaves the search from the next row on; behind the last row that was counted no line is left.
@@ -42,7 +41,9 @@ loop-i-preserved c =
       search rules,
       l.invariant.1
           ∙ binding-left _ c.row_count-n.ensures l.i _ c.loop-i-test.true c.name_from.ensures c.same.ensures
-          ∙ ⊎_elim (λ w. rw (w.0.taken, ← w.1.ensures, ← w.2.ensures, w.3.left)) (λ w. rw w.left) c.if-same.branch-raw,
+          ∙ elim c.if-same.branch [
+              then-same+else-same-2 w ↦ rw (w.if-same.true, ← w.name_from-then-same.ensures, ← w.same-then-same.ensures, w.if-same-2.false)
+            | else-same w ↦ rw w.if-same.false ],
     )
 
 pub returns : goal.returns

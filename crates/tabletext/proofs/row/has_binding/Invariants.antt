@@ -8,7 +8,7 @@ use Rattle.tabletext.proofs.row.has_binding.Given as goal
 
 abbrev pub invariant-loop-i : goal.invariant-loop-i
 invariant-loop-i l =
-    (l.i ≤ l.n) × (any (same_binding (record { l.name = l.name; l.value = l.value })) (bindings_in l.lines) ≡ any (same_binding (record { l.name = l.name; l.value = l.value })) (drop l.i (bindings_in l.lines)))
+    (l.i ≤ l.n) × (any (same_binding (record { name = l.name; value = l.value })) (bindings_in l.lines) ≡ any (same_binding (record { name = l.name; value = l.value })) (drop l.i (bindings_in l.lines)))
 
 abbrev pub decreases-loop-i : goal.decreases-loop-i
 decreases-loop-i l = l.n - l.i
