@@ -1,5 +1,5 @@
 /* The club's record server, for C: three operations on three arrays that the caller lends.
-   Link with target/staticlib/libexports.a (rt staticlib exports), x86-64. Nothing is kept between calls but what the arrays hold.
+   Link with crates/exports/out/libexports.a (tools/library builds it), x86-64. Nothing is kept between calls but what the arrays hold.
    The three belong together: the fields carry masks made from these tables. Beside tables of another opening the masks decide who reads, not the policy. */
 #ifndef JESOVANGA_H
 #define JESOVANGA_H

@@ -2,19 +2,20 @@
 ghost use Rattle.std.specs.Prelude.{◌≤◌, length};
 
 use lexical::slice::until;
-use libc::STDOUT_FILENO;
 use printing::{COPY, LIST, respond};
 use server::open::{LOGINS, RECORD, TABLES};
+use std::io;
 
 // What one line prints.
 const OUTPUT: usize = 65536;
 
 pub fn answer_input(
+    rt: &impl Print,
     tables: &[u8; TABLES],
     logins: &mut [u16; LOGINS],
     fields: &mut [u8; RECORD],
     input: &[u8],
-)
+) -> io::Result<()>
     requires { length input.now ≤ 65600 }
 {
     let mut buffer = [0u8; COPY];
@@ -32,7 +33,8 @@ pub fn answer_input(
             &mut list,
             &mut out,
         );
-        io::write_all(STDOUT_FILENO, &out[..n]);
+        rt.write_all(&out[..n])?;
         at = end + 1;
     }
+    Ok(())
 }

@@ -15,12 +15,16 @@ use crate::outcome::{print, print_refusal};
 use crate::rooms::print_rooms;
 use crate::unpack::{TEXT, unpack};
 use server::open::{LOGINS, RECORD, TABLES};
+use std::fs::File;
+use std::io;
+use std::io::Read;
+use std::rt::Files;
 
 // A file of packed cases.
 const PACK: usize = 262144;
 
 // The openings, one after the other, each with the arrays that the one before left.
-fn run_openings(pack: &[u8])
+fn run_openings(rt: &impl Print, pack: &[u8]) -> io::Result<()>
     requires { length pack.now ≤ 262144 }
 {
     let mut users = [0u8; TEXT];
@@ -44,13 +48,14 @@ fn run_openings(pack: &[u8])
             &mut fields,
         );
         let done = opened.done;
-        print(done);
+        print(rt, done)?;
         at = opened.to;
     }
+    Ok(())
 }
 
 // The afternoons: an opening, and the lines of an input. The last leaves the state of document 01's example.
-fn run_afternoons(pack: &[u8])
+fn run_afternoons(rt: &impl Print, pack: &[u8]) -> io::Result<()>
     requires { length pack.now ≤ 262144 }
 {
     let mut users = [0u8; TEXT];
@@ -75,29 +80,44 @@ fn run_afternoons(pack: &[u8])
             &mut fields,
         );
         let done = opened.done;
-        if print_refusal(done) {
-            return;
+        if print_refusal(rt, done)? {
+            return Ok(());
         }
         let i = unpack(pack, opened.to, &mut input);
-        answer_input(&tables, &mut logins, &mut fields, &input[..i.length]);
+        answer_input(rt, &tables, &mut logins, &mut fields, &input[..i.length])?;
         at = i.to;
     }
-    print_rooms(&tables, &mut logins, &mut fields);
+    print_rooms(rt, &tables, &mut logins, &mut fields)
 }
 
-fn read_pack(name: &[u8], pack: &mut [u8]) -> usize
+// Reads until the pack is full, the file ends or a read fails; how many bytes came.
+fn read_full(file: &mut impl Read, pack: &mut [u8]) -> usize
     ensures { result ≤ length pack.new }
 {
-    let fd = os::open_read(name);
-    let n = io::read_full(fd, pack);
-    libc::close(fd);
-    n
+    let mut done: usize = 0;
+    while done < pack.len() {
+        let n = file.read(&mut pack[done..]).unwrap_or(0);
+        if n == 0 {
+            break;
+        }
+        done += n;
+    }
+    done
 }
 
-fn main() {
+fn read_pack(rt: &impl Files, name: &str, pack: &mut [u8]) -> usize
+    ensures { result ≤ length pack.new }
+{
+    match File::open(rt, name) {
+        Ok(mut file) => read_full(&mut file, pack),
+        Err(_) => 0,
+    }
+}
+
+fn main(rt: HostRuntime) -> io::Result<()> {
     let mut pack = [0u8; PACK];
-    let n = read_pack(b"openings", &mut pack);
-    run_openings(&pack[..n]);
-    let m = read_pack(b"afternoons", &mut pack);
-    run_afternoons(&pack[..m]);
+    let n = read_pack(&rt, "openings", &mut pack);
+    run_openings(&rt, &pack[..n])?;
+    let m = read_pack(&rt, "afternoons", &mut pack);
+    run_afternoons(&rt, &pack[..m])
 }

@@ -6,7 +6,9 @@ mod show;
 mod slots;
 mod table;
 
-fn main() {
-    scalars::table();
-    slots::table();
+use std::io;
+
+fn main(rt: HostRuntime) -> io::Result<()> {
+    scalars::table(&rt)?;
+    slots::table(&rt)
 }

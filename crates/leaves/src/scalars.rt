@@ -9,6 +9,7 @@ use lexical::class::{
 use lexical::limits::MAX_KEY;
 use lexical::number::{Natural, number};
 use lexical::slice::{compare, same, starts};
+use std::io;
 use values::value::{ValueAt, put_value, value_at};
 use values::whole::put_whole;
 
@@ -17,122 +18,122 @@ const OUT: usize = 12;
 
 const LONGEST: usize = 64;
 
-fn class_of(b: u8) {
+fn class_of(rt: &impl Print, b: u8) -> io::Result<()> {
     let one = [b];
-    show::asked(b"byte", &one);
-    show::mark(b'n', is_name_byte(b));
-    show::mark(b'p', is_plain_byte(b));
-    show::mark(b't', is_text_byte(b));
-    show::mark(b'd', is_digit(b));
-    show::mark(b'i', is_identifier_byte(b));
-    show::mark(b'b', is_blank(b));
-    show::mark(b'N', passes(Class::Name, b));
-    show::text(b"\n");
+    show::asked(rt, b"byte", &one)?;
+    show::mark(rt, b'n', is_name_byte(b))?;
+    show::mark(rt, b'p', is_plain_byte(b))?;
+    show::mark(rt, b't', is_text_byte(b))?;
+    show::mark(rt, b'd', is_digit(b))?;
+    show::mark(rt, b'i', is_identifier_byte(b))?;
+    show::mark(rt, b'b', is_blank(b))?;
+    show::mark(rt, b'N', passes(Class::Name, b))?;
+    show::text(rt, b"\n")
 }
 
-pub fn names(s: &[u8]) {
-    show::asked(b"is_name", s);
-    show::flag(is_name(s));
-    show::asked(b"is_key", s);
-    show::flag(is_key(s));
-    show::asked(b"is_plain", s);
-    show::flag(is_plain(s));
-    show::asked(b"run of digits", s);
-    show::count(run(s, 0, Class::Digit) as u64);
-    show::asked(b"between", s);
-    show::end(between(s, 0, b'\'', Class::Name, 1, MAX_KEY));
+pub fn names(rt: &impl Print, s: &[u8]) -> io::Result<()> {
+    show::asked(rt, b"is_name", s)?;
+    show::flag(rt, is_name(s))?;
+    show::asked(rt, b"is_key", s)?;
+    show::flag(rt, is_key(s))?;
+    show::asked(rt, b"is_plain", s)?;
+    show::flag(rt, is_plain(s))?;
+    show::asked(rt, b"run of digits", s)?;
+    show::count(rt, run(s, 0, Class::Digit) as u64)?;
+    show::asked(rt, b"between", s)?;
+    show::end(rt, between(s, 0, b'\'', Class::Name, 1, MAX_KEY))
 }
 
-pub fn numbers(s: &[u8]) {
-    show::asked(b"number to 256", s);
+pub fn numbers(rt: &impl Print, s: &[u8]) -> io::Result<()> {
+    show::asked(rt, b"number to 256", s)?;
     match number(s, 256) {
-        Natural::Is(n) => show::count(n),
-        Natural::Bad => show::bad(),
+        Natural::Is(n) => show::count(rt, n)?,
+        Natural::Bad => show::bad(rt)?,
     }
-    show::asked(b"number to 4294967295", s);
+    show::asked(rt, b"number to 4294967295", s)?;
     match number(s, 4294967295) {
-        Natural::Is(n) => show::count(n),
-        Natural::Bad => show::bad(),
+        Natural::Is(n) => show::count(rt, n),
+        Natural::Bad => show::bad(rt),
     }
 }
 
-fn pair(a: &[u8], b: &[u8]) {
-    show::asked_both(b"same", a, b);
-    show::flag(same(a, b));
-    show::asked_both(b"compare", a, b);
-    show::order(compare(a, b));
-    show::asked(b"starts", a);
-    show::asked(b"with", b);
-    show::flag(starts(a, 0, b));
+fn pair(rt: &impl Print, a: &[u8], b: &[u8]) -> io::Result<()> {
+    show::asked_both(rt, b"same", a, b)?;
+    show::flag(rt, same(a, b))?;
+    show::asked_both(rt, b"compare", a, b)?;
+    show::order(rt, compare(a, b))?;
+    show::asked(rt, b"starts", a)?;
+    show::asked(rt, b"with", b)?;
+    show::flag(rt, starts(a, 0, b))
 }
 
 // A value that is read, and written into a buffer that may be too short for it.
-pub fn value(s: &[u8]) {
+pub fn value(rt: &impl Print, s: &[u8]) -> io::Result<()> {
     if LONGEST < s.len() {
-        return;
+        return Ok(());
     }
-    show::asked(b"value_at", s);
+    show::asked(rt, b"value_at", s)?;
     let ValueAt::At(v, to) = value_at(s, 0) else {
-        show::bad();
-        return;
+        return show::bad(rt);
     };
-    show::count(to as u64);
+    show::count(rt, to as u64)?;
     let mut out = [b'.'; OUT];
     let n = put_value(&mut out, 0, v, s);
-    show::asked(b"put_value", s);
-    show::buffer(&out, n);
+    show::asked(rt, b"put_value", s)?;
+    show::buffer(rt, &out, n)
 }
 
-fn decimal(n: u32) {
+fn decimal(rt: &impl Print, n: u32) -> io::Result<()> {
     let mut out = [b'.'; OUT];
     let a = put_decimal(&mut out, 0, n as usize);
-    show::buffer(&out, a);
+    show::buffer(rt, &out, a)
 }
 
-fn writers(z: i32) {
+fn writers(rt: &impl Print, z: i32) -> io::Result<()> {
     let mut out = [b'.'; OUT];
     let b = put_whole(&mut out, 1, z);
-    show::buffer(&out, b);
+    show::buffer(rt, &out, b)?;
     let c = put_byte(&mut out, 11, b'!');
-    show::buffer(&out, c);
+    show::buffer(rt, &out, c)?;
     let d = put(&mut out, 10, b"over");
-    show::buffer(&out, d);
+    show::buffer(rt, &out, d)
 }
 
-fn classes() {
-    class_of(0x1F);
-    class_of(b' ');
-    class_of(b'"');
-    class_of(b'\'');
-    class_of(b';');
-    class_of(b'\\');
-    class_of(b'-');
-    class_of(b'_');
-    class_of(b'/');
-    class_of(b'0');
-    class_of(b'9');
-    class_of(b':');
-    class_of(b'A');
-    class_of(b'z');
-    class_of(b'~');
-    class_of(0x7F);
-    class_of(b'\t');
+fn classes(rt: &impl Print) -> io::Result<()> {
+    class_of(rt, 0x1F)?;
+    class_of(rt, b' ')?;
+    class_of(rt, b'"')?;
+    class_of(rt, b'\'')?;
+    class_of(rt, b';')?;
+    class_of(rt, b'\\')?;
+    class_of(rt, b'-')?;
+    class_of(rt, b'_')?;
+    class_of(rt, b'/')?;
+    class_of(rt, b'0')?;
+    class_of(rt, b'9')?;
+    class_of(rt, b':')?;
+    class_of(rt, b'A')?;
+    class_of(rt, b'z')?;
+    class_of(rt, b'~')?;
+    class_of(rt, 0x7F)?;
+    class_of(rt, b'\t')
 }
 
-fn pairs() {
+fn pairs(rt: &impl Print) -> io::Result<()> {
     let empty = b"";
     let ab = b"ab";
     let abc = b"abc";
-    pair(empty, empty);
-    pair(ab, abc);
-    pair(abc, ab);
-    pair(b"b", abc);
-    pair(abc, abc);
+    pair(rt, empty, empty)?;
+    pair(rt, ab, abc)?;
+    pair(rt, abc, ab)?;
+    pair(rt, b"b", abc)?;
+    pair(rt, abc, abc)
 }
 
-pub fn table() {
-    classes();
+pub fn table(rt: &impl Print) -> io::Result<()> {
+    classes(rt)?;
     each(
+        rt,
         Shown::Names,
         b"
 ann
@@ -145,8 +146,9 @@ br 50
 sixteen bytes ok
 seventeen bytes..
 ",
-    );
+    )?;
     each(
+        rt,
         Shown::Numbers,
         b"
 0
@@ -157,9 +159,10 @@ seventeen bytes..
 4294967296
 1x
 ",
-    );
-    pairs();
+    )?;
+    pairs(rt)?;
     each(
+        rt,
         Shown::Value,
         b"true
 false,
@@ -176,9 +179,9 @@ false,
 -2147483649
 null
 ",
-    );
-    decimal(0);
-    writers(-2147483648);
-    decimal(4294967295);
-    writers(2147483647);
+    )?;
+    decimal(rt, 0)?;
+    writers(rt, -2147483648)?;
+    decimal(rt, 4294967295)?;
+    writers(rt, 2147483647)
 }

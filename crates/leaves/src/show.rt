@@ -1,79 +1,74 @@
 // What came out, one answer to a line.
 use lexical::class::End;
 use lexical::slice::Order;
-use libc::STDOUT_FILENO;
+use std::io;
 
-pub fn text(s: &[u8]) {
-    io::write_all(STDOUT_FILENO, s);
+pub fn text(rt: &impl Print, s: &[u8]) -> io::Result<()> {
+    rt.write_all(s)
 }
 
-pub fn line(s: &[u8]) {
-    text(s);
-    text(b"\n");
+pub fn line(rt: &impl Print, s: &[u8]) -> io::Result<()> {
+    text(rt, s)?;
+    text(rt, b"\n")
 }
 
-pub fn bad() {
-    text(b"bad\n");
+pub fn bad(rt: &impl Print) -> io::Result<()> {
+    text(rt, b"bad\n")
 }
 
 // The function and what it was asked of.
-pub fn asked(function: &[u8], s: &[u8]) {
-    text(function);
-    text(b" ");
-    text(s);
-    text(b": ");
+pub fn asked(rt: &impl Print, function: &[u8], s: &[u8]) -> io::Result<()> {
+    text(rt, function)?;
+    text(rt, b" ")?;
+    text(rt, s)?;
+    text(rt, b": ")
 }
 
-pub fn asked_both(function: &[u8], a: &[u8], b: &[u8]) {
-    asked(function, a);
-    asked(b"and", b);
+pub fn asked_both(rt: &impl Print, function: &[u8], a: &[u8], b: &[u8]) -> io::Result<()> {
+    asked(rt, function, a)?;
+    asked(rt, b"and", b)
 }
 
-pub fn flag(is: bool) {
+pub fn flag(rt: &impl Print, is: bool) -> io::Result<()> {
     if is {
-        text(b"yes\n");
+        text(rt, b"yes\n")
     } else {
-        text(b"no\n");
+        text(rt, b"no\n")
     }
 }
 
-fn byte(b: u8) {
+fn byte(rt: &impl Print, b: u8) -> io::Result<()> {
     let one = [b];
-    text(&one);
+    text(rt, &one)
 }
 
 // The letter, or a dot in its place.
-pub fn mark(letter: u8, is: bool) {
-    if is {
-        byte(letter);
-    } else {
-        byte(b'.');
-    }
+pub fn mark(rt: &impl Print, letter: u8, is: bool) -> io::Result<()> {
+    if is { byte(rt, letter) } else { byte(rt, b'.') }
 }
 
-pub fn count(n: u64) {
-    io::print_decimal(STDOUT_FILENO, n);
-    text(b"\n");
+pub fn count(rt: &impl Print, n: u64) -> io::Result<()> {
+    println!(rt; "{n}")
 }
 
-pub fn end(e: End) {
+pub fn end(rt: &impl Print, e: End) -> io::Result<()> {
     match e {
-        End::At(at) => count(at as u64),
-        End::Bad => bad(),
+        End::At(at) => count(rt, at as u64),
+        End::Bad => bad(rt),
     }
 }
 
-pub fn order(o: Order) {
+pub fn order(rt: &impl Print, o: Order) -> io::Result<()> {
     match o {
-        Order::Less => text(b"less\n"),
-        Order::Equal => text(b"equal\n"),
-        Order::Greater => text(b"greater\n"),
+        Order::Less => text(rt, b"less\n"),
+        Order::Equal => text(rt, b"equal\n"),
+        Order::Greater => text(rt, b"greater\n"),
     }
 }
 
 // All of a buffer, and where the text ends.
-pub fn buffer(out: &[u8], to: usize) {
-    text(out);
-    text(b" ");
-    count(to as u64);
+pub fn buffer(rt: &impl Print, out: &[u8], to: usize) -> io::Result<()> {
+    text(rt, out)?;
+    text(rt, b" ")?;
+    count(rt, to as u64)
 }

@@ -9,6 +9,7 @@ use matching::conflict::{conflict, steps_of};
 use matching::path::{has_name, matches};
 use paths::field::{PATH, compare_paths, put_path, read_path};
 use paths::key::{key_at, push_key};
+use std::io;
 use steps::policy::{STEPS, kind_of, push_step, put_steps, read_steps};
 use steps::step::{BINDING, ENVIRONMENT, Kind, NAMES, Operator, Step, one_name, step_at};
 
@@ -18,22 +19,22 @@ const OUT: usize = 40;
 // Where the second of two environment lines has its value.
 const SECOND_VALUE: usize = BINDING + NAME_ROW;
 
-fn kind(k: Kind) {
+fn kind(rt: &impl Print, k: Kind) -> io::Result<()> {
     match k {
-        Kind::Names => show::text(b"names\n"),
-        Kind::Wildcard => show::text(b"wildcard\n"),
+        Kind::Names => show::text(rt, b"names\n"),
+        Kind::Wildcard => show::text(rt, b"wildcard\n"),
         Kind::Environment(operator) => match operator {
-            Operator::Equals => show::text(b"equals\n"),
-            Operator::In => show::text(b"in\n"),
+            Operator::Equals => show::text(rt, b"equals\n"),
+            Operator::In => show::text(rt, b"in\n"),
         },
     }
 }
 
 // A name in a row, which has no room for its last byte.
-fn name_in_row() {
+fn name_in_row(rt: &impl Print) -> io::Result<()> {
     let mut row = [0u8; NAME_ROW];
     put_name(&mut row, b"seventeen bytes..");
-    show::line(name(&row));
+    show::line(rt, name(&row))
 }
 
 fn two_names() -> [u8; NAMES] {
@@ -43,28 +44,28 @@ fn two_names() -> [u8; NAMES] {
     slot
 }
 
-fn names_in_slot(slot: &[u8; NAMES]) {
-    show::count(count(slot, MAX_LISTED) as u64);
-    show::line(key_at(slot, 1));
-    show::line(name_from(slot, 1, KEY_ROW));
-    show::flag(has_name(slot, b"bob"));
-    show::flag(has_name(slot, b"bo"));
+fn names_in_slot(rt: &impl Print, slot: &[u8; NAMES]) -> io::Result<()> {
+    show::count(rt, count(slot, MAX_LISTED) as u64)?;
+    show::line(rt, key_at(slot, 1))?;
+    show::line(rt, name_from(slot, 1, KEY_ROW))?;
+    show::flag(rt, has_name(slot, b"bob"))?;
+    show::flag(rt, has_name(slot, b"bo"))
 }
 
-fn names() {
-    name_in_row();
+fn names(rt: &impl Print) -> io::Result<()> {
+    name_in_row(rt)?;
     let slot = two_names();
-    names_in_slot(&slot);
+    names_in_slot(rt, &slot)?;
     let one = one_name(b"eve");
-    show::flag(has_name(&one, b"eve"));
+    show::flag(rt, has_name(&one, b"eve"))
 }
 
-fn kinds() {
-    kind(kind_of(0));
-    kind(kind_of(1));
-    kind(kind_of(2));
-    kind(kind_of(3));
-    kind(kind_of(4));
+fn kinds(rt: &impl Print) -> io::Result<()> {
+    kind(rt, kind_of(0))?;
+    kind(rt, kind_of(1))?;
+    kind(rt, kind_of(2))?;
+    kind(rt, kind_of(3))?;
+    kind(rt, kind_of(4))
 }
 
 // A path with one key more.
@@ -72,70 +73,67 @@ fn longer(slot: &mut [u8; PATH]) {
     push_key(slot, b"more", MAX_DEPTH);
 }
 
-fn path_text(slot: &[u8; PATH]) {
+fn path_text(rt: &impl Print, slot: &[u8; PATH]) -> io::Result<()> {
     let mut out = [b'.'; OUT];
     let to = put_path(&mut out, 0, slot);
-    show::buffer(&out, to);
+    show::buffer(rt, &out, to)
 }
 
-pub fn path(s: &[u8]) {
-    show::asked(b"read_path", s);
+pub fn path(rt: &impl Print, s: &[u8]) -> io::Result<()> {
+    show::asked(rt, b"read_path", s)?;
     let read = read_path(s);
     if !read.ok {
-        show::bad();
-        return;
+        return show::bad(rt);
     }
     let mut slot = read.slot;
-    path_text(&slot);
+    path_text(rt, &slot)?;
     longer(&mut slot);
-    path_text(&slot);
+    path_text(rt, &slot)
 }
 
-fn steps_text(slot: &[u8; STEPS]) {
+fn steps_text(rt: &impl Print, slot: &[u8; STEPS]) -> io::Result<()> {
     let mut out = [b'.'; OUT];
     let to = put_steps(&mut out, 0, slot);
-    show::buffer(&out, to);
-    show::count(count(slot, MAX_DEPTH) as u64);
+    show::buffer(rt, &out, to)?;
+    show::count(rt, count(slot, MAX_DEPTH) as u64)
 }
 
-pub fn policy(s: &[u8]) {
-    show::asked(b"read_steps", s);
+pub fn policy(rt: &impl Print, s: &[u8]) -> io::Result<()> {
+    show::asked(rt, b"read_steps", s)?;
     let read = read_steps(s);
     if !read.ok {
-        show::bad();
-        return;
+        return show::bad(rt);
     }
     let slot = read.slot;
-    steps_text(&slot);
+    steps_text(rt, &slot)
 }
 
-fn step_alone(found: Step) {
+fn step_alone(rt: &impl Print, found: Step) -> io::Result<()> {
     let mut slot = [0u8; STEPS];
     push_step(&mut slot, found);
-    steps_text(&slot);
+    steps_text(rt, &slot)
 }
 
-pub fn step(s: &[u8]) {
-    show::asked(b"step_at", s);
+pub fn step(rt: &impl Print, s: &[u8]) -> io::Result<()> {
+    show::asked(rt, b"step_at", s)?;
     let read = step_at(s, 0);
     if !read.ok {
-        show::bad();
-        return;
+        return show::bad(rt);
     }
-    show::count(read.to as u64);
+    show::count(rt, read.to as u64)?;
     let found = read.step;
-    step_alone(found);
+    step_alone(rt, found)
 }
 
-fn order(a: &[u8; PATH], b: &[u8; PATH]) {
-    show::order(compare_paths(a, b));
+fn order(rt: &impl Print, a: &[u8; PATH], b: &[u8; PATH]) -> io::Result<()> {
+    show::order(rt, compare_paths(a, b))
 }
 
-fn order_of(a: &[u8], b: &[u8]) {
-    show::asked_both(b"compare_paths", a, b);
+fn order_of(rt: &impl Print, a: &[u8], b: &[u8]) -> io::Result<()> {
+    show::asked_both(rt, b"compare_paths", a, b)?;
     let x = read_path(a).slot;
     let y = read_path(b).slot;
-    order(&x, &y);
+    order(rt, &x, &y)
 }
 
 // A user's two lines, n 29 and n 30: before each name and value stands how long it is.
@@ -148,74 +146,80 @@ fn two_lines() -> [u8; ENVIRONMENT] {
     lines
 }
 
-fn matched(lines: &[u8; ENVIRONMENT], steps: &[u8; STEPS], slot: &[u8; PATH]) {
-    show::flag(matches(lines, steps, slot));
+fn matched(
+    rt: &impl Print,
+    lines: &[u8; ENVIRONMENT],
+    steps: &[u8; STEPS],
+    slot: &[u8; PATH],
+) -> io::Result<()> {
+    show::flag(rt, matches(lines, steps, slot))
 }
 
-fn match_of(p: &[u8], k: &[u8]) {
-    show::asked_both(b"matches", p, k);
+fn match_of(rt: &impl Print, p: &[u8], k: &[u8]) -> io::Result<()> {
+    show::asked_both(rt, b"matches", p, k)?;
     let lines = two_lines();
     let steps = read_steps(p).slot;
     let slot = read_path(k).slot;
-    matched(&lines, &steps, &slot);
+    matched(rt, &lines, &steps, &slot)
 }
 
-fn conflicts(a: &[u8; STEPS], b: &[u8; STEPS]) {
-    show::flag(conflict(a, b));
+fn conflicts(rt: &impl Print, a: &[u8; STEPS], b: &[u8; STEPS]) -> io::Result<()> {
+    show::flag(rt, conflict(a, b))
 }
 
-fn conflicts_with_field(a: &[u8; STEPS], slot: &[u8; PATH]) {
+fn conflicts_with_field(rt: &impl Print, a: &[u8; STEPS], slot: &[u8; PATH]) -> io::Result<()> {
     let steps = steps_of(slot);
-    conflicts(a, &steps);
+    conflicts(rt, a, &steps)
 }
 
-fn conflict_of(p: &[u8], q: &[u8], k: &[u8]) {
-    show::asked_both(b"conflict", p, q);
+fn conflict_of(rt: &impl Print, p: &[u8], q: &[u8], k: &[u8]) -> io::Result<()> {
+    show::asked_both(rt, b"conflict", p, q)?;
     let a = read_steps(p).slot;
     let b = read_steps(q).slot;
-    conflicts(&a, &b);
-    show::asked(b"and the field", k);
+    conflicts(rt, &a, &b)?;
+    show::asked(rt, b"and the field", k)?;
     let slot = read_path(k).slot;
-    conflicts_with_field(&a, &slot);
+    conflicts_with_field(rt, &a, &slot)
 }
 
-fn orders() {
+fn orders(rt: &impl Print) -> io::Result<()> {
     let a = b"$['a']";
     let ab = b"$['a']['b']";
-    order_of(a, a);
-    order_of(a, ab);
-    order_of(ab, a);
-    order_of(b"$['a']['c']", b"$['ab']['b']");
+    order_of(rt, a, a)?;
+    order_of(rt, a, ab)?;
+    order_of(rt, ab, a)?;
+    order_of(rt, b"$['a']['c']", b"$['ab']['b']")
 }
 
-fn matches_by_environment() {
+fn matches_by_environment(rt: &impl Print) -> io::Result<()> {
     let first = b"$['29']['speed']";
     let second = b"$['30']['speed']";
     let equals = b"$[=~n].speed";
-    match_of(b"$.*.speed", first);
-    match_of(equals, first);
-    match_of(equals, second);
-    match_of(b"$[in~n].speed", second);
+    match_of(rt, b"$.*.speed", first)?;
+    match_of(rt, equals, first)?;
+    match_of(rt, equals, second)?;
+    match_of(rt, b"$[in~n].speed", second)
 }
 
-fn matches_by_names() {
-    match_of(b"$['29','31'].speed", b"$['31']['speed']");
-    match_of(b"$.*", b"$['29']['speed']");
+fn matches_by_names(rt: &impl Print) -> io::Result<()> {
+    match_of(rt, b"$['29','31'].speed", b"$['31']['speed']")?;
+    match_of(rt, b"$.*", b"$['29']['speed']")
 }
 
-fn conflicts_by_length() {
-    conflict_of(b"$.a.b", b"$.a", b"$['a']");
-    conflict_of(b"$.a.b", b"$.c", b"$['a']['b']");
+fn conflicts_by_length(rt: &impl Print) -> io::Result<()> {
+    conflict_of(rt, b"$.a.b", b"$.a", b"$['a']")?;
+    conflict_of(rt, b"$.a.b", b"$.c", b"$['a']['b']")
 }
 
-fn conflicts_by_steps() {
-    conflict_of(b"$['x','a'].b", b"$['a','y']", b"$['a']['b']['c']");
-    conflict_of(b"$[=~loco].b", b"$.a", b"$['z']");
+fn conflicts_by_steps(rt: &impl Print) -> io::Result<()> {
+    conflict_of(rt, b"$['x','a'].b", b"$['a','y']", b"$['a']['b']['c']")?;
+    conflict_of(rt, b"$[=~loco].b", b"$.a", b"$['z']")
 }
 
 // At most six steps, and at most 121 bytes in the standard spelling.
-fn long_policies() {
+fn long_policies(rt: &impl Print) -> io::Result<()> {
     each(
+        rt,
         Shown::Policy,
         b"$.a.b.c.d.e.f
 $.a.b.c.d.e.f.g
@@ -223,13 +227,14 @@ $['sixteen bytes ok','sixteen bytes ok','sixteen bytes ok','sixteen bytes ok']['
 $['sixteen bytes ok','sixteen bytes ok','sixteen bytes ok','sixteen bytes ok'].sixteen_bytes_ok.fourteen_bytes.x
 $['sixteen bytes ok','sixteen bytes ok','sixteen bytes ok','sixteen bytes ok'].sixteen_bytes_ok.fourteen_bytes.xy
 ",
-    );
+    )
 }
 
-pub fn table() {
-    names();
-    kinds();
+pub fn table(rt: &impl Print) -> io::Result<()> {
+    names(rt)?;
+    kinds(rt)?;
     each(
+        rt,
         Shown::Path,
         b"$['a']
 $['sixteen bytes ok']['b']
@@ -242,8 +247,9 @@ $.a
 $[\"a\"]
 $['a']\x20
 ",
-    );
+    )?;
     each(
+        rt,
         Shown::Policy,
         b"$.a
 $.29
@@ -258,9 +264,10 @@ $[=~loco].speed
 $[in~loco]
 $[=~lo co]
 ",
-    );
-    long_policies();
+    )?;
+    long_policies(rt)?;
     each(
+        rt,
         Shown::Step,
         b".name['x']
 .seventeen_bytes__
@@ -269,10 +276,10 @@ $[=~lo co]
 [in~loco]
 ['a' ]
 ",
-    );
-    orders();
-    matches_by_environment();
-    matches_by_names();
-    conflicts_by_length();
-    conflicts_by_steps();
+    )?;
+    orders(rt)?;
+    matches_by_environment(rt)?;
+    matches_by_names(rt)?;
+    conflicts_by_length(rt)?;
+    conflicts_by_steps(rt)
 }

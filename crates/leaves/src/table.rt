@@ -1,5 +1,6 @@
 // Tables of inputs, one to a line, each handed to the function that shows what comes of it.
 use crate::{scalars, slots};
+use std::io;
 
 #[derive(Clone, Copy)]
 pub enum Shown {
@@ -11,25 +12,26 @@ pub enum Shown {
     Step,
 }
 
-fn one(shown: Shown, s: &[u8]) {
+fn one(rt: &impl Print, shown: Shown, s: &[u8]) -> io::Result<()> {
     match shown {
-        Shown::Names => scalars::names(s),
-        Shown::Numbers => scalars::numbers(s),
-        Shown::Value => scalars::value(s),
-        Shown::Path => slots::path(s),
-        Shown::Policy => slots::policy(s),
-        Shown::Step => slots::step(s),
+        Shown::Names => scalars::names(rt, s),
+        Shown::Numbers => scalars::numbers(rt, s),
+        Shown::Value => scalars::value(rt, s),
+        Shown::Path => slots::path(rt, s),
+        Shown::Policy => slots::policy(rt, s),
+        Shown::Step => slots::step(rt, s),
     }
 }
 
-pub fn each(shown: Shown, table: &[u8]) {
+pub fn each(rt: &impl Print, shown: Shown, table: &[u8]) -> io::Result<()> {
     let mut from = 0;
     let mut i = 0;
     while i < table.len() {
         if table[i] == b'\n' {
-            one(shown, &table[from..i]);
+            one(rt, shown, &table[from..i])?;
             from = i + 1;
         }
         i += 1;
     }
+    Ok(())
 }

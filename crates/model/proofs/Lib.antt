@@ -1,4 +1,4 @@
--- Laws first, then what every run has, then the claims.
+-- Laws first, then what every run has, then the claims and the worked cases.
 pub mod Lists
 pub mod Order
 pub mod Valid
@@ -23,3 +23,4 @@ pub mod Sound
 pub mod Notified
 pub mod Printing
 pub mod Theorems
+pub mod CasesHold

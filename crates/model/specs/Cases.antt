@@ -1,16 +1,13 @@
--- Document 01's worked cases, and some of document 02's requests, by computation from the definitions alone.
-use Rattle.std.specs.Prelude.{ℕ, ◌≡◌, refl, List, [], ◌∷◌, ◌++◌, map, Bool, true, false, ◌&&◌, eqb, set, replicate, pos}
+-- Document 01's worked cases, and some of document 02's requests, as texts, runs and answers; proofs/CasesHold proves what is said of them.
+use Rattle.std.specs.Prelude.{ℕ, List, [], ◌∷◌, ◌++◌, map, Bool, true, false, ◌&&◌, eqb, set, replicate}
 use Prim.Native.String.{String}
-use Rattle.model.specs.Base.{Bytes, text, all, ◌==◌}
+use Rattle.model.specs.Base.{Bytes, text, ◌==◌}
 use Rattle.model.specs.Limits.{list_room}
-use Rattle.model.specs.Values.{whole}
 use Rattle.model.specs.Fields.{order_key, by_order}
 use Rattle.model.specs.Refusals.{Result, refused, done}
 use Rattle.model.specs.Opening.{State, initial, Texts, Fault, opened, after_opening}
-use Rattle.model.specs.Serving.{index_in, count_in, Act, line, save, Answer, refusal, session, length_is, accepted, outcome}
-use Rattle.model.specs.Runs.{end, events, only, sequence, own, others, got, answer, copy, delivery}
-use Rattle.model.specs.Program.{serve}
-use Rattle.model.specs.Program
+use Rattle.model.specs.Serving.{Act, line, save, Answer, refusal, session, length_is, accepted, outcome}
+use Rattle.model.specs.Runs.{end}
 
 -- lines, each ended by 0A
 unfoldable pub rows : List String → Bytes
@@ -38,7 +35,7 @@ club_texts = record {
   record_text = rows ("{\"e7\":{\"name\":\"Tank 7\",\"cv\":{\"1\":3,\"29\":6},\"note\":\"shelf B\"},\"e9\":{\"name\":\"Mail\",\"cv\":{\"1\":12}}}" ∷ []);
 }
 
-club_input : List String
+unfoldable pub club_input : List String
 club_input =
     "LOGIN;bob;k2" ∷
     "LOGIN;ann;k1" ∷
@@ -47,7 +44,7 @@ club_input =
     "PUSH;65537;$['e7']['cv']['1'];4" ∷
     "GET;65537" ∷ []
 
-bobs_copy : List String
+unfoldable pub bobs_copy : List String
 bobs_copy =
     "role;access;path" ∷
     "driver;READ;$[*]['name']" ∷
@@ -55,7 +52,7 @@ bobs_copy =
     "name;value" ∷
     "{\"e7\":{\"cv\":{\"1\":3,\"29\":38},\"name\":\"Tank 7\"},\"e9\":{\"cv\":{\"1\":12},\"name\":\"Mail\"}}" ∷ []
 
-club_output : List String
+unfoldable pub club_output : List String
 club_output =
     "OK;65537" ∷
     "OK;1" ∷
@@ -65,13 +62,9 @@ club_output =
     "NO;16" ∷
     "OK;167" ∷ []
 
-afternoon : serve club_texts (rows club_input) ≡ rows (club_output ++ bobs_copy)
-unfolding Program.Opened rows club_texts club_input club_output bobs_copy
-afternoon = refl
-
 -- ── "Wrong programs that look sound" ──
 -- a guest who may read one path, and a record
-guest_texts : String → String → Texts
+unfoldable pub guest_texts : String → String → Texts
 unfolding rows
 guest_texts path record-text = record {
   users_text = rows ("user;role;key;allowance" ∷ "dee;guest;k;0" ∷ []);
@@ -80,24 +73,12 @@ guest_texts path record-text = record {
   record_text = text record-text;
 }
 
-guest_input : Bytes
+unfoldable pub guest_input : Bytes
 unfolding rows
 guest_input = rows ("LOGIN;dee;k" ∷ "GET;1" ∷ [])
 
--- "A policy path that runs past a value and still matches"
-past_value : serve (guest_texts "$.*.b" "{\"a\":0,\"r\":{\"b\":true}}") guest_input ≡
-    rows ("OK;1" ∷ "OK;66" ∷ "role;access;path" ∷ "guest;READ;$[*]['b']" ∷ "name;value" ∷ "{\"r\":{\"b\":true}}" ∷ [])
-unfolding Program.Opened rows guest_texts guest_input
-past_value = refl
-
--- "A right to an object taken as a right to what is in it"
-inside_object : serve (guest_texts "$.r" "{\"a\":0,\"r\":{\"b\":true}}") guest_input ≡
-    rows ("OK;1" ∷ "OK;49" ∷ "role;access;path" ∷ "guest;READ;$['r']" ∷ "name;value" ∷ "{}" ∷ [])
-unfolding Program.Opened rows guest_texts guest_input
-inside_object = refl
-
 -- ── P1 to P10, and the further cases: entries of a list, with one claim covering it ──
-data Case : Type 0 where
+pub data Case : Type 0 where
   -- after these lines, on the tables above, this line has this answer; the number is the buffer's length
   replies : List String → String → ℕ → Answer → Case
   -- the first key sorts before the second
@@ -123,7 +104,7 @@ is_fault : ℕ → ℕ → Result Fault State → Bool
 is_fault n l (refused f) = eqb f.number n && eqb f.in_text 3 && eqb f.line l
 is_fault n l (done s) = false
 
-passes : Case → Bool
+unfoldable pub passes : Case → Bool
 unfolding numbers asked club_state is_fault rows club_texts
 passes (replies earlier s room a) = numbers (outcome (end club_state (map (asked room) earlier)) (asked room s)).answer == numbers a
 passes (sorts a b) = by_order (order_key (text a) (text b)) true false false
@@ -134,7 +115,7 @@ passes (refuses ls n l) = is_fault n l (opened (record {
   record_text = club_texts.record_text;
 }))
 
-cases : List Case
+unfoldable pub cases : List Case
 cases =
     replies [] "LOGIN;bob;k1" 0 (refusal 12) ∷  -- P1
     replies [] "LOGIN;cy;k3" 0 (session 131073) ∷  -- P2
@@ -148,11 +129,7 @@ cases =
     refuses ("driver;READ;$.29" ∷ []) 3 2 ∷  -- P10
     []
 
-cases_hold : all passes cases ≡ true
-unfolding Program.Opened cases passes
-cases_hold = refl
-
-further_cases : List Case
+unfoldable pub further_cases : List Case
 unfolding club_input
 further_cases =
     -- "Ann's fifth new field is refused 17, her fourth accepted"
@@ -165,13 +142,9 @@ further_cases =
     replies [] "LOGIN;dee;k1" 0 (refusal 12) ∷
     []
 
-further_hold : all passes further_cases ≡ true
-unfolding Program.Opened further_cases passes
-further_hold = refl
-
 -- ── 02, 1: LOGOUT ──
 -- with bob a repairer too, who may write what ann reads
-workshop_texts : Texts
+unfoldable pub workshop_texts : Texts
 unfolding rows club_texts
 workshop_texts = record {
   users_text = rows (
@@ -183,43 +156,8 @@ workshop_texts = record {
   record_text = club_texts.record_text;
 }
 
--- ann logs in, out and in again; while she is out nothing reaches her, and her old number stays closed; what she created stays counted
-handed_on : serve workshop_texts (rows (
-    "LOGIN;ann;k1" ∷
-    "LOGIN;bob;k2" ∷
-    "PUSH;1;$['e9']['cv']['3'];10" ∷
-    "LOGOUT;1" ∷
-    "GET;1" ∷
-    "PUSH;65537;$['e7']['cv']['29'];38" ∷
-    "LOGIN;ann;k1" ∷
-    "GET;1" ∷
-    "PUSH;1;$['e7']['cv']['29'];39" ∷
-    "LOGOUT;1" ∷
-    "PUSH;65537;$['e7']['cv']['29'];40" ∷
-    "PUSH;2;$['e9']['cv']['4'];10" ∷
-    "LOGOUT;2;" ∷
-    "LOGOUT;3" ∷
-    "LOGOUT;131073" ∷ [])) ≡ rows (
-    "OK;1" ∷
-    "OK;65537" ∷
-    "OK" ∷ "TO;65537;$['e9']['cv']['3'];10" ∷
-    "OK" ∷
-    "NO;14" ∷
-    "OK" ∷
-    "OK;2" ∷
-    "NO;14" ∷
-    "NO;14" ∷
-    "NO;14" ∷
-    "OK" ∷ "TO;2;$['e7']['cv']['29'];40" ∷
-    "NO;17" ∷
-    "NO;11" ∷
-    "NO;14" ∷
-    "NO;14" ∷ [])
-unfolding Program.Opened rows club_texts workshop_texts
-handed_on = refl
-
 -- cy has had all logins but one
-almost_all : State
+unfoldable pub almost_all : State
 unfolding club_state
 almost_all = record {
   tables = club_state.tables;
@@ -227,76 +165,15 @@ almost_all = record {
   fields = club_state.fields;
 }
 
--- "LOGIN gives 18, last, when the user has had 65,535 logins"
-last_login : map (λ e. e.result.answer) (events almost_all (map (asked 0) (
-    "LOGIN;cy;k3" ∷
-    "LOGIN;cy;k3" ∷
-    "LOGOUT;196607" ∷
-    "LOGIN;cy;k1" ∷
-    "LOGIN;cy;k3" ∷ []))) ≡ session 196607 ∷ refusal 13 ∷ accepted ∷ refusal 12 ∷ refusal 18 ∷ []
-unfolding Program.Opened asked almost_all
-last_login = refl
-
--- the place and the count of a number (02, 3): the first and the last of a place, the first of the next, ann's, the last of the last place, the one behind it, and the last
--- that a line may carry
-numbers_divide : map {B = ℕ × ℕ} (λ n. (index_in n, count_in n)) (0 ∷ 65535 ∷ 65536 ∷ 1 ∷ 2097151 ∷ 2097152 ∷ 4294967295 ∷ []) ≡
-    (0, 0) ∷ (0, 65535) ∷ (1, 0) ∷ (0, 1) ∷ (31, 65535) ∷ (32, 0) ∷ (65535, 65535) ∷ []
-unfolding Program.Opened
-numbers_divide = refl
-
--- ann's number is open; those of her place with another count and those of another place with her count are not, though 2,097,153 is hers by a place taken modulo 32; nor is
--- the last that a line may carry, and the one behind it is no number
-only_hers : map (λ e. e.result.answer) (events club_state (map (asked 0) (
-    "LOGIN;ann;k1" ∷
-    "LOGOUT;0" ∷
-    "LOGOUT;2" ∷
-    "LOGOUT;32769" ∷
-    "LOGOUT;65537" ∷
-    "LOGOUT;2097153" ∷
-    "LOGOUT;4294901761" ∷
-    "LOGOUT;4294967295" ∷
-    "LOGOUT;4294967296" ∷
-    "LOGOUT;1" ∷ []))) ≡
-    session 1 ∷ refusal 14 ∷ refusal 14 ∷ refusal 14 ∷ refusal 14 ∷ refusal 14 ∷ refusal 14 ∷ refusal 14 ∷ refusal 11 ∷ accepted ∷ []
-unfolding Program.Opened asked club_state
-only_hers = refl
-
 -- LOGOUT is bob's own request, with no length lent; that ann leaves is none of his
-leaving_acts : List Act
+unfoldable pub leaving_acts : List Act
 unfolding asked
 leaving_acts = map (asked 200) ("LOGIN;bob;k2" ∷ "LOGIN;ann;k1" ∷ "LOGOUT;1" ∷ "LOGOUT;65537" ∷ "LOGOUT;65537" ∷ "LOGIN;bob;k2" ∷ [])
 
-bob_leaves : sequence (only 1) (events club_state leaving_acts) ≡
-    own (text "LOGIN;bob;k2") 0 ∷ own (text "LOGOUT;65537") 0 ∷ own (text "LOGOUT;65537") 0 ∷ own (text "LOGIN;bob;k2") 0 ∷ []
-unfolding Program.Opened club_state leaving_acts
-bob_leaves = refl
-
-bob_is_answered : got (only 1) (events club_state leaving_acts) ≡
-    answer 1 (session 65537) ∷ answer 1 accepted ∷ answer 1 (refusal 14) ∷ answer 1 (session 65538) ∷ []
-unfolding Program.Opened club_state leaving_acts
-bob_is_answered = refl
-
 -- ── What bob sends and gets in the afternoon ──
-club_acts : List Act
+unfoldable pub club_acts : List Act
 unfolding asked club_input
 club_acts = map (asked 200) club_input
-
-bobs_sequence : sequence (only 1) (events club_state club_acts) ≡
-    own (text "LOGIN;bob;k2") 0 ∷
-    others (text "e7" ∷ text "cv" ∷ text "29" ∷ []) (whole (pos 38)) ∷
-    own (text "PUSH;65537;$['e7']['cv']['1'];4") 32 ∷
-    own (text "GET;65537") 200 ∷ []
-unfolding Program.Opened club_state club_acts
-bobs_sequence = refl
-
-bob_gets : got (only 1) (events club_state club_acts) ≡
-    answer 1 (session 65537) ∷
-    delivery 1 (text "TO;65537;$['e7']['cv']['29'];38") ∷
-    answer 1 (refusal 16) ∷
-    answer 1 (length_is 167) ∷
-    copy 1 (rows bobs_copy) ∷ []
-unfolding Program.Opened club_state club_acts rows bobs_copy
-bob_gets = refl
 
 -- ── Another run that bob cannot tell from it: another note and one field more at the start, other acts of the others ──
 other_texts : Texts
@@ -308,11 +185,11 @@ other_texts = record {
   record_text = rows ("{\"e9\":{\"cv\":{\"1\":12,\"8\":8},\"name\":\"Mail\"},\"e7\":{\"name\":\"Tank 7\",\"cv\":{\"29\":6,\"1\":3},\"note\":\"sold\"}}" ∷ []);
 }
 
-other_state : State
+unfoldable pub other_state : State
 unfolding other_texts
 other_state = after_opening initial other_texts
 
-other_acts : List Act
+unfoldable pub other_acts : List Act
 unfolding asked
 other_acts = map (asked 200) (
     "GET;1" ∷
@@ -325,20 +202,3 @@ other_acts = map (asked 200) (
     "PUSH;1;$['e7']['cv']['30'];0" ∷
     "PUSH;65537;$['e7']['cv']['1'];4" ∷ []) ++
     save [] ∷ line (text "GET;65537") (replicate 200 1) [] ∷ []
-
-bobs_sequence_too : sequence (only 1) (events other_state other_acts) ≡
-    own (text "LOGIN;bob;k2") 0 ∷
-    others (text "e7" ∷ text "cv" ∷ text "29" ∷ []) (whole (pos 38)) ∷
-    own (text "PUSH;65537;$['e7']['cv']['1'];4") 32 ∷
-    own (text "GET;65537") 200 ∷ []
-unfolding Program.Opened other_state other_acts
-bobs_sequence_too = refl
-
-bob_gets_too : got (only 1) (events other_state other_acts) ≡
-    answer 1 (session 65537) ∷
-    delivery 1 (text "TO;65537;$['e7']['cv']['29'];38") ∷
-    answer 1 (refusal 16) ∷
-    answer 1 (length_is 167) ∷
-    copy 1 (rows bobs_copy) ∷ []
-unfolding Program.Opened other_state other_acts rows bobs_copy
-bob_gets_too = refl

@@ -1,10 +1,11 @@
 // Requests from standard input: each line is answered before more input is waited for.
-ghost use Rattle.std.specs.Prelude.{◌≡◌, ◌+◌, ◌-◌, ◌≤◌, min, length, take, drop};
+ghost use Rattle.std.specs.Prelude.{◌≡◌, ◌+◌, ◌-◌, ◌≤◌, min, length, take, drop, IfOk};
 
 use lexical::slice::until;
-use libc::{STDIN_FILENO, STDOUT_FILENO};
 use printing::{COPY, LIST, respond};
 use server::open::{LOGINS, RECORD, TABLES};
+use std::io;
+use std::io::Read;
 
 // What is read at once.
 const INPUT: usize = 65536;
@@ -17,6 +18,7 @@ const LINE: usize = 257;
 
 // Answers the lines that end in the input, and says where the rest begins.
 fn answer_lines(
+    rt: &impl Print,
     tables: &[u8; TABLES],
     logins: &mut [u16; LOGINS],
     fields: &mut [u8; RECORD],
@@ -24,17 +26,17 @@ fn answer_lines(
     list: &mut [u32; LIST],
     input: &[u8],
     out: &mut [u8],
-) -> usize
+) -> io::Result<usize>
     requires { (length out.old ≡ 131072) × (length input.now ≤ 65536) }
-    ensures { result ≤ length input.now }
+    ensures { IfOk result (λ rest. rest ≤ length input.now) }
 {
     let mut at: usize = 0;
     let mut filled: usize = 0;
     loop {
         let end = until(input, at, b'\n');
         if end == input.len() {
-            io::write_all(STDOUT_FILENO, &out[..filled]);
-            return at;
+            rt.write_all(&out[..filled])?;
+            return Ok(at);
         }
         filled += respond(
             tables,
@@ -46,7 +48,7 @@ fn answer_lines(
             &mut out[filled..],
         );
         if 65536 < filled {
-            io::write_all(STDOUT_FILENO, &out[..filled]);
+            rt.write_all(&out[..filled])?;
             filled = 0;
         }
         at = end + 1;
@@ -68,17 +70,21 @@ fn keep_line(input: &mut [u8], from: usize, to: usize) -> usize
 }
 
 // More input behind the bytes held; how many bytes came, 0 at the end.
-fn read_more(input: &mut [u8], held: usize) -> usize
+fn read_more(reader: &mut impl Read, input: &mut [u8], held: usize) -> io::Result<usize>
     requires { held ≤ length input.old }
-    ensures { held + result ≤ length input.new }
+    ensures { IfOk result (λ more. held + more ≤ length input.new) }
 {
-    let room = &mut input[held..];
-    let got = libc::read(STDIN_FILENO, room);
-    io::count(got, room)
+    reader.read(&mut input[held..])
 }
 
 // Answers every line; the last may lack its 0A. The turns are counted, since a loop has to end: no input uses them up.
-pub fn answer_all(tables: &[u8; TABLES], logins: &mut [u16; LOGINS], fields: &mut [u8; RECORD]) {
+pub fn answer_all(
+    rt: &(impl Input + Print),
+    tables: &[u8; TABLES],
+    logins: &mut [u16; LOGINS],
+    fields: &mut [u8; RECORD],
+) -> io::Result<()> {
+    let mut reader = rt.reader();
     let mut buffer = [0u8; COPY];
     let mut list = [0u32; LIST];
     let mut input = [0u8; INPUT];
@@ -86,12 +92,13 @@ pub fn answer_all(tables: &[u8; TABLES], logins: &mut [u16; LOGINS], fields: &mu
     let mut held: usize = 0;
     let mut turns = u64::MAX;
     while 0 < turns {
-        let more = read_more(&mut input, held);
+        let more = read_more(&mut reader, &mut input, held)?;
         if more == 0 {
             break;
         }
         let filled = held + more;
         let rest = answer_lines(
+            rt,
             tables,
             logins,
             fields,
@@ -99,7 +106,7 @@ pub fn answer_all(tables: &[u8; TABLES], logins: &mut [u16; LOGINS], fields: &mu
             &mut list,
             &input[..filled],
             &mut out,
-        );
+        )?;
         held = keep_line(&mut input, rest, filled);
         turns -= 1;
     }
@@ -113,6 +120,7 @@ pub fn answer_all(tables: &[u8; TABLES], logins: &mut [u16; LOGINS], fields: &mu
             &mut list,
             &mut out,
         );
-        io::write_all(STDOUT_FILENO, &out[..n]);
+        rt.write_all(&out[..n])?;
     }
+    Ok(())
 }

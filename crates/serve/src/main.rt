@@ -6,26 +6,26 @@ mod input;
 
 use crate::files::{TEXT, read_file};
 use crate::input::answer_all;
-use libc::STDOUT_FILENO;
 use opening::answer::Opening;
 use printing::put_opening;
 use server::open::{LOGINS, RECORD, TABLES, open};
+use std::io;
 
-fn print_opening(opened: Opening) {
+fn print_opening(rt: &impl Print, opened: Opening) -> io::Result<()> {
     let mut out = [0u8; 66];
     let n = put_opening(&mut out, opened);
-    io::write_all(STDOUT_FILENO, &out[..n]);
+    rt.write_all(&out[..n])
 }
 
-fn main() {
+fn main(rt: HostRuntime) -> io::Result<()> {
     let mut users = [0u8; TEXT];
     let mut environments = [0u8; TEXT];
     let mut policy = [0u8; TEXT];
     let mut text = [0u8; TEXT];
-    let u = read_file(b"users.txt", &mut users);
-    let e = read_file(b"environments.txt", &mut environments);
-    let p = read_file(b"policy.txt", &mut policy);
-    let t = read_file(b"record.json", &mut text);
+    let u = read_file(&rt, "users.txt", &mut users);
+    let e = read_file(&rt, "environments.txt", &mut environments);
+    let p = read_file(&rt, "policy.txt", &mut policy);
+    let t = read_file(&rt, "record.json", &mut text);
     let mut tables = [0u8; TABLES];
     let mut logins = [0u16; LOGINS];
     let mut fields = [0u8; RECORD];
@@ -39,8 +39,7 @@ fn main() {
         &text[..t],
     );
     let Opening::Done = opened else {
-        print_opening(opened);
-        return;
+        return print_opening(&rt, opened);
     };
-    answer_all(&tables, &mut logins, &mut fields);
+    answer_all(&rt, &tables, &mut logins, &mut fields)
 }

@@ -1,31 +1,27 @@
--- Serving by the masks on document 01's example, by computation from the definitions alone (document 02, request 2).
+-- Serving by the masks on document 01's example (document 02, request 2), as states, pushes and copies; proofs/MaskedCasesHold proves what is said of them.
 -- The places: ann 0, bob 1, cy 2, so their bits count 1, 2 and 4. The fields in their order: e7 cv 1, e7 cv 29, e7 name, e7 note, e9 cv 1, e9 name.
-use Rattle.std.specs.Prelude.{ℕ, ◌≡◌, refl, List, [], ◌∷◌, map, Bool, true, ◌&&◌, take, replicate}
+use Rattle.std.specs.Prelude.{ℕ, List, [], ◌∷◌, map, Bool, ◌&&◌, take, replicate}
 use Prim.Native.String.{String}
-use Rattle.model.specs.Base.{all, ◌==◌}
+use Rattle.model.specs.Base.{◌==◌}
 use Rattle.model.specs.Opening.{State}
 use Rattle.model.specs.Serving.{over}
 use Rattle.model.specs.Runs.{end}
 use Rattle.model.specs.Runs
 use Rattle.model.specs.Cases.{rows, club_texts, asked, club_state}
 use Rattle.masks.specs.Bits.{bit_at, mask_of}
-use Rattle.masks.specs.Readers.{readers_of, policy_masks}
+use Rattle.masks.specs.Readers.{readers_of}
 use Rattle.record.specs.Search.{place_in, stored_masks}
 use Rattle.deliveries.specs.Receivers.{receives, receivers_of}
 use Rattle.server.specs.Masked.{shown_to, decide_get_masked, decide_masked, decide_line_masked, decision_masked, mask_at, mask_for, notified_masked, conclude_masked, masks_after, effect_of, effect_by_masks}
 
 -- every definition that serving by the masks needs, at once
-Opened : Unit {0}
+unfoldable pub Opened : Unit {0}
 unfolding Runs.Opened rows club_texts asked club_state bit_at mask_of readers_of place_in stored_masks receives receivers_of shown_to decide_get_masked decide_masked decide_line_masked decision_masked mask_at mask_for notified_masked conclude_masked masks_after effect_of effect_by_masks
 Opened = tt
 
 -- the masks that the policy gives: names are for everybody, the note for cy, the rest for ann and bob
-given : List ℕ
+unfoldable pub given : List ℕ
 given = 3 ∷ 3 ∷ 7 ∷ 4 ∷ 3 ∷ 7 ∷ []
-
-policy_gives : policy_masks club_state.tables club_state.fields ≡ given
-unfolding Opened given
-policy_gives = refl
 
 -- others: a mask beside e7 cv 29, and one beside e7 note
 masks : ℕ → ℕ → List ℕ
@@ -39,13 +35,13 @@ all_in = end club_state (map (asked 0) ("LOGIN;ann;k1" ∷ "LOGIN;bob;k2" ∷ "L
 bob_out : State
 bob_out = end all_in (map (asked 0) ("LOGOUT;65537" ∷ []))
 
-data Case : Type 0 where
+pub data Case : Type 0 where
   -- by these masks this push reaches these sessions, and leaves these masks
   pushes : State → List ℕ → String → List ℕ → List ℕ → Case
   -- by these masks bob's copy has these fields
   copies : List ℕ → String → Case
 
-passes : Case → Bool
+unfoldable pub passes : Case → Bool
 unfolding all_in
 passes (pushes s ms l reached left) =
     let e = effect_by_masks s ms (asked 0 l) in
@@ -55,7 +51,7 @@ passes (copies ms fields) = (effect_by_masks all_in ms (asked 200 "GET;65537")).
     (rows ("role;access;path" ∷ "driver;READ;$[*]['name']" ∷ "driver;READ;$[*]['cv']['1','29']" ∷ "name;value" ∷ fields ∷ []))
     (replicate 200 0)
 
-cases : List Case
+unfoldable pub cases : List Case
 unfolding given masks all_in bob_out
 cases =
     -- a new field gets the mask that the policy gives, at its place, and the others move along
@@ -77,7 +73,3 @@ cases =
     -- and where it stands beside the note alone, which the policy hides from him
     copies (masks 5 2) "{\"e7\":{\"note\":\"shelf B\"}}" ∷
     []
-
-cases_hold : all passes cases ≡ true
-unfolding Opened cases passes
-cases_hold = refl

@@ -12,7 +12,7 @@ use crate::timing::{Contest, Round};
 
 /// Where the proved program is built, seen from the top of the repository, and
 /// what the second one is called, which lies beside this program.
-const SERVE: &str = "target/bin/serve";
+const SERVE: &str = "crates/serve/out/serve";
 const SECOND: &str = "second-serve";
 
 /// The files that a program opens, in the order of a hall's texts.

@@ -1,12 +1,10 @@
 use Prim.Native.Nat.{◌-◌}
 use mathlib.Core.Path.{sym, ◌∙◌}
-use mathlib.Core.Logic.{⊎_elim}
 use borrow.Author.Rules.{rules}
 use native.Mathlib.Omega.{arith}
 use Rattle.model.specs.Base.{number}
 use Rattle.model.proofs.Reading.{digit-bounds}
 use Rattle.lexical.proofs.Decimals.{number-empty, number-padded, number-plain, counted_step, counted_stop, counted-end, counted-past}
-use Rattle.lexical.proofs.number.number.Goals.{then-s-eq48+else-s-gt1, else-s-eq48}
 use Rattle.lexical.proofs.number.number.Goals as goal
 
 -- A text that is not empty and has no zero in front is what its digits spell; each turn leaves the digits that follow, with the number so far.
@@ -15,7 +13,7 @@ pub returns-then-s-eq0 : goal.returns-then-s-eq0
 returns-then-s-eq0 c = sym (number-empty _ _ c.if-s-eq0.true)
 
 pub returns-then-s-gt1 : goal.returns-then-s-gt1
-returns-then-s-gt1 c = sym (number-padded _ _ c.if-s-eq48.true c.if-s-gt1.true)
+returns-then-s-gt1 c = sym (number-padded _ _ (search rules) c.if-s-gt1.true)
 
 pub overflow_sub-n : goal.overflow_sub-n
 overflow_sub-n c = (digit-bounds _ (sym c.is_digit.ensures ∙ c.if-is_digit.true)).0
@@ -46,4 +44,4 @@ returns c = let l = c.loop-i in sym (l.invariant.2 ∙ counted-end _ _ _ l.i (se
 
 pub loop-i-init : goal.loop-i-init
 loop-i-init c =
-    (search rules, search rules, number-plain _ _ (omega arith) (λ e. elim c.if-s-eq48.branch [ then-s-eq48+else-s-gt1 w ↦ omega arith | else-s-eq48 w ↦ absurd (w.if-s-eq48.false e) ]))
+    (search rules, search rules, number-plain _ _ (omega arith) (λ e. grind arith))
