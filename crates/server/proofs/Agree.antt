@@ -59,7 +59,7 @@ module _ (t : Tables) (fs : Fields) (ms : List ℕ) (a : Agreed t fs ms) where
   store-agrees few f (At i) e =
       rw (at-put f.path fs i e f.value, take_all max_fields (set fs i f) (rw length-set few), map-set given i f fs, a)
   store-agrees few f (Before i) e =
-      rw (before-put f.path fs i e f.value, map-take, map-append, map-take, map-drop, a)
+      rw (before-put f.path fs i e f.value) (simp (map-take, map-append, map-drop) (rw a))
 
 -- ── A state with masks ──
 module _ (s : State) (ms : List ℕ) (users : length s.tables.users ≤ max_users) (fields : length s.fields ≤ max_fields) (a : Agreed s.tables s.fields ms) where
@@ -131,11 +131,16 @@ masked-said before after text given left r same masked a =
     let kept = ap (λ (o : Outcome). o.state.fields) masked.is ∙ ap (λ (w : Effect). w.outcome.state.fields) is in
     (rw is at masked, masked.memory.masks ∙ ap (λ (w : Effect). w.masks) is ∙ rw (same, kept))
 
--- where something was decided for a line, it is served by the masks, and as the documents say
+-- where something was decided for a line, it is served by the masks
+pub line-masked : (before after : Arrays) (text : Bytes) (given left : Outputs) (r : Reply)
+    → {d : Result ℕ Change} → decision_masked (state_of before) (masks_of before) (act text given) ≡ d
+    → LeavesDecided d text before given r after left → ServedByMasks before text given r after left
+unfolding effect_by_masks buffer_of list_of
+line-masked before after text given left r is l = rw (← is) at l
+
+-- and as the documents say
 pub line-served : (before after : Arrays) (text : Bytes) (given left : Outputs) (r : Reply) → after.tables ≡ before.tables
     → {d : Result ℕ Change} → decision_masked (state_of before) (masks_of before) (act text given) ≡ d
-    → LeavesDecided d text before given r after left → ServedByMasks before text given r after left × ServedByPolicy before text given r after left
-unfolding effect_by_masks buffer_of list_of
+    → LeavesDecided d text before given r after left → ServedByPolicy before text given r after left
 line-served before after text given left r same is l =
-    let masked : ServedByMasks before text given r after left = rw (← is) at l in
-    (masked, masked-said before after text given left r same masked)
+    masked-said before after text given left r same (line-masked before after text given left r is l)

@@ -4,7 +4,7 @@ use Rattle.opening.specs.Memory.{arrays}
 use Rattle.opening.proofs.AllOpened.{opened-long, lengths, tables-refused, record-refused, opened-done, refusal, acceptance}
 use Rattle.opening.proofs.open.open.Goals as goal
 
--- A refusal returns-then-long-ne0 before the lent arrays are written; an opening that nothing refuses writes all three at its end.
+-- A refusal returns before the lent arrays are written; an opening that nothing refuses writes all three at its end.
 
 pub returns-then-long-ne0 : goal.returns-then-long-ne0
 returns-then-long-ne0 c =
