@@ -3,12 +3,9 @@ use Prim.Native.Nat.{ℕ, ◌≤◌}
 use mathlib.Core.Path.{◌≡◌, refl, sym, ap, subst, ◌∙◌}
 use mathlib.Core.Option.{Option, none, some}
 use mathlib.Core.List.{List, [], ◌∷◌, ◌++◌, map, append-nil}
-use mathlib.Core.Logic.{inl, inr}
 use native.Mathlib.Omega.{arith}
 use borrow.Author.Tests.{leb-true, ltb-false}
 use lib.ListN.{length, take, drop, length-append, length-drop}
-use types.Run.{OneOf}
-use denote.Enum.Declared.{tag_of}
 use Rattle.rows.specs.Rows.{Wrote}
 use Rattle.model.specs.Base.{Bytes, text, joined, between, ◌>>=◌}
 use Rattle.model.specs.Limits.{max_line, max_users}
@@ -32,7 +29,6 @@ use Rattle.deliveries.proofs.Delivered.{delivery-as}
 use Rattle.opening.specs.Memory.{Arrays, state_of, masks_of}
 use Rattle.server.specs.declared.answer.Reply.{Reply}
 use Rattle.server.specs.declared.answer.Reply.TheVariants.{Refused, Session, Length, Accepted}
-use Rattle.server.specs.contracts.answer.Reply.{the_type}
 use Rattle.server.specs.Masked.{decide_get_masked, decide_masked, decide_line_masked, decision_masked, mask_for, notified_masked, conclude_masked, effect_of, effect_by_masks}
 use Rattle.server.specs.Replies.{answer_in, told_in, outcome_in, Outputs, StandsAt, act, event_of, ServedByMasks}
 use Rattle.server.proofs.Agree.{memory-agrees, masked-said}
@@ -92,17 +88,15 @@ inside_of (Session n) m f = tt
 inside_of (Length n) m f = f n refl
 inside_of (Accepted k at) m f = tt
 
--- the variants Refused, Session and Length by their numbers, as the code's `else` tells them
+-- what the code's `else` tells of a reply
 abbrev pub NotAccepted : Reply → Type 0
-NotAccepted r = OneOf (0 ∷ 1 ∷ 2 ∷ []) (tag_of the_type r)
+NotAccepted r = (k at : ℕ) → r ≡ Accepted k at → ⊥
 
 none_told : (r : Reply) → NotAccepted r → told_in r ≡ 0
 none_told (Refused e) o = refl
 none_told (Session n) o = refl
 none_told (Length n) o = refl
-none_told (Accepted k at) (inl e) = absurd (omega arith)
-none_told (Accepted k at) (inr (inl e)) = absurd (omega arith)
-none_told (Accepted k at) (inr (inr e)) = absurd (omega arith)
+none_told (Accepted k at) o = absurd (o k at refl)
 
 untold : (o : Outcome) (f : Option Field) → o.told ≡ 0 → print_deliveries o f ≡ []
 unfolding print_deliveries joined
@@ -185,12 +179,17 @@ module _ (before : Arrays) (t : Bytes) (given : Outputs) (r : Reply) (after : Ar
   unfolding outcome_in
   reply-left = (ap (λ (o : Outcome). o.state) served.is, ap (λ (o : Outcome). o.buffer) served.is, ap (λ (o : Outcome). o.list) served.is)
 
-  -- what is printed for it is written: by the masks, and where they agree with the policy as documents 01 and 02 say
+  -- what is printed for it is written: by the masks
+  pub responds-masked : {from out : Bytes} {n : ℕ} → Wrote 0 (printed (event_of s (act t given) done-by)) from n out → n ≤ most_printed
+      → RespondsByMasks before t given after left from n out
+  responds-masked wrote short = record { leaves = reply-left; memory = served.memory; wrote = wrote; short = short }
+
+  -- and where they agree with the policy as documents 01 and 02 say
   pub responds : after.tables ≡ before.tables → {from out : Bytes} {n : ℕ} → Wrote 0 (printed (event_of s (act t given) done-by)) from n out → n ≤ most_printed
-      → RespondsByMasks before t given after left from n out × RespondsByPolicy before t given after left from n out
+      → RespondsByPolicy before t given after left from n out
   responds same {from} {out} {n} wrote short =
-      let masked : RespondsByMasks before t given after left from n out = record { leaves = reply-left; memory = served.memory; wrote = wrote; short = short } in
-      (masked, λ a. (rw (memory-agrees before (act t given) a) at masked, (masked-said before after t given left r same served a).1))
+      let masked : RespondsByMasks before t given after left from n out = responds-masked wrote short in
+      λ a. (rw (memory-agrees before (act t given) a) at masked, (masked-said before after t given left r same served a).1)
 
   -- for a reply that tells nobody, the answer alone
   pub printed-other : NotAccepted r → printed (event_of s (act t given) done-by) ≡ print_answer left.buffer (answer_in r)
