@@ -17,7 +17,7 @@ use Rattle.model.specs.Tables.{User, Tables, user_at, user_named}
 use Rattle.model.specs.Rights.{may_write}
 use Rattle.model.specs.Opening.{LoginState, State}
 use Rattle.model.specs.Requests.{Ask, Request, login, in_session, get, push, logout, request_of, push_of, logout_of}
-use Rattle.model.specs.Serving.{session_number, index_in, is_session, login_at, Change, sets_login, shows, stores, Asker, asker, decide_show, entered, closed, decide_login, decide_get, creating, decide_push, decide_logout, room_for, decide, decide_save, shown, answer_of, session, length_is, Act, line, save, buffer_of, list_of, decide_line, decision, Outcome, conclude, outcome}
+use Rattle.model.specs.Serving.{session_number, index_in, is_session, login_at, Change, sets_login, shows, stores, Asker, asker, decide_show, entered, decide_login, decide_get, creating, decide_push, decide_logout, room_for, decide, decide_save, shown, answer_of, session, length_is, Act, line, save, buffer_of, list_of, decide_line, decision, Outcome, conclude, outcome}
 use Rattle.model.specs.Runs.{request_of_act, index_of, if_user, owner, in_set, session_in}
 use Rattle.model.proofs.Lists.{by_cases, never, refused-done, none-some, if-done, past-if, past-or, past, done-same, and_both, elem_below}
 use Rattle.model.proofs.Reading.{some_same}

@@ -1,6 +1,6 @@
 -- Condition 3. What a set of users gets in a run is what the server itself gives when it is run on what the set sees of the start and on the
 -- set's own sequence. Nothing else of the run comes in, so two runs with one sight of the start and one sequence give the same.
-use Prim.Native.Nat.{ℕ, zero, suc, ◌+◌, ◌≤◌}
+use Prim.Native.Nat.{ℕ, zero, suc, ◌≤◌}
 use mathlib.Core.Path.{◌≡◌, refl, sym, ap, ap₂, ◌∙◌}
 use mathlib.Core.Option.{Option, none, some}
 use mathlib.Core.List.{List, [], ◌∷◌, ◌++◌, map, append_assoc, append-nil}

@@ -1,11 +1,9 @@
-use Prim.Native.Nat.{ℕ}
 use native.Mathlib.Omega.{arith}
 use borrow.Author.Rules.{rules}
 use Rattle.buffers.proofs.Writers.{wrote_one, wrote-more, digits-one, digits_more}
 use Rattle.buffers.proofs.+put_decimal.Goals as goal
 
 -- One digit, or the digits of the tenth part and then the last one.
-
 
 pub put_byte-requires : goal.put_byte-requires
 put_byte-requires t c = omega (arith, digits-one c.args.n (search rules))

@@ -1,7 +1,6 @@
 use mathlib.Core.Path.{refl, sym}
 use native.Mathlib.Omega.{arith}
 use lib.ListN.{length-take, length-drop}
-use borrow.Author.Rules.{rules}
 use Rattle.rows.proofs.Writing.{written-outside, written-copied}
 use Rattle.buffers.proofs.put.Goals as goal
 

@@ -30,10 +30,11 @@ met c =
     let role = rw name at put.ensures in
     let part = access-part (rule_in a.rule.now) c.is_write.ensures in
     elim c.if-is_write.branch [
-      then-is_write w ↦ let access = w.put-to-then-is_write in
+      | then-is_write w ↦ let access = w.put-to-then-is_write in
           rw (w.to-is, w.out-is, part, w.if-is_write.true) (omega (arith, access.ensures.0, put.ensures.0), access.auto.out ∙ put.auto.out, wrote-both _ _ _ _ _ _ _ _ role access.ensures)
-    | else-is_write w ↦ let access = w.put-to-else-is_write in
-          rw (w.to-is, w.out-is, part, w.if-is_write.false) (omega (arith, access.ensures.0, put.ensures.0), access.auto.out ∙ put.auto.out, wrote-both _ _ _ _ _ _ _ _ role access.ensures) ]
+      | else-is_write w ↦ let access = w.put-to-else-is_write in
+          rw (w.to-is, w.out-is, part, w.if-is_write.false) (omega (arith, access.ensures.0, put.ensures.0), access.auto.out ∙ put.auto.out, wrote-both _ _ _ _ _ _ _ _ role access.ensures)
+    ]
 
 pub put-to-requires : goal.put-to-requires
 put-to-requires c = let k = name-length max_name _ c.name_from.ensures (simp length-take (omega arith)) in omega arith

@@ -1,7 +1,5 @@
-use Prim.Native.Nat.{◌-◌}
 use mathlib.Core.Path.{refl, sym, ◌∙◌}
 use native.Mathlib.Omega.{arith}
-use lib.ListN.{length}
 use borrow.Author.Rules.{rules}
 use Rattle.buffers.proofs.Writers.{wrote_none}
 use Rattle.layout.proofs.Used.{counted-fit}
@@ -39,7 +37,8 @@ loop-i-preserved c =
     let below = c.loop-i-test.true in
     let is-for = sym c.is_for.ensures in
     elim c.if-is_for.branch [
-      then-is_for w ↦ let line = w.put_rule_line-to in
+      | then-is_for w ↦ let line = w.put_rule_line-to in
           let rest = rw (rules-yes _ _ n l.i below row (is-for ∙ w.if-is_for.true)) at l.invariant.3 in
           rw (w.to-is, w.out-is) (search rules, omega (arith, line.ensures.upper_bound), line.auto.out ∙ l.invariant.2, remains-step _ _ _ _ _ _ _ _ _ rest line.ensures.wrote)
-    | else-is_for w ↦ rw (w.to-is, w.out-is) (search rules, omega arith, l.invariant.2, rw (rules-no _ _ n l.i below row (is-for ∙ w.if-is_for.false)) at l.invariant.3) ]
+      | else-is_for w ↦ rw (w.to-is, w.out-is) (search rules, omega arith, l.invariant.2, rw (rules-no _ _ n l.i below row (is-for ∙ w.if-is_for.false)) at l.invariant.3)
+    ]

@@ -1,4 +1,3 @@
-use Prim.Native.Nat.{◌-◌}
 use borrow.Author.Rules.{rules}
 use native.Mathlib.Omega.{arith}
 use Rattle.lines.proofs.Cells.{count-more, count_same, count-over}
@@ -15,8 +14,9 @@ loop-i-preserved c =
     let line = c.args.line.now in
     let i = c.loop-i.i in
     elim c.if-line-i-eq59.branch [
-      then-line-i-eq59 w ↦ (search rules, omega arith, omega (arith, count-more line i (search rules) w.if-line-i-eq59.true))
-    | else-line-i-eq59 w ↦ (search rules, omega arith, omega (arith, count_same line i (search rules) w.if-line-i-eq59.false)) ]
+      | then-line-i-eq59 w ↦ (search rules, omega arith, omega (arith, count-more line i (search rules) w.if-line-i-eq59.true))
+      | else-line-i-eq59 w ↦ (search rules, omega arith, omega (arith, count_same line i (search rules) w.if-line-i-eq59.false))
+    ]
 
 pub returns : goal.returns
 returns c = omega (arith, count-over c.args.line.now c.loop-i.i c.loop-i-test.false)

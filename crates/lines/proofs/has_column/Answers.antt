@@ -1,10 +1,9 @@
-use Prim.Native.Nat.{◌≤◌, ◌-◌}
+use Prim.Native.Nat.{◌≤◌}
 use mathlib.Core.Path.{refl, sym, ◌∙◌}
 use native.Mathlib.Omega.{arith}
 use borrow.Author.Rules.{rules}
 use lib.ListN.{length}
 use Rattle.rows.proofs.Positions.{run-within}
-use Rattle.model.specs.Base.{among}
 use Rattle.lines.proofs.Cells.{among-here, among-last, among-more}
 use Rattle.lines.proofs.has_column.Goals.{After-until-end}
 use Rattle.lines.proofs.has_column.Goals as goal

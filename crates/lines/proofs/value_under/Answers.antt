@@ -1,10 +1,9 @@
-use Prim.Native.Nat.{◌+◌, ◌≤◌, ◌-◌}
+use Prim.Native.Nat.{◌+◌, ◌≤◌}
 use mathlib.Core.Path.{refl, sym, ◌∙◌}
 use native.Mathlib.Omega.{arith}
 use borrow.Author.Rules.{rules}
 use lib.ListN.{length}
 use Rattle.rows.proofs.Positions.{run-within}
-use Rattle.model.specs.Table.{under}
 use Rattle.lines.proofs.Cells.{under-here, under_last, under-short, under_more}
 use Rattle.lines.proofs.value_under.Goals.{After-until-end, After-until-to, Else-to-line}
 use Rattle.lines.proofs.value_under.Goals as goal

@@ -1,11 +1,11 @@
-use Prim.Native.Nat.{◌+◌, ◌*◌, ◌≤◌}
+use Prim.Native.Nat.{◌≤◌}
 use mathlib.Core.Path.{refl, sym}
 use native.Mathlib.Omega.{arith}
 use lib.ListN.{length}
 use Rattle.rows.proofs.Writing.{written_none}
 use Rattle.model.specs.Base.{text, decimal}
 use Rattle.buffers.proofs.Writers.{wrote-both}
-use Rattle.printing.specs.Printed.{mark_length, most_digits}
+use Rattle.printing.specs.Printed.{most_digits}
 use Rattle.printing.proofs.Pieces.{usize-length, fault-pieces}
 use Rattle.printing.proofs.put_opening.Goals.{In-Refused}
 use Rattle.printing.proofs.put_opening.Goals as goal

@@ -32,9 +32,12 @@ pub returns-then-n-most : goal.returns-then-n-most
 returns-then-n-most c =
     let a = c.args in
     let n = c.count-n in
-    let bytes = copied-in (n.result * a.size + 1) a.row.now a.slot.now _ c.copy.ensures in record { slot_after = rw (bytes, c.requires.3)
-          (rows_pushed a.size a.most a.slot.now a.row.now n.result n.ensures c.if-n-most.true (omega (arith, inside (goal.at.returns-then-n-most c).Then-n-most, c.requires.2)) c.requires.3); keeps = λ tight. rw (bytes, c.requires.3)
-          (tight-counted a.size a.most a.slot.now a.row.now n.result n.ensures c.if-n-most.true c.requires.0 c.requires.3 tight) }
+    let bytes = copied-in (n.result * a.size + 1) a.row.now a.slot.now _ c.copy.ensures in record {
+      slot_after = rw (bytes, c.requires.3)
+          (rows_pushed a.size a.most a.slot.now a.row.now n.result n.ensures c.if-n-most.true (omega (arith, inside (goal.at.returns-then-n-most c).Then-n-most, c.requires.2)) c.requires.3);
+      keeps = λ tight. rw (bytes, c.requires.3)
+          (tight-counted a.size a.most a.slot.now a.row.now n.result n.ensures c.if-n-most.true c.requires.0 c.requires.3 tight);
+    }
 
 pub returns-else-n-most : goal.returns-else-n-most
 returns-else-n-most c =

@@ -35,9 +35,12 @@ pub returns-then-n-most : goal.returns-then-n-most
 returns-then-n-most c =
     let a = c.args in
     let n = c.row_count-n in
-    let bytes = copied-in (n.result * a.size) a.row.now c.put_byte.new.out _ c.copy.ensures in record { t_after = rw (bytes, c.requires.1)
-          (used-pushed a.size a.most n.result a.t.now a.row.now n.ensures c.requires.0 c.if-n-most.true c.put_byte.ensures.1 c.requires.1 c.requires.2); keeps = λ tight. rw (bytes, c.requires.1)
-          (tight-pushed a.size a.most a.t.now c.requires.0 tight n.result a.row.now n.ensures c.if-n-most.true c.put_byte.ensures.1 c.requires.1 c.requires.2) }
+    let bytes = copied-in (n.result * a.size) a.row.now c.put_byte.new.out _ c.copy.ensures in record {
+      t_after = rw (bytes, c.requires.1)
+          (used-pushed a.size a.most n.result a.t.now a.row.now n.ensures c.requires.0 c.if-n-most.true c.put_byte.ensures.1 c.requires.1 c.requires.2);
+      keeps = λ tight. rw (bytes, c.requires.1)
+          (tight-pushed a.size a.most a.t.now c.requires.0 tight n.result a.row.now n.ensures c.if-n-most.true c.put_byte.ensures.1 c.requires.1 c.requires.2);
+    }
 
 pub returns-else-n-most : goal.returns-else-n-most
 returns-else-n-most c =

@@ -1,5 +1,4 @@
 use mathlib.Core.Path.{refl, sym, ◌∙◌}
-use Prim.Native.Nat.{◌-◌}
 use borrow.Author.Rules.{rules}
 use Rattle.rows.proofs.Positions.{run_step, run-stop, run-over}
 use Rattle.lexical.proofs.class.run.Goals as goal

@@ -1,8 +1,6 @@
-use Prim.Native.Nat.{◌-◌}
 use mathlib.Core.Path.{sym, ◌∙◌}
 use borrow.Author.Rules.{rules}
 use native.Mathlib.Omega.{arith}
-use Rattle.model.specs.Base.{number}
 use Rattle.model.proofs.Reading.{digit-bounds}
 use Rattle.lexical.proofs.Decimals.{number-empty, number-padded, number-plain, counted_step, counted_stop, counted-end, counted-past}
 use Rattle.lexical.proofs.number.number.Goals as goal

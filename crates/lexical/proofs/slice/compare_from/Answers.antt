@@ -1,4 +1,4 @@
-use Prim.Native.Nat.{◌-◌, compare}
+use Prim.Native.Nat.{compare}
 use mathlib.Core.Path.{sym, ap, ◌∙◌}
 use borrow.Author.Rules.{rules}
 use Rattle.lexical.specs.Orders.{order_of}

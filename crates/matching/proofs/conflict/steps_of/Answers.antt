@@ -1,4 +1,3 @@
-use Prim.Native.Nat.{◌-◌}
 use mathlib.Core.Path.{refl, ap, ◌∙◌}
 use Rattle.model.specs.Paths.{as_steps}
 use Rattle.paths.specs.Layout.{path_in}

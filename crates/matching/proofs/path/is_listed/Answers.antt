@@ -1,4 +1,4 @@
-use Prim.Native.Nat.{◌+◌, ◌-◌}
+use Prim.Native.Nat.{◌+◌}
 use mathlib.Core.Path.{◌≡◌, sym, ap, ◌∙◌}
 use Rattle.model.specs.Rights.{listed}
 use Rattle.steps.specs.Steps.{operator_of}
@@ -37,8 +37,9 @@ met c =
     let test = c.loop-i-test.true in
     let full = c.if-lines-at-eq0.false in
     elim c.if-decides.branch [
-      then-decides+else-same w ↦ ap (asked _ _) (listed-no _ l.i test l.invariant.0 full _ w.name_from-then-decides.ensures w.same.ensures w.if-same.false)
-    | else-decides w ↦ asked-later _ _ l.i test l.invariant.0 full _ _ c.name_from.ensures c.same-holds.ensures (sym c.decides.ensures ∙ w.if-decides.false) ]
+      | then-decides+else-same w ↦ ap (asked _ _) (listed-no _ l.i test l.invariant.0 full _ w.name_from-then-decides.ensures w.same.ensures w.if-same.false)
+      | else-decides w ↦ asked-later _ _ l.i test l.invariant.0 full _ _ c.name_from.ensures c.same-holds.ensures (sym c.decides.ensures ∙ w.if-decides.false)
+    ]
 
 pub loop-i-preserved : goal.loop-i-preserved
 loop-i-preserved c =

@@ -1,8 +1,7 @@
-use Prim.Native.Nat.{◌-◌}
 use mathlib.Core.Path.{sym, ◌∙◌}
 use borrow.Author.Tests.{not-true, not-false}
 use borrow.Author.Rules.{rules}
-use Rattle.matching.specs.Parts.{is_met, may_match}
+use Rattle.matching.specs.Parts.{may_match}
 use Rattle.matching.proofs.Matched.{paired-counts, paired-step, paired-end, matches-parts}
 use Rattle.matching.proofs.path.lines_match.Goals as goal
 

@@ -1,7 +1,6 @@
-use Prim.Native.Nat.{◌+◌, ◌*◌, ◌-◌, ◌≤◌}
+use Prim.Native.Nat.{◌+◌, ◌*◌, ◌≤◌}
 use native.Mathlib.Omega.{arith}
 use borrow.Author.Rules.{rules}
-use Rattle.model.specs.Opening.{quotas}
 use Rattle.tables.specs.Memory.{user_row, quota_at}
 use Rattle.tables.proofs.Users.{user-inside}
 use Rattle.tables.proofs.Users.{quota-small}

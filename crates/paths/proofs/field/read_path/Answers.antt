@@ -1,4 +1,3 @@
-use Prim.Native.Nat.{◌-◌}
 use mathlib.Core.Path.{refl, sym, ◌∙◌}
 use Rattle.model.specs.Paths.{keys_of}
 use Rattle.lexical.proofs.Runs.{byte-stands}
@@ -6,7 +5,7 @@ use Rattle.paths.specs.Layout.{path_in}
 use Rattle.layout.specs.Layout.{counted, key_row, CanonicalName}
 use Rattle.layout.proofs.Canonical.{canonical-uncounted}
 use Rattle.model.specs.Limits.{max_depth}
-use Rattle.paths.proofs.WholePaths.{left, path-unopened, path-opened, left-full, left-bad, left_end}
+use Rattle.paths.proofs.WholePaths.{path-unopened, path-opened, left-full, left-bad, left_end}
 use Rattle.paths.proofs.KeySteps.{KeyStands, key-bad, key-at, key-turn}
 use borrow.Author.Tests.{not-true, not-false}
 use native.Mathlib.Omega.{arith}

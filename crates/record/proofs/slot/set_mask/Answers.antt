@@ -5,7 +5,6 @@ use Rattle.record.proofs.slot.set_mask.Goals as goal
 
 -- The fields stay, and one mask is another.
 
-
 pub returns : goal.returns
 returns c =
     let t = c.args.table.now in

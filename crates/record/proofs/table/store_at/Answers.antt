@@ -27,14 +27,22 @@ insert_slot-requires c =
 pub returns-in-At : goal.returns-in-At
 unfolding fields_in masks_in stored_bytes stored_masks
 returns-in-At c =
-    let used = c.replace_row.ensures.t_after in let bytes = c.replace_row.ensures.t_after_2 in record { table_after = table-set field_in slot_bytes max_fields c.args.table.now _ c.args.slot.now c.in-At.at used
-          ∙ at_stored _ _ c.in-At.at c.requires.0 (sym c.requires.1 ∙ c.in-At.is); table_after_2 = rw c.in-At.is (table-set mask_in slot_bytes max_fields c.args.table.now _ c.args.slot.now c.in-At.at used); table_after_3 = bytes ∙ rw c.in-At.is }
+    let used = c.replace_row.ensures.t_after in let bytes = c.replace_row.ensures.t_after_2 in record {
+      table_after = table-set field_in slot_bytes max_fields c.args.table.now _ c.args.slot.now c.in-At.at used
+          ∙ at_stored _ _ c.in-At.at c.requires.0 (sym c.requires.1 ∙ c.in-At.is);
+      table_after_2 = rw c.in-At.is (table-set mask_in slot_bytes max_fields c.args.table.now _ c.args.slot.now c.in-At.at used);
+      table_after_3 = bytes ∙ rw c.in-At.is;
+    }
 
 pub returns-then-at-lt-SLOTS : goal.returns-then-at-lt-SLOTS
 unfolding fields_in masks_in stored_bytes stored_masks
 returns-then-at-lt-SLOTS c =
-    let used = c.insert_slot.ensures.table_after in let bytes = c.insert_slot.ensures.table_after_2 in record { table_after = table-inserted field_in slot_bytes max_fields c.args.table.now _ c.args.slot.now c.in-Before.at used
-          ∙ before-stored _ _ c.in-Before.at c.requires.0 (sym c.requires.1 ∙ c.in-Before.is); table_after_2 = rw c.in-Before.is (table-inserted mask_in slot_bytes max_fields c.args.table.now _ c.args.slot.now c.in-Before.at used); table_after_3 = bytes ∙ rw (c.in-Before.is, lt-ltb _ _ c.if-at-lt-SLOTS.true) }
+    let used = c.insert_slot.ensures.table_after in let bytes = c.insert_slot.ensures.table_after_2 in record {
+      table_after = table-inserted field_in slot_bytes max_fields c.args.table.now _ c.args.slot.now c.in-Before.at used
+          ∙ before-stored _ _ c.in-Before.at c.requires.0 (sym c.requires.1 ∙ c.in-Before.is);
+      table_after_2 = rw c.in-Before.is (table-inserted mask_in slot_bytes max_fields c.args.table.now _ c.args.slot.now c.in-Before.at used);
+      table_after_3 = bytes ∙ rw (c.in-Before.is, lt-ltb _ _ c.if-at-lt-SLOTS.true);
+    }
 
 pub returns-else-at-lt-SLOTS : goal.returns-else-at-lt-SLOTS
 unfolding stored_bytes

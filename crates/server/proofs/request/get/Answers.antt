@@ -20,11 +20,12 @@ met c =
     let head = c.put_head-head.ensures.wrote in
     let same = unwritten _ _ head in
     elim c.if-buffer-head.branch [
-      then-buffer-head+else-buffer-length w ↦
+      | then-buffer-head+else-buffer-length w ↦
           let measured = w.put_copy-length.ensures.wrote in
           let kept = w.buffer-is ∙ unwritten _ _ measured ∙ same in
           (kept, omega (arith, ap length kept, ap length w.buffer-is, measured.0, c.put_copy-length-2.ensures.wrote.0, w.if-buffer-length.false))
-    | else-buffer-head w ↦ (w.buffer-is ∙ same, omega (arith, ap length same, w.if-buffer-head.false, head.0, c.put_copy-length-2.ensures.upper_bound)) ]
+      | else-buffer-head w ↦ (w.buffer-is ∙ same, omega (arith, ap length same, w.if-buffer-head.false, head.0, c.put_copy-length-2.ensures.upper_bound))
+    ]
 
 pub returns-in_default : goal.returns-in_default
 unfolding room_for

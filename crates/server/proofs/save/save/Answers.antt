@@ -16,11 +16,12 @@ met : (c : After-slice_known-2-1)
 met c =
     let text = c.put_saved-length-2.ensures in
     elim c.if-buffer-lt-MOST_SAVED.branch [
-      then-buffer-lt-MOST_SAVED+else-buffer-length w ↦
+      | then-buffer-lt-MOST_SAVED+else-buffer-length w ↦
           let measured = w.put_saved-length.ensures.wrote in
           let kept = w.buffer-is ∙ unwritten _ _ measured in
           (kept, omega (arith, ap length kept, ap length w.buffer-is, measured.0, c.put_saved-length-2.ensures.wrote.0, w.if-buffer-length.false))
-    | else-buffer-lt-MOST_SAVED w ↦ (w.buffer-is, omega (arith, w.if-buffer-lt-MOST_SAVED.false, c.put_saved-length-2.ensures.upper_bound)) ]
+      | else-buffer-lt-MOST_SAVED w ↦ (w.buffer-is, omega (arith, w.if-buffer-lt-MOST_SAVED.false, c.put_saved-length-2.ensures.upper_bound))
+    ]
 
 pub returns-then-buffer-length : goal.returns-then-buffer-length
 returns-then-buffer-length c tables logins =

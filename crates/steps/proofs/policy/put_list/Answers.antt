@@ -1,7 +1,6 @@
-use Prim.Native.Nat.{◌+◌, ◌-◌, ◌≤◌}
+use Prim.Native.Nat.{◌+◌, ◌≤◌}
 use mathlib.Core.Path.{◌≡◌, refl, ◌∙◌}
 use mathlib.Core.List.{◌++◌, append-nil}
-use mathlib.Core.Logic.{⊎_elim}
 use native.Mathlib.Omega.{arith}
 use lib.ListN.{length, take, length-append, length-take}
 use Rattle.rows.specs.Rows.{Wrote}
@@ -30,11 +29,12 @@ met c =
     let l = c.loop-i in
     let comma = text "," in
     elim c.if-i-gt0.branch [
-      then-i-gt0 w ↦
+      | then-i-gt0 w ↦
           let comma_written = w.put_byte-to-then-i-gt0.ensures in
           let more = wrote-both _ _ _ _ _ _ _ _ l.invariant.3 comma_written in
           rw (w.to-is, w.out-is) (omega (arith, comma_written.0), w.put_byte-to-then-i-gt0.auto.out ∙ l.invariant.2, rw (divider-some comma l.i w.if-i-gt0.true) more)
-    | else-i-gt0 w ↦ rw (w.to-is, w.out-is) (omega arith, l.invariant.2, rw (divider-none comma l.i w.if-i-gt0.false, append-nil) l.invariant.3) ]
+      | else-i-gt0 w ↦ rw (w.to-is, w.out-is) (omega arith, l.invariant.2, rw (divider-none comma l.i w.if-i-gt0.false, append-nil) l.invariant.3)
+    ]
 
 pub loop-i-init : goal.loop-i-init
 unfolding spelled_names between

@@ -1,8 +1,6 @@
-use Prim.Native.Nat.{◌-◌}
 use mathlib.Core.Path.{refl}
 use native.Mathlib.Omega.{arith}
 use borrow.Author.Rules.{rules}
-use lib.ListN.{length}
 use Rattle.model.specs.Limits.{max_depth}
 use Rattle.model.specs.Base.{text, joined}
 use Rattle.model.specs.Paths.{step_text, steps_text}

@@ -1,4 +1,3 @@
-use Prim.Native.Nat.{◌-◌}
 use mathlib.Core.Path.{refl, sym, ◌∙◌}
 use native.Mathlib.Omega.{arith}
 use Rattle.rows.specs.Positions.{Takes}
@@ -7,7 +6,7 @@ use Rattle.lexical.proofs.Runs.{byte-stands}
 use Rattle.layout.specs.Layout.{counted}
 use Rattle.layout.proofs.Canonical.{canonical-uncounted}
 use Rattle.model.specs.Limits.{max_depth}
-use Rattle.paths.proofs.WholePaths.{left, path-unopened, path-opened, left-full, left-bad, left_end}
+use Rattle.paths.proofs.WholePaths.{path-unopened, path-opened, left-full, left-bad, left_end}
 use Rattle.steps.specs.Steps.{step_row, step_of, steps_in, CanonicalStep}
 use Rattle.steps.proofs.StepReaders.{step-none, step-takes}
 use Rattle.steps.proofs.StepPushes.{step-turn}

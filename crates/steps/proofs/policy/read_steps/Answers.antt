@@ -22,7 +22,8 @@ pub returns : goal.returns
 returns c =
     let read = c.read_all-path.ensures in (
       c.no_steps.ensures.0 ∙ elim c.if-path.branch [
-          then-path+else-put_steps-le-MAX_PATH_TEXT w ↦ steps-long _ _ read.0 w.if-path.true _ w.put_steps.ensures.wrote.0 (omega (arith, w.if-put_steps-le-MAX_PATH_TEXT.false))
-        | else-path w ↦ steps-none _ _ read.0 w.if-path.false ],
+        | then-path+else-put_steps-le-MAX_PATH_TEXT w ↦ steps-long _ _ read.0 w.if-path.true _ w.put_steps.ensures.wrote.0 (omega (arith, w.if-put_steps-le-MAX_PATH_TEXT.false))
+        | else-path w ↦ steps-none _ _ read.0 w.if-path.false
+      ],
       c.no_steps.ensures.1,
     )

@@ -35,10 +35,10 @@ returns-then-is_at c =
     (rw ok (bracketed-is _ _ (opens (goal.at.returns-then-is_at c).Else-not-is_at) c.selector_at-inner.result c.selector_at-inner.ensures.0 ok (sym c.is_at-then-inner.ensures ∙ c.if-is_at.true)), c.selector_at-inner.ensures.1)
 
 pub returns : goal.returns
-returns c =
-    (
-      c.no_step-2.ensures.0 ∙ elim c.if-inner.branch [
-          then-inner+else-is_at w ↦ bracketed-unclosed _ _ (opens (goal.at.returns c).Else-not-is_at) c.selector_at-inner.result c.selector_at-inner.ensures.0 w.if-inner.true (sym w.is_at-then-inner.ensures ∙ w.if-is_at.false)
-        | else-inner w ↦ bracketed-empty _ _ (opens (goal.at.returns c).Else-not-is_at) c.selector_at-inner.result c.selector_at-inner.ensures.0 w.if-inner.false ],
-      c.no_step-2.ensures.1,
-    )
+returns c = (
+  c.no_step-2.ensures.0 ∙ elim c.if-inner.branch [
+    | then-inner+else-is_at w ↦ bracketed-unclosed _ _ (opens (goal.at.returns c).Else-not-is_at) c.selector_at-inner.result c.selector_at-inner.ensures.0 w.if-inner.true (sym w.is_at-then-inner.ensures ∙ w.if-is_at.false)
+    | else-inner w ↦ bracketed-empty _ _ (opens (goal.at.returns c).Else-not-is_at) c.selector_at-inner.result c.selector_at-inner.ensures.0 w.if-inner.false
+  ],
+  c.no_step-2.ensures.1,
+)

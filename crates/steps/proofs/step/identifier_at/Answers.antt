@@ -29,12 +29,11 @@ pub bounds-s-at : goal.bounds-s-at
 bounds-s-at c = omega (arith, within (goal.at.bounds-s-at c).In-At)
 
 pub returns-then-is_digit : goal.returns-then-is_digit
-returns-then-is_digit c =
-    (
-      c.no_step-then-is_digit.ensures.0
-          ∙ identifier-digit _ _ (search rules) _ c.scan.ensures _ c.in-At.is (sym c.is_digit.ensures ∙ c.if-is_digit.true),
-      c.no_step-then-is_digit.ensures.1,
-    )
+returns-then-is_digit c = (
+  c.no_step-then-is_digit.ensures.0
+      ∙ identifier-digit _ _ (search rules) _ c.scan.ensures _ c.in-At.is (sym c.is_digit.ensures ∙ c.if-is_digit.true),
+  c.no_step-then-is_digit.ensures.1,
+)
 
 pub slice_bounds-found_one-count : goal.slice_bounds-found_one-count
 slice_bounds-found_one-count c = omega (arith, within (goal.at.slice_bounds-found_one-count c).In-At)
@@ -46,9 +45,8 @@ pub slice_bounds-found_one-end : goal.slice_bounds-found_one-end
 slice_bounds-found_one-end c = omega (arith, within (goal.at.slice_bounds-found_one-end c).In-At)
 
 pub returns : goal.returns
-returns c =
-    (
-      c.found_one.ensures.0
-          ∙ identifier-is _ _ (search rules) _ c.scan.ensures _ c.in-At.is (sym c.is_digit.ensures ∙ c.if-is_digit.false),
-      one-canonical c.found_one.result Names tt _ _ c.found_one.ensures.0 c.found_one.ensures.1,
-    )
+returns c = (
+  c.found_one.ensures.0
+      ∙ identifier-is _ _ (search rules) _ c.scan.ensures _ c.in-At.is (sym c.is_digit.ensures ∙ c.if-is_digit.false),
+  one-canonical c.found_one.result Names tt _ _ c.found_one.ensures.0 c.found_one.ensures.1,
+)

@@ -1,4 +1,3 @@
-use Prim.Native.Nat.{◌-◌}
 use borrow.Author.Rules.{rules}
 use Rattle.model.specs.Limits.{max_users}
 use Rattle.layout.proofs.Used.{counted-fit}

@@ -1,4 +1,3 @@
-use Prim.Native.Nat.{◌-◌}
 use mathlib.Core.Path.{◌∙◌}
 use borrow.Author.Rules.{rules}
 use Rattle.model.specs.Limits.{max_users}
@@ -36,5 +35,6 @@ loop-j-preserved c =
     let said = rw c.bindings.ensures.result_value at c.has_value.ensures in
     let next = holder-next _ _ count l.j l.held l.invariant.1 test c.row_at.ensures.0 said in
     elim c.if-has_value.branch [
-      then-has_value w ↦ (search rules, rw w.held-is (next _ (λ i. w.with_bit-held.ensures i ∙ marked-now _ _ i _ w.if-has_value.true)))
-    | else-has_value w ↦ (search rules, rw w.held-is (next _ (λ i. marked-not _ _ i _ w.if-has_value.false))) ]
+      | then-has_value w ↦ (search rules, rw w.held-is (next _ (λ i. w.with_bit-held.ensures i ∙ marked-now _ _ i _ w.if-has_value.true)))
+      | else-has_value w ↦ (search rules, rw w.held-is (next _ (λ i. marked-not _ _ i _ w.if-has_value.false)))
+    ]

@@ -1,4 +1,3 @@
-use Prim.Native.Nat.{◌-◌}
 use Rattle.tables.proofs.Held.{kept-all, kept_next, kept-end}
 use Rattle.tables.proofs.candidates.keep_first.Goals as goal
 

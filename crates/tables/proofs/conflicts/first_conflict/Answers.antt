@@ -1,4 +1,4 @@
-use Prim.Native.Nat.{◌+◌, ◌-◌}
+use Prim.Native.Nat.{◌+◌}
 use mathlib.Core.Path.{◌≡◌, refl, ◌∙◌}
 use mathlib.Core.Bool.{◌&&◌}
 use mathlib.Core.Option.{some}
@@ -44,13 +44,15 @@ pub returns-then-has_conflict : goal.returns-then-has_conflict
 returns-then-has_conflict c =
     rw (turn (goal.at.returns-then-has_conflict c).After-is_write, c.if-is_write.true, ← c.rule_path.ensures.result_value, ← c.has_conflict.ensures, c.if-has_conflict.true)
 
-
 pub returns : goal.returns
 unfolding conflict_from
 returns c = let l = c.loop-i in rw (l.invariant.1, rules-over _ c.row_count-n.ensures l.i (search rules))
 
 pub loop-i-preserved : goal.loop-i-preserved
-loop-i-preserved c =
-    (search rules, turn (goal.at.loop-i-preserved c).After-is_write ∙ elim c.if-is_write.branch [
-      then-is_write+else-has_conflict w ↦ rw (w.if-is_write.true, ← w.rule_path.ensures.result_value, ← w.has_conflict.ensures, w.if-has_conflict.false)
-    | else-is_write w ↦ rw w.if-is_write.false ])
+loop-i-preserved c = (
+  search rules,
+  turn (goal.at.loop-i-preserved c).After-is_write ∙ elim c.if-is_write.branch [
+    | then-is_write+else-has_conflict w ↦ rw (w.if-is_write.true, ← w.rule_path.ensures.result_value, ← w.has_conflict.ensures, w.if-has_conflict.false)
+    | else-is_write w ↦ rw w.if-is_write.false
+  ],
+)

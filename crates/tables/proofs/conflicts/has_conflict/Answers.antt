@@ -48,13 +48,15 @@ pub returns-then-conflict : goal.returns-then-conflict
 returns-then-conflict c =
     sym (turn (goal.at.returns-then-conflict c).After-is_write ∙ rw (c.if-is_write.true, ← c.rule_path.ensures.result_value, ← c.conflict.ensures, c.if-conflict.true))
 
-
 pub returns : goal.returns
 unfolding any
 returns c = let l = c.loop-i in sym (l.invariant.1 ∙ rw (rules-over _ c.row_count-all.ensures l.i (search rules), take-nil))
 
 pub loop-i-preserved : goal.loop-i-preserved
-loop-i-preserved c =
-    (search rules, turn (goal.at.loop-i-preserved c).After-is_write ∙ elim c.if-is_write.branch [
-      then-is_write+else-conflict w ↦ rw (w.if-is_write.true, ← w.rule_path.ensures.result_value, ← w.conflict.ensures, w.if-conflict.false)
-    | else-is_write w ↦ rw w.if-is_write.false ])
+loop-i-preserved c = (
+  search rules,
+  turn (goal.at.loop-i-preserved c).After-is_write ∙ elim c.if-is_write.branch [
+    | then-is_write+else-conflict w ↦ rw (w.if-is_write.true, ← w.rule_path.ensures.result_value, ← w.conflict.ensures, w.if-conflict.false)
+    | else-is_write w ↦ rw w.if-is_write.false
+  ],
+)

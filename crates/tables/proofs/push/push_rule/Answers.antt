@@ -19,6 +19,9 @@ unfolding policy_in
 returns c =
     let push = c.push_row in
     let s = c.args in
-    let row = c.put_rule in record { policy_after = table-pushed rule_in rule_row max_rules s.policy.now _ _ push.ensures.t_after ∙ rw (row.ensures, rule-read s.role.now s.access s.steps.now); keeps = λ steps access.
+    let row = c.put_rule in record {
+      policy_after = table-pushed rule_in rule_row max_rules s.policy.now _ _ push.ensures.t_after ∙ rw (row.ensures, rule-read s.role.now s.access s.steps.now);
+      keeps = λ steps access.
           let is : Canonical encode_rule rule_in row.new.row = rw row.ensures (rule-canonical s.role.now s.access s.steps.now steps access) in
-          canonical-pushed (Canonical encode_rule rule_in) rule_row max_rules is push.ensures.t_after push.ensures.keeps }
+          canonical-pushed (Canonical encode_rule rule_in) rule_row max_rules is push.ensures.t_after push.ensures.keeps;
+    }

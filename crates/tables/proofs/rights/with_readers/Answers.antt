@@ -46,6 +46,7 @@ loop-rest-preserved c =
     let next = readers-next _ _ _ _ l.rest l.marked l.invariant.1 f.result below c.row_at.ensures.0 _ f.ensures.1 c.without_bit-rest.ensures.1 in (
       λ i is. l.invariant.0 i (and_both (not (eqb i f.result)) (bit_at l.rest i) (sym (c.without_bit-rest.ensures.1 i) ∙ is)).1,
       elim c.if-gives_read.branch [
-          then-gives_read w ↦ rw w.marked-is (next _ (λ i. w.with_bit-marked.ensures i ∙ marked-now _ _ i _ (sym told ∙ w.if-gives_read.true)))
-        | else-gives_read w ↦ rw w.marked-is (next _ (λ i. marked-not _ _ i _ (sym told ∙ w.if-gives_read.false))) ],
+        | then-gives_read w ↦ rw w.marked-is (next _ (λ i. w.with_bit-marked.ensures i ∙ marked-now _ _ i _ (sym told ∙ w.if-gives_read.true)))
+        | else-gives_read w ↦ rw w.marked-is (next _ (λ i. marked-not _ _ i _ (sym told ∙ w.if-gives_read.false)))
+      ],
     )

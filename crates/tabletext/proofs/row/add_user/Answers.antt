@@ -109,4 +109,6 @@ returns c =
     let push = c.push_user in
     record {
       adds = user-added _ _ (names (goal.at.returns c).Else-not-is_name-3) (one-role (goal.at.returns c).Else-same) (quota (goal.at.returns c).In-Is) (new (goal.at.returns c).In_default-find_user) (users-counted _ c.row_count.ensures) (omega (arith, c.if-row_count-ge-USERS.false))
-          c.value_under-name.ensures c.value_under-role.ensures c.value_under-key.ensures push.ensures.users_after; keeps = push.ensures.keeps }
+          c.value_under-name.ensures c.value_under-role.ensures c.value_under-key.ensures push.ensures.users_after;
+      keeps = push.ensures.keeps;
+    }

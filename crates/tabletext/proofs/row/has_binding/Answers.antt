@@ -1,4 +1,4 @@
-use Prim.Native.Nat.{◌-◌, ◌≤◌, ◌+◌, ◌*◌}
+use Prim.Native.Nat.{◌≤◌, ◌+◌, ◌*◌}
 use mathlib.Core.Path.{refl, sym, ◌∙◌}
 use native.Mathlib.Omega.{arith}
 use borrow.Author.Rules.{rules}
@@ -42,8 +42,9 @@ loop-i-preserved c =
       l.invariant.1
           ∙ binding-left _ c.row_count-n.ensures l.i _ c.loop-i-test.true c.name_from.ensures c.same.ensures
           ∙ elim c.if-same.branch [
-              then-same+else-same-2 w ↦ rw (w.if-same.true, ← w.name_from-then-same.ensures, ← w.same-then-same.ensures, w.if-same-2.false)
-            | else-same w ↦ rw w.if-same.false ],
+            | then-same+else-same-2 w ↦ rw (w.if-same.true, ← w.name_from-then-same.ensures, ← w.same-then-same.ensures, w.if-same-2.false)
+            | else-same w ↦ rw w.if-same.false
+          ],
     )
 
 pub returns : goal.returns

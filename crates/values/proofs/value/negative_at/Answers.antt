@@ -49,12 +49,11 @@ returns-then-n-eq0 c =
     (negative-zero _ _ (signed (goal.at.returns-then-n-eq0 c).Else-not-is_at) _ c.run-to.ensures _ c.if-n-eq0.true (told number_answer c.number.ensures c.in-Is.is), tt)
 
 pub returns-then-n-eq2147483648 : goal.returns-then-n-eq2147483648
-returns-then-n-eq2147483648 c =
-    (
-      negative-is _ _ (signed (goal.at.returns-then-n-eq2147483648 c).Else-not-is_at) _ c.run-to.ensures _ _ c.if-n-eq0.false (rw c.if-n-eq2147483648.true)
-          (told number_answer c.number.ensures c.in-Is.is),
-      tt,
-    )
+returns-then-n-eq2147483648 c = (
+  negative-is _ _ (signed (goal.at.returns-then-n-eq2147483648 c).Else-not-is_at) _ c.run-to.ensures _ _ c.if-n-eq0.false (rw c.if-n-eq2147483648.true)
+      (told number_answer c.number.ensures c.in-Is.is),
+  tt,
+)
 
 pub overflow_cast-result : goal.overflow_cast-result
 overflow_cast-result c = cast_fits _ (below c)
@@ -63,9 +62,8 @@ pub overflow_sub-result : goal.overflow_sub-result
 overflow_sub-result c = minus-fits _ c.if-n-eq0.false (below c)
 
 pub returns : goal.returns
-returns c =
-    (
-      negative-is _ _ (signed (goal.at.returns c).Else-not-is_at) _ c.run-to.ensures _ _ c.if-n-eq0.false (minus_is _ c.if-n-eq0.false (below c))
-          (told number_answer c.number.ensures c.in-Is.is),
-      tt,
-    )
+returns c = (
+  negative-is _ _ (signed (goal.at.returns c).Else-not-is_at) _ c.run-to.ensures _ _ c.if-n-eq0.false (minus_is _ c.if-n-eq0.false (below c))
+      (told number_answer c.number.ensures c.in-Is.is),
+  tt,
+)

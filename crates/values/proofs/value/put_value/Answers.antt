@@ -4,7 +4,6 @@ use borrow.Author.Rules.{rules}
 use lib.ListN.{length, length-take, length-drop}
 use Rattle.model.specs.Base.{text}
 use Rattle.model.specs.Values.{quoted, value_text}
-use Rattle.values.proofs.Wholes.{i32-kept}
 use Rattle.values.proofs.value.put_value.Goals.{In-Text}
 use Rattle.values.proofs.value.put_value.Goals as goal
 

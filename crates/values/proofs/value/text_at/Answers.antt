@@ -13,8 +13,7 @@ overflow_sub-result c =
     omega (arith, (string-inside _ _ _ c.between.ensures (search rules) _ c.in-At.is).0)
 
 pub returns : goal.returns
-returns c =
-    (
-      string-is _ _ _ c.between.ensures _ c.in-At.is,
-      string-inside _ _ _ c.between.ensures (search rules) _ c.in-At.is,
-    )
+returns c = (
+  string-is _ _ _ c.between.ensures _ c.in-At.is,
+  string-inside _ _ _ c.between.ensures (search rules) _ c.in-At.is,
+)
