@@ -13,6 +13,7 @@ use masks::{has_bit, none_from};
 use sessions::{LOGINS, number, state_at};
 
 // Whether a push by the user at i reaches the one at j. The mask is asked first: it is at hand, and a login state is then looked up only where it counts.
+#[tactic(auto, unfolding(crate::specs::Receivers::receives))]
 fn receives(logins: &[u16; LOGINS], i: usize, mask: u32, j: usize) -> bool
     requires { j < max_users }
     ensures { result ≡ receives (logins_in logins.now) i mask j }

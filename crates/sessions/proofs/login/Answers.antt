@@ -2,6 +2,7 @@ use mathlib.Core.Path.{◌≡◌, ap}
 use mathlib.Core.Bool.{Bool, true}
 use native.Mathlib.Omega.{arith}
 use borrow.Author.Tests.{not-true, not-false}
+use borrow.Author.Rules.{rules}
 use Rattle.sessions.specs.Logins.{logins_in, state_of}
 use Rattle.sessions.specs.declared.LoginReply.TheVariants.{Session}
 use Rattle.sessions.proofs.States.{found_below, login-unknown, wrong-key, has-session, logins-ended, login-enters}
@@ -52,7 +53,7 @@ returns-then-state-ge-MAX_LOGINS c =
     let name = c.name_from.ensures in
     let right = not-false _ c.if-not-same_bytes.false-raw in
     let state = c.state_at-state.ensures in
-    let decided = logins-ended _ _ c.in-At.is c.find_user.ensures ls _ name c.same_bytes.ensures right state c.if-state.false c.if-state-ge-MAX_LOGINS.true in
+    let decided = logins-ended _ _ c.in-At.is c.find_user.ensures ls _ name c.same_bytes.ensures right state (search rules) c.if-state-ge-MAX_LOGINS.true in
     record { answers = rw decided; leaves = rw decided; numbers = rw decided }
 
 pub put_state-requires : goal.put_state-requires
