@@ -8,22 +8,6 @@ use Rattle.lexical.proofs.slice.is_behind.Goals as goal
 
 -- Short texts byte by byte; else the first words decide, or the second ones, which begin within the first or behind them, or what stands behind these.
 
--- LOST goal slice-bounds-word-start
--- part-word-start : tie.Need-slice-bounds-word-start
--- part-word-start c = search rules
-
--- LOST goal slice-bounds-word-end
--- part-word-end : tie.Need-slice-bounds-word-end
--- part-word-end c = search rules
-
--- LOST goal slice-bounds-word-start-2
--- part-word-start-2 : tie.Need-slice-bounds-word-start-2
--- part-word-start-2 c = search rules
-
--- LOST goal slice-bounds-word-end-2
--- part-word-end-2 : tie.Need-slice-bounds-word-end-2
--- part-word-end-2 c = search rules
-
 pub returns-then-x-y : goal.returns-then-x-y
 unfolding order_key
 returns-then-x-y c =

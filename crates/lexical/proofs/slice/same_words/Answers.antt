@@ -11,22 +11,6 @@ use Rattle.lexical.proofs.slice.same_words.Goals as goal
 
 -- The last words differ, or the first words decide, which reach as far as these.
 
--- LOST goal slice-bounds-word-start
--- part-word-start : tie.Need-slice-bounds-word-start
--- part-word-start c = search rules
-
--- LOST goal slice-bounds-word-end
--- part-word-end : tie.Need-slice-bounds-word-end
--- part-word-end c = search rules
-
--- LOST goal slice-bounds-word-start-2
--- part-word-start-2 : tie.Need-slice-bounds-word-start-2
--- part-word-start-2 c = search rules
-
--- LOST goal slice-bounds-word-end-2
--- part-word-end-2 : tie.Need-slice-bounds-word-end-2
--- part-word-end-2 c = search rules
-
 pub returns-then-word : goal.returns-then-word
 returns-then-word c =
     let a = c.args.a.now in
