@@ -6,6 +6,9 @@ usage: tools/port_names.py [FOLDER]     at the top of the repository, or of the 
 A name is turned where specs/ or proofs/ declare it: each of its parts between dashes that begins with a small letter and has a capital behind it
 (`runEnd`, `length-upTo`), and a dash in a constructor or a field that specs/ declare (`length-is`). Names of lemmas keep their dashes. Names of src/
 that are code, strings, inputs and outputs have no such form, and stay. It prints each name that it turned, and stops where two would fall together.
+
+Two operators have a name of the library, which means the library's own in a contract: that two texts are the same is `≐` for `==`, and the choice
+`if_then_else_` of Base, which is the library's word for word, is the library's.
 """
 import os
 import re
@@ -73,9 +76,61 @@ def together(found, texts):
     return bad
 
 
+PRELUDE = "Rattle.std.specs.Prelude"
+CHOICE = "if◌then◌else◌"
+
+
+def from_library(text, ghost):
+    """The choice is brought in from the library, and not from Base."""
+    line = re.compile(r"^((?:ghost )?use Rattle\.model\.specs\.Base)\.\{([^}\n]*)\}(;?)$", re.M)
+
+    def without(m):
+        left = [w for w in m.group(2).split(", ") if w != CHOICE]
+        return f"{m.group(1)}.{{{', '.join(left)}}}{m.group(3)}" if left else ""
+
+    if not any(CHOICE in m.group(2) for m in line.finditer(text)):
+        return text
+    text = line.sub(without, text)
+    new = re.sub(r"^((?:ghost )?use " + re.escape(PRELUDE) + r"\.\{)([^}\n]*)\}", rf"\1\2, {CHOICE}}}", text, count=1, flags=re.M)
+    if new != text:
+        return new
+    word, end = ("ghost use", ";") if ghost else ("use", "")
+    return re.sub(r"^((?:ghost )?use )", f"{word} {PRELUDE}.{{{CHOICE}}}{end}\n" + r"\1", text, count=1, flags=re.M)
+
+
+def operators(path, text):
+    """The two operators of Base."""
+    if path.endswith(".antt"):
+        if path.endswith("model/specs/Base.antt"):
+            own = f"infix 5 {CHOICE}\nabbrev pub {CHOICE} : {{A : Type 0}} → Bool → A → A → A\n{CHOICE} b x y = cond b x y\n\n"
+            if own in text:
+                text = text.replace(own, "")
+                text = re.sub(r"^(use " + re.escape(PRELUDE) + r"\.\{)([^}\n]*)\}", rf"\1\2, {CHOICE}}}", text, count=1, flags=re.M)
+        text = text.replace("◌==◌", "◌≐◌")
+        text = re.sub(r"(?<=[\s(])==(?=[\s)])", "≐", text)
+        return from_library(text, False)
+    if path.endswith(".rt"):
+        text = text.replace("◌==◌", "◌≐◌")
+        text = re.sub(r"^(\s+(?:requires|ensures)\b[^\n]*)$", lambda m: m.group(1).replace(" == ", " ≐ "), text, flags=re.M)
+        return from_library(text, True)
+    if path.endswith(".edit"):
+        out, inside = [], ""
+        for l in text.split("\n"):
+            if l.startswith("file: "):
+                inside = l[6:]
+            if inside.startswith(("specs/", "proofs/")) or "≡" in l or "use " in l and "◌" in l:
+                l = l.replace("◌==◌", "◌≐◌").replace(" == ", " ≐ ")
+                if "model.specs.Base" in l:
+                    l = l.replace(f" {CHOICE},", "")
+            out.append(l)
+        return "\n".join(out)
+    return text
+
+
 def main():
     root = sys.argv[1] if len(sys.argv) > 1 else "."
     paths = list(walk(os.path.join(root, "crates"), (".antt", ".rt")))
+    edits = list(walk(os.path.join(root, "crates"), (".edit",)))
     texts = {p: read(p) for p in paths}
     found = names(root)
     for old, new in sorted(found.items()):
@@ -89,8 +144,12 @@ def main():
         print(f"falls together: {old} -> {new}", file=sys.stderr)
     if bad:
         raise SystemExit(1)
-    pattern = re.compile(f"(?<!{WORD})(" + "|".join(sorted(map(re.escape, found), key=len, reverse=True)) + f")(?!{WORD})")
-    more = list(walk(os.path.join(root, "crates"), (".edit",))) + list(walk(os.path.join(root, "docs"), (".md",))) + [os.path.join(root, "README.md")]
+    texts.update({p: read(p) for p in edits})
+    for p in texts:
+        texts[p] = operators(p, texts[p])
+    words = "|".join(sorted(map(re.escape, found), key=len, reverse=True)) or "(?!)"
+    pattern = re.compile(f"(?<!{WORD})({words})(?!{WORD})")
+    more = edits + list(walk(os.path.join(root, "docs"), (".md",))) + [os.path.join(root, "README.md")]
     for path in paths + more:
         new = pattern.sub(lambda m: found[m.group(1)], texts.get(path) or read(path))
         if new != read(path):

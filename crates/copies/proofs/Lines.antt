@@ -1,4 +1,5 @@
 -- The lines of a copy: how each is written piece by piece, and what a loop over them has left to write.
+use Rattle.std.specs.Prelude.{if◌then◌else◌}
 use Prim.Native.Nat.{ℕ, ◌+◌, ◌*◌, ◌≤◌, ◌<◌}
 use mathlib.Core.Path.{◌≡◌, refl}
 use mathlib.Core.Bool.{Bool, true, false}
@@ -7,7 +8,7 @@ use native.Mathlib.Omega.{arith}
 use lib.ListN.{length, take, drop}
 use lib.Seq.{take-take}
 use Rattle.rows.proofs.Parts.{part-part}
-use Rattle.model.specs.Base.{Bytes, text, if◌then◌else◌, keep, joined, between}
+use Rattle.model.specs.Base.{Bytes, text, keep, joined, between}
 use Rattle.model.specs.Limits.{max_rules, max_bindings}
 use Rattle.model.specs.Fields.{Fields}
 use Rattle.model.specs.SavedText.{saved}

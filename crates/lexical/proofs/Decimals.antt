@@ -1,4 +1,5 @@
 -- Reading a number digit by digit: n is the number so far, and the digits that are left decide.
+use Rattle.std.specs.Prelude.{if◌then◌else◌}
 use Prim.Native.Nat.{ℕ, ◌+◌, ◌-◌, ◌*◌, ◌≤◌, ◌<◌}
 use mathlib.Core.Path.{◌≡◌, refl, sym}
 use mathlib.Core.Option.{Option, none, some}
@@ -9,7 +10,7 @@ use lib.Dec.{leb}
 use lib.ListN.{length, get_or, drop}
 use borrow.Author.Tests.{leb-true, leb-false, le-leb, lt-leb}
 use Rattle.rows.proofs.Positions.{here, over}
-use Rattle.model.specs.Base.{Bytes, if◌then◌else◌, all, within, is_digit, worth, is_decimal, number}
+use Rattle.model.specs.Base.{Bytes, all, within, is_digit, worth, is_decimal, number}
 use Rattle.model.proofs.Lists.{by_cases, and_both, none-some}
 use Rattle.model.proofs.Reading.{some_same}
 

@@ -11,7 +11,7 @@ use lib.ListN.{length, get_or, drop, length-append, length-drop}
 use lib.Seq.{drop-append_seam, drop-drop}
 use borrow.Author.Tests.{eq-eqb, ne_eqb, eqb-true, leb-true, leb-false}
 use Rattle.rows.proofs.Positions.{here, over}
-use Rattle.model.specs.Base.{Bytes, ◌==◌, after, is_some}
+use Rattle.model.specs.Base.{Bytes, ◌≐◌, after, is_some}
 use Rattle.model.specs.Fields.{and_then, lex, by_order}
 use Rattle.model.proofs.Lists.{by_cases, never, bytes_eq, bytes-refl}
 use Rattle.model.proofs.Order.{by_three, compare-orders}
@@ -23,8 +23,8 @@ use Rattle.lexical.specs.declared.slice.Order.TheVariants.{Less, Equal, Greater}
 -- ── Whether two texts are the same ──
 module _ (a b : Bytes) where
   -- texts of which something differs
-  pub same_not : {A : Type 0} (f : Bytes → A) → (f a ≡ f b → ⊥) → (a == b) ≡ false
-  same_not f h = by_cases (a == b) (λ e. absurd (h (ap f (bytes_eq a b e)))) (λ e. e)
+  pub same_not : {A : Type 0} (f : Bytes → A) → (f a ≡ f b → ⊥) → (a ≐ b) ≡ false
+  same_not f h = by_cases (a ≐ b) (λ e. absurd (h (ap f (bytes_eq a b e)))) (λ e. e)
 
   -- from the end back: nothing is left behind the last byte, one equal byte more before what is equal, and at the start all is
   module _ (i : ℕ) where
@@ -37,7 +37,7 @@ module _ (a b : Bytes) where
         let e : i - 1 + 1 ≡ i = omega arith in
         rw (here 0 a (i - 1) (omega arith), here 0 b (i - 1) (omega arith), e, h, r)
 
-    pub same_start : i ≤ 0 → drop i a ≡ drop i b → (a == b) ≡ true
+    pub same_start : i ≤ 0 → drop i a ≡ drop i b → (a ≐ b) ≡ true
     same_start z r = let e : i ≡ 0 = omega arith in rw (rw e at r) (bytes-refl b)
 
 -- ── The order of two lists, by an order o of their elements ──

@@ -9,7 +9,7 @@ use borrow.Author.Tests.{leb-true, ltb-true, ltb-false, eqb-true, eqb-false, le-
 use lib.Dec.{leb, ltb, eqb}
 use lib.ListN.{length, get_or, drop, length-drop}
 use lib.Seq.{get_or-drop, drop-drop}
-use Rattle.model.specs.Base.{Bytes, ◌==◌}
+use Rattle.model.specs.Base.{Bytes, ◌≐◌}
 use Rattle.model.specs.Fields.{and_then, lex, order_key, by_order}
 use Rattle.model.proofs.Lists.{by_cases, and_both, bytes-refl}
 use Rattle.model.proofs.Order.{key-orders}
@@ -105,7 +105,7 @@ module _ (n : ℕ) (s t : Bytes) (p : n ≤ length s) (q : n ≤ length t) (b : 
 
   -- where both end with equal words from within the first ones on, these decide whether they are the same
   pub words_same : (at : ℕ) → at ≤ n → length s ≡ at + n → length t ≡ at + n → big_endian n (drop at s) ≡ big_endian n (drop at t)
-      → eqb (big_endian n s) (big_endian n t) ≡ (s == t)
+      → eqb (big_endian n s) (big_endian n t) ≡ (s ≐ t)
   unfolding order_key
   words_same at h l m f = by_cases (eqb (big_endian n s) (big_endian n t))
       (λ e.

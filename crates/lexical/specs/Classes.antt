@@ -1,8 +1,8 @@
 -- The byte classes by their names, and what stands between quotes.
-use Rattle.std.specs.Prelude.{ℕ, ◌+◌, ◌-◌, [], ◌∷◌, Bool, not, eqb, length, take, drop}
+use Rattle.std.specs.Prelude.{ℕ, ◌+◌, ◌-◌, [], ◌∷◌, Bool, not, eqb, length, take, drop, if◌then◌else◌}
 use Rattle.std.proofs.Math.Option.{Option, none, some}
 use Rattle.rows.specs.Positions.{run_end}
-use Rattle.model.specs.Base.{Bytes, if◌then◌else◌, ◌>>=◌, ◌>>◌, check, after, span, within, is_digit}
+use Rattle.model.specs.Base.{Bytes, ◌>>=◌, ◌>>◌, check, after, span, within, is_digit}
 use Rattle.model.specs.Names.{name_byte, plain_byte}
 use Rattle.model.specs.Values.{string_byte}
 use Rattle.model.specs.Paths.{identifier_byte}

@@ -1,7 +1,7 @@
 -- The order of slices as the code answers it, and first bytes as one number.
 use Prim.Native.Nat.{ℕ, zero, suc, ◌+◌, ◌*◌, ◌^◌, ◌<◌, Ordering}
-use Rattle.std.specs.Prelude.{Bool, true, false, ◌&&◌, ltb, leb, length, get_or, drop}
-use Rattle.model.specs.Base.{Bytes, if◌then◌else◌}
+use Rattle.std.specs.Prelude.{Bool, true, false, ◌&&◌, ltb, leb, length, get_or, drop, if◌then◌else◌}
+use Rattle.model.specs.Base.{Bytes}
 use Rattle.model.specs.Fields.{by_order}
 use Rattle.lexical.specs.declared.slice.Order.{Order}
 use Rattle.lexical.specs.declared.slice.Order.TheVariants.{Less, Equal, Greater}

@@ -2,7 +2,7 @@
 ghost use Rattle.std.specs.Prelude.{◌≡◌, true, [], ◌∷◌, length, drop};
 ghost use Prim.Native.Nat.{◌+◌, ◌≤◌, compare};
 ghost use Rattle.rows.specs.Positions.{run_end};
-ghost use Rattle.model.specs.Base.{Bytes, ◌==◌, after, is_some};
+ghost use Rattle.model.specs.Base.{Bytes, ◌≐◌, after, is_some};
 ghost use Rattle.model.specs.Fields.{lex, order_key};
 ghost use Rattle.lexical.specs.Classes.{is_not};
 ghost use Rattle.lexical.specs.Orders.{order_of, is_greater, word_bytes, big_endian, AreBytes, first_word, begins_before};
@@ -33,7 +33,7 @@ fn word(a: &[u8]) -> u64
 
 // Whether two slices are the same, byte by byte: short enough to stand in a loop. Names often begin alike, so the last bytes are compared first.
 pub fn same_bytes(a: &[u8], b: &[u8]) -> bool
-    ensures { result ≡ (a.now == b.now) }
+    ensures { result ≡ (a.now ≐ b.now) }
 {
     if a.len() != b.len() {
         return false;
@@ -51,7 +51,7 @@ pub fn same_bytes(a: &[u8], b: &[u8]) -> bool
 // Whether two slices of one length, of a word to two, are the same: their last words and their first cover them.
 fn same_words(a: &[u8], b: &[u8]) -> bool
     requires { (length a.now ≡ length b.now) × (word_bytes ≤ length a.now) × (length a.now ≤ word_bytes + word_bytes) }
-    ensures { result ≡ (a.now == b.now) }
+    ensures { result ≡ (a.now ≐ b.now) }
 {
     let last = a.len() - WORD;
     if word(&a[last..]) != word(&b[last..]) {
@@ -62,7 +62,7 @@ fn same_words(a: &[u8], b: &[u8]) -> bool
 
 // Whether two slices are the same: by words where these serve, as they do for most names.
 pub fn same(a: &[u8], b: &[u8]) -> bool
-    ensures { result ≡ (a.now == b.now) }
+    ensures { result ≡ (a.now ≐ b.now) }
 {
     let n = a.len();
     if n != b.len() {

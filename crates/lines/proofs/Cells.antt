@@ -10,7 +10,7 @@ use borrow.Author.Tests.{eq-eqb, ne_eqb}
 use Rattle.rows.specs.Rows.{up_to}
 use Rattle.rows.specs.Positions.{run, run_end}
 use Rattle.rows.proofs.Positions.{here, over, run-part, run-rest}
-use Rattle.model.specs.Base.{Bytes, any, among, ◌==◌}
+use Rattle.model.specs.Base.{Bytes, any, among, ◌≐◌}
 use Rattle.model.specs.Table.{on_first, split, under}
 use Rattle.model.proofs.Lists.{by_cases}
 use Rattle.lexical.specs.Classes.{is_not}
@@ -72,11 +72,11 @@ module _ (s : Bytes) (i : ℕ) where
 
 -- ── A name among a head's columns, of which the first from the position `at` on ends at e ──
 module _ (n s : Bytes) (at e : ℕ) (is : e ≡ run_end (is_not 0x3B) s at) where
-  pub among-here : (n == take (e - at) (drop at s)) ≡ true → among n (split (drop at s)) ≡ true
+  pub among-here : (n ≐ take (e - at) (drop at s)) ≡ true → among n (split (drop at s)) ≡ true
   unfolding among any
   among-here h = rw (split_at s at e is, h)
 
-  module _ (other : (n == take (e - at) (drop at s)) ≡ false) where
+  module _ (other : (n ≐ take (e - at) (drop at s)) ≡ false) where
     pub among-last : length s ≤ e → among n (split (drop at s)) ≡ false
     unfolding among any
     among-last h = rw (split-last s at e is h, other)
@@ -92,11 +92,11 @@ under_none [] n = refl
 under_none (h ∷ hs) n = refl
 
 module _ (n s : Bytes) (at e : ℕ) (is : e ≡ run_end (is_not 0x3B) s at) (t : Bytes) (from k : ℕ) (is₁ : k ≡ run_end (is_not 0x3B) t from) where
-  pub under-here : (take (e - at) (drop at s) == n) ≡ true → under (split (drop at s)) (split (drop from t)) n ≡ take (k - from) (drop from t)
+  pub under-here : (take (e - at) (drop at s) ≐ n) ≡ true → under (split (drop at s)) (split (drop from t)) n ≡ take (k - from) (drop from t)
   unfolding under
   under-here h = rw (split_at s at e is, split_at t from k is₁, h)
 
-  module _ (other : (take (e - at) (drop at s) == n) ≡ false) where
+  module _ (other : (take (e - at) (drop at s) ≐ n) ≡ false) where
     pub under_last : length s ≤ e → under (split (drop at s)) (split (drop from t)) n ≡ []
     unfolding under
     under_last h = rw (split-last s at e is h, split_at t from k is₁, other)

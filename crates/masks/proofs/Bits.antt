@@ -1,4 +1,5 @@
 -- Bits set, taken out and tested; the number with given bits; the lowest bit; a loop that sets bits by a test; and a number's bytes.
+use Rattle.std.specs.Prelude.{if◌then◌else◌}
 use Prim.Native.Nat.{ℕ, zero, suc, ◌+◌, ◌-◌, ◌*◌, ◌/◌, ◌%◌, ◌^◌, ◌≤◌, ◌<◌, min, max}
 use mathlib.Core.Path.{◌≡◌, refl, sym, ap, ap₂, ◌∙◌}
 use mathlib.Core.Bool.{Bool, true, false, not, ◌&&◌, ◌||◌, xor, and-true, and-false, or-false, or_comm}
@@ -12,7 +13,7 @@ use lib.Dec.{eqb, ltb}
 use lib.Pow.{pow-add, pow-lt, pow_pos, shl-shr, shr-shr, shr_lt, shl_exact}
 use mathlib.Core.List.{◌++◌}
 use lib.ListN.{length}
-use Rattle.model.specs.Base.{Bytes, if◌then◌else◌}
+use Rattle.model.specs.Base.{Bytes}
 use Rattle.model.specs.Limits.{max_users}
 use Rattle.model.proofs.Lists.{by_cases}
 use Rattle.masks.specs.Bits.{bit_at, mask_of, byte_bits, mask_bytes, little_endian, bytes_of, decode_mask, encode_mask}

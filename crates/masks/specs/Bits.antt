@@ -1,6 +1,6 @@
 -- A mask: a number with a bit for each user place, and the bytes that it is kept in.
-use Rattle.std.specs.Prelude.{ℕ, zero, suc, ◌+◌, ◌*◌, ◌/◌, ◌%◌, ◌^◌, Bool, [], ◌∷◌, eqb, get_or, drop}
-use Rattle.model.specs.Base.{Bytes, if◌then◌else◌}
+use Rattle.std.specs.Prelude.{ℕ, zero, suc, ◌+◌, ◌*◌, ◌/◌, ◌%◌, ◌^◌, Bool, [], ◌∷◌, eqb, get_or, drop, if◌then◌else◌}
+use Rattle.model.specs.Base.{Bytes}
 use Rattle.model.specs.Limits.{max_users}
 
 -- the bit of the place j is set

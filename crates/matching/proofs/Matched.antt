@@ -9,7 +9,7 @@ use lib.Seq.{take-take}
 use Rattle.layout.specs.Layout.{in_use, name_row, key_row, name_in, counted}
 use Rattle.layout.proofs.Used.{used-last, used-more, byte-empty, byte_full, row-left, rows-over}
 use Rattle.rows.proofs.Parts.{part-part}
-use Rattle.model.specs.Base.{Bytes, any, among, keep, ◌==◌}
+use Rattle.model.specs.Base.{Bytes, any, among, keep, ◌≐◌}
 use Rattle.model.specs.Fields.{Keys}
 use Rattle.model.specs.Limits.{max_bindings, max_depth}
 use Rattle.model.specs.Paths.{Step, Steps}
@@ -64,14 +64,14 @@ module _ (s : Bytes) (i : ℕ) (h : i < max_bindings) (passed : i ≤ length (in
     line-value v = rw (part-part (i * binding_row) binding_row s name_row key_row (omega arith), v)
 
     -- whether some line from there on has the value k: r says whether this one has it
-    pub value-step : (k : Bytes) {value : Bytes} {r : Bool} → value ≡ name_in (take key_row (drop (i * binding_row + name_row) s)) → r ≡ (k == value)
+    pub value-step : (k : Bytes) {value : Bytes} {r : Bool} → value ≡ name_in (take key_row (drop (i * binding_row + name_row) s)) → r ≡ (k ≐ value)
         → has_value (drop i (bindings_in s)) k ≡ (r || has_value (drop (i + 1) (bindings_in s)) k)
     unfolding has_value any
     value-step k v t = rw (line-next, line-value v, t)
 
     -- its name was compared with n: the values that are listed under n from there on
-    module _ (n : Bytes) {name : Bytes} {r : Bool} (e : name ≡ name_in (take name_row (drop (i * binding_row) s))) (t : r ≡ (name == n)) where
-      line-name : ((binding_in (line_at s i)).name == n) ≡ r
+    module _ (n : Bytes) {name : Bytes} {r : Bool} (e : name ≡ name_in (take name_row (drop (i * binding_row) s))) (t : r ≡ (name ≐ n)) where
+      line-name : ((binding_in (line_at s i)).name ≐ n) ≡ r
       unfolding binding_in
       line-name = rw (take-take name_row binding_row (drop (i * binding_row) s) (omega arith), ← e) (sym t)
 
@@ -79,12 +79,12 @@ module _ (s : Bytes) (i : ℕ) (h : i < max_bindings) (passed : i ≤ length (in
           → listed (drop i (bindings_in s)) n ≡ value ∷ listed (drop (i + 1) (bindings_in s)) n
       unfolding listed
       listed-yes y v =
-          let first = keep-yes (λ (b : Binding). b.name == n) (binding_in (line_at s i)) (drop (i + 1) (bindings_in s)) (line-name ∙ y) in
+          let first = keep-yes (λ (b : Binding). b.name ≐ n) (binding_in (line_at s i)) (drop (i + 1) (bindings_in s)) (line-name ∙ y) in
           rw (line-next, first, line-value v)
 
       pub listed-no : r ≡ false → listed (drop i (bindings_in s)) n ≡ listed (drop (i + 1) (bindings_in s)) n
       unfolding listed
-      listed-no y = rw (line-next, keep-no (λ (b : Binding). b.name == n) (binding_in (line_at s i)) (drop (i + 1) (bindings_in s)) (line-name ∙ y))
+      listed-no y = rw (line-next, keep-no (λ (b : Binding). b.name ≐ n) (binding_in (line_at s i)) (drop (i + 1) (bindings_in s)) (line-name ∙ y))
 
 -- ── What an environment step asks of the values that are listed under its name ──
 unfoldable pub asked : paths.Operator → Bytes → List Bytes → Bool
@@ -100,7 +100,7 @@ admits-listed bs paths.is_in n k = refl
 asked-absent : (o : paths.Operator) (k : Bytes) (vs : List Bytes) → among k vs ≡ false → asked o k vs ≡ false
 unfolding asked first_is among any
 asked-absent paths.equals k [] h = refl
-asked-absent paths.equals k (v ∷ vs) h = (or-neither (k == v) (among k vs) h).0
+asked-absent paths.equals k (v ∷ vs) h = (or-neither (k ≐ v) (among k vs) h).0
 asked-absent paths.is_in k vs h = h
 
 pub asked-none : (o : paths.Operator) (n k : Bytes) {bs : List Binding} → bs ≡ [] → asked o k (listed bs n) ≡ false
@@ -111,13 +111,13 @@ asked-none o n k e = rw e (asked-absent o k [] refl)
 pub admits-held : (bs : List Binding) (o : paths.Operator) (n k : Bytes) → has_value bs k ≡ false → admits bs (paths.environment o n) k ≡ false
 unfolding has_value listed among
 admits-held bs o n k h =
-    let named = keep (λ (b : Binding). b.name == n) bs in
-    let apart = all_keep _ (λ (b : Binding). b.name == n) bs (any_false (λ (b : Binding). k == b.value) bs h) in
+    let named = keep (λ (b : Binding). b.name ≐ n) bs in
+    let apart = all_keep _ (λ (b : Binding). b.name ≐ n) bs (any_false (λ (b : Binding). k ≐ b.value) bs h) in
     admits-listed bs o n k
-    ∙ asked-absent o k (listed bs n) (false-any (λ (v : Bytes). k == v) _ (all_map (λ (v : Bytes). (k == v) ≡ false) (λ (b : Binding). b.value) named apart))
+    ∙ asked-absent o k (listed bs n) (false-any (λ (v : Bytes). k ≐ v) _ (all_map (λ (v : Bytes). (k ≐ v) ≡ false) (λ (b : Binding). b.value) named apart))
 
 -- the first of them is v, and r says whether it is the key k
-module _ (k v : Bytes) {vs ws : List Bytes} (e : vs ≡ v ∷ ws) {r : Bool} (t : r ≡ (k == v)) where
+module _ (k v : Bytes) {vs ws : List Bytes} (e : vs ≡ v ∷ ws) {r : Bool} (t : r ≡ (k ≐ v)) where
   pub asked-decided : (o : paths.Operator) → decides o r ≡ true → asked o k vs ≡ r
   unfolding asked first_is among any
   asked-decided paths.equals d = rw (e, ← t)
@@ -130,10 +130,10 @@ module _ (k v : Bytes) {vs ws : List Bytes} (e : vs ≡ v ∷ ws) {r : Bool} (t 
 
 -- a line that does not decide, whether or not it has the name n, leaves the question for the lines behind it
 pub asked-later : (s n : Bytes) (i : ℕ) → i < max_bindings → i ≤ length (in_use binding_row max_bindings s) → (get_or s (i * binding_row) 0 ≡ 0 → ⊥)
-    → (o : paths.Operator) (k : Bytes) {value : Bytes} {r : Bool} → value ≡ name_in (take key_row (drop (i * binding_row + name_row) s)) → r ≡ (k == value)
+    → (o : paths.Operator) (k : Bytes) {value : Bytes} {r : Bool} → value ≡ name_in (take key_row (drop (i * binding_row + name_row) s)) → r ≡ (k ≐ value)
     → decides o r ≡ false → asked o k (listed (drop i (bindings_in s)) n) ≡ asked o k (listed (drop (i + 1) (bindings_in s)) n)
 asked-later s n i h passed f o k v t d =
-    by_cases (name_in (take name_row (drop (i * binding_row) s)) == n)
+    by_cases (name_in (take name_row (drop (i * binding_row) s)) ≐ n)
     (λ y. asked-left k _ (listed-yes s i h passed f n refl refl y v) t o d)
     (λ y. ap (asked o k) (listed-no s i h passed f n refl refl y))
 

@@ -1,6 +1,6 @@
 -- Matching in two parts: what the path alone decides, and what a user's environment lines decide after that.
 use Rattle.std.specs.Prelude.{List, [], ◌∷◌, Bool, true, false, ◌&&◌}
-use Rattle.model.specs.Base.{Bytes, any, among, ◌==◌}
+use Rattle.model.specs.Base.{Bytes, any, among, ◌≐◌}
 use Rattle.model.specs.Fields.{Keys}
 use Rattle.model.specs.Paths.{Operator, equals, is_in, Step, names, wildcard, environment, Steps}
 use Rattle.model.specs.Tables.{Binding}
@@ -31,7 +31,7 @@ asks (environment o n) = true
 
 -- some environment line has the value k
 unfoldable pub has_value : List Binding → Bytes → Bool
-has_value bs k = any (λ b. k == b.value) bs
+has_value bs k = any (λ b. k ≐ b.value) bs
 
 -- as many steps as keys, and each step passes the test with its key
 unfoldable pub paired : (Step → Bytes → Bool) → Steps → Keys → Bool

@@ -2,7 +2,7 @@
 use mathlib.Core.Path.{◌≡◌, refl, sym, ap, ◌∙◌}
 use mathlib.Core.List.{List, [], ◌∷◌}
 use mathlib.Core.Bool.{true, false, and-false, or_comm}
-use Rattle.model.specs.Base.{Bytes, any, among, ◌==◌}
+use Rattle.model.specs.Base.{Bytes, any, among, ◌≐◌}
 use Rattle.model.specs.Fields.{Keys}
 use Rattle.model.specs.Paths.{Step, names, wildcard, environment, Steps, as_steps}
 use Rattle.model.specs.Tables.{Binding}
@@ -16,13 +16,13 @@ record Shared (a b : List Bytes) : Type 0 where
   in_first : among name a ≡ true
   in_second : among name b ≡ true
 
-among-here : (n m : Bytes) (a : List Bytes) → (n == m) ≡ true → among n (m ∷ a) ≡ true
+among-here : (n m : Bytes) (a : List Bytes) → (n ≐ m) ≡ true → among n (m ∷ a) ≡ true
 unfolding among any
 among-here n m a h = rw h
 
 among_there : (n m : Bytes) (a : List Bytes) → among n a ≡ true → among n (m ∷ a) ≡ true
 unfolding among any
-among_there n m a h = or_right (n == m) _ h
+among_there n m a h = or_right (n ≐ m) _ h
 
 shared : (a b : List Bytes) → any (λ n. among n b) a ≡ true → Shared a b
 unfolding any
@@ -34,14 +34,14 @@ shared (n ∷ a) b h = by_cases (among n b)
 share : (a b : List Bytes) (n : Bytes) → among n a ≡ true → among n b ≡ true → any (λ m. among m b) a ≡ true
 unfolding among any
 share [] b n h k = never (sym h)
-share (m ∷ a) b n h k = by_cases (n == m)
+share (m ∷ a) b n h k = by_cases (n ≐ m)
     (λ e. or_left (among m b) _ (ap (λ (x : Bytes). among x b) (sym (bytes_eq n m e)) ∙ k))
     (λ e. or_right (among m b) _ (share a b n (rw e at h) k))
 
 -- ── A step that admits a key overlaps whatever overlaps the key ──
 among_one : (n k : Bytes) → among n (k ∷ []) ≡ true → n ≡ k
 unfolding among any
-among_one n k h = by_cases (n == k) (λ e. bytes_eq n k e) (λ e. never (sym (rw e at h)))
+among_one n k h = by_cases (n ≐ k) (λ e. bytes_eq n k e) (λ e. never (sym (rw e at h)))
 
 overlap-right : (u : List Binding) (s t : Step) (k : Bytes) → admits u t k ≡ true → overlap s (names (k ∷ [])) ≡ true → overlap s t ≡ true
 unfolding overlap admits

@@ -1,5 +1,6 @@
 -- What is known of a decision once it is taken: by the kind of its change, whatever word asked for it. Lines and saves are told apart here and
 -- nowhere later, but for what a set of users sends itself.
+use Rattle.std.specs.Prelude.{if◌then◌else◌}
 use Prim.Native.Nat.{ℕ, suc, ◌+◌, ◌≤◌, ◌<◌}
 use mathlib.Core.Path.{◌≡◌, refl, sym, ap}
 use mathlib.Core.Option.{Option, none, some}
@@ -8,7 +9,7 @@ use mathlib.Core.Bool.{Bool, true, false, not}
 use native.Mathlib.Omega.{arith}
 use borrow.Author.Tests.{not-false, ltb-false, leb-false, eqb-true}
 use lib.ListN.{length}
-use Rattle.model.specs.Base.{Bytes, if◌then◌else◌, first_from, is_some, ◌>>=◌}
+use Rattle.model.specs.Base.{Bytes, first_from, is_some, ◌>>=◌}
 use Rattle.model.specs.Limits.{list_room, max_logins}
 use Rattle.model.specs.Values.{Value}
 use Rattle.model.specs.Fields.{Keys, Field, holds}

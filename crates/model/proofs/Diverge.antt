@@ -4,7 +4,7 @@ use mathlib.Core.Path.{◌≡◌, refl, sym, ◌∙◌}
 use mathlib.Core.List.{List, [], ◌∷◌, ◌++◌}
 use mathlib.Core.Bool.{Bool, true, false, not, ◌||◌}
 use lib.ListN.{take}
-use Rattle.model.specs.Base.{Bytes, ◌==◌, All}
+use Rattle.model.specs.Base.{Bytes, ◌≐◌, All}
 use Rattle.model.specs.Fields.{Keys, Field, Fields, order_path, put}
 use Rattle.model.proofs.Lists.{by_cases, never, or_right, bytes_eq, bytes-refl, bytes-ne, all_append, all_take}
 use Rattle.model.proofs.Order.{by_three, put-less, put_same, put-more, all-put}
@@ -38,12 +38,12 @@ module _ {A : Type 0} where
 unfoldable pub diverge : Keys → Keys → Bool
 diverge [] q = false
 diverge (k ∷ p) [] = false
-diverge (k ∷ p) (l ∷ q) = not (k == l) || diverge p q
+diverge (k ∷ p) (l ∷ q) = not (k ≐ l) || diverge p q
 
-bytes-flip : (a b : Bytes) → (a == b) ≡ (b == a)
-bytes-flip a b = by_cases (a == b)
+bytes-flip : (a b : Bytes) → (a ≐ b) ≡ (b ≐ a)
+bytes-flip a b = by_cases (a ≐ b)
     (λ e. rw (bytes_eq a b e))
-    (λ e. by_cases (b == a) (λ f. absurd (bytes-ne a b e (sym (bytes_eq b a f)))) (λ f. e ∙ sym f))
+    (λ e. by_cases (b ≐ a) (λ f. absurd (bytes-ne a b e (sym (bytes_eq b a f)))) (λ f. e ∙ sym f))
 
 pub diverge-flip : (p q : Keys) → diverge p q ≡ diverge q p
 unfolding diverge
@@ -62,16 +62,16 @@ pub diverge-longer : (q p r : Keys) → diverge q p ≡ true → diverge q (p ++
 unfolding diverge
 diverge-longer [] p r h = h
 diverge-longer (l ∷ q) [] r h = never (sym h)
-diverge-longer (l ∷ q) (k ∷ p) r h = by_cases (l == k) (λ e. rw e (diverge-longer q p r (rw e at h))) (λ e. rw e)
+diverge-longer (l ∷ q) (k ∷ p) r h = by_cases (l ≐ k) (λ e. rw e (diverge-longer q p r (rw e at h))) (λ e. rw e)
 
 pub longer-diverge : (q p r : Keys) → diverge p q ≡ true → diverge (p ++ r) q ≡ true
 longer-diverge q p r h = diverge-flip (p ++ r) q ∙ diverge-longer q p r (diverge-flip q p ∙ h)
 
 -- two keys behind one path
-pub siblings-diverge : (p : Keys) (k l : Bytes) → (k == l) ≡ false → diverge (p ++ k ∷ []) (p ++ l ∷ []) ≡ true
+pub siblings-diverge : (p : Keys) (k l : Bytes) → (k ≐ l) ≡ false → diverge (p ++ k ∷ []) (p ++ l ∷ []) ≡ true
 unfolding diverge
 siblings-diverge [] k l h = rw h
-siblings-diverge (x ∷ p) k l h = or_right (not (x == x)) _ (siblings-diverge p k l h)
+siblings-diverge (x ∷ p) k l h = or_right (not (x ≐ x)) _ (siblings-diverge p k l h)
 
 -- a path that diverges from each of the fields
 abbrev pub DivergesFrom : Keys → Fields → Type 0

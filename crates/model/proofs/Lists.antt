@@ -8,7 +8,7 @@ use lib.Dec.{eqb}
 use lib.ListN.{length, take, set, get_or, get_elem?, replicate}
 use native.Mathlib.Omega.{arith}
 use borrow.Author.Tests.{eq-eqb, eqb-true}
-use Rattle.model.specs.Base.{Bytes, any, all, All, keep, joined, range, ◌==◌}
+use Rattle.model.specs.Base.{Bytes, any, all, All, keep, joined, range, ◌≐◌}
 use Rattle.model.specs.Refusals.{Result, refused, done, ◌>>=◌, ◌>>◌, refuse◌if◌, ◌or◌}
 
 -- ── Tests ──
@@ -96,19 +96,19 @@ or-agree none e f g h = refl
 or-agree (some a) e f g h = h a refl
 
 -- ── Texts ──
-pub bytes_eq : (a b : Bytes) → (a == b) ≡ true → a ≡ b
-unfolding ◌==◌
+pub bytes_eq : (a b : Bytes) → (a ≐ b) ≡ true → a ≡ b
+unfolding ◌≐◌
 bytes_eq [] [] h = refl
 bytes_eq [] (y ∷ t) h = never (sym h)
 bytes_eq (x ∷ s) [] h = never (sym h)
 bytes_eq (x ∷ s) (y ∷ t) h = let w = and_both _ _ h in ap₂ ◌∷◌ (eqb-true x y w.0) (bytes_eq s t w.1)
 
-pub bytes-refl : (a : Bytes) → (a == a) ≡ true
-unfolding ◌==◌
+pub bytes-refl : (a : Bytes) → (a ≐ a) ≡ true
+unfolding ◌≐◌
 bytes-refl [] = refl
 bytes-refl (x ∷ s) = rw (eq-eqb x x refl) (bytes-refl s)
 
-pub bytes-ne : (a b : Bytes) → (a == b) ≡ false → a ≡ b → ⊥
+pub bytes-ne : (a b : Bytes) → (a ≐ b) ≡ false → a ≡ b → ⊥
 bytes-ne a b h e = never (sym (bytes-refl b) ∙ rw e at h)
 
 -- ── What holds of every element ──

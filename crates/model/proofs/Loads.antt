@@ -6,7 +6,7 @@ use mathlib.Core.List.{[], ◌∷◌, ◌++◌}
 use mathlib.Core.Bool.{Bool, true, false}
 use lib.ListN.{length, length-take}
 use native.Mathlib.Omega.{arith}
-use Rattle.model.specs.Base.{Bytes, any, among, ◌==◌, ◌<|>◌}
+use Rattle.model.specs.Base.{Bytes, any, among, ◌≐◌, ◌<|>◌}
 use Rattle.model.specs.Limits.{max_fields}
 use Rattle.model.specs.Values.{Value}
 use Rattle.model.specs.Fields.{Keys, Field, Fields, value_at, put, store, field_of}
@@ -35,7 +35,7 @@ unfolding under leaf_at
 no_other v w [] [] h = refl
 no_other v w [] (l ∷ r) h = none-some h
 no_other v w (k ∷ q) [] h = none-some h
-no_other v w (k ∷ q) (l ∷ r) h = by_cases (l == k)
+no_other v w (k ∷ q) (l ∷ r) h = by_cases (l ≐ k)
     (λ e. ap₂ ◌∷◌ (bytes_eq l k e) (no_other v w q r (rw e at h)))
     (λ e. none-some (rw e at h))
 
@@ -44,21 +44,21 @@ unfolding under leaf_at
 no-members [] [] = refl
 no-members [] (l ∷ r) = refl
 no-members (k ∷ q) [] = refl
-no-members (k ∷ q) (l ∷ r) = by_cases (l == k) (λ e. rw e (no-members q r)) (λ e. rw e)
+no-members (k ∷ q) (l ∷ r) = by_cases (l ≐ k) (λ e. rw e (no-members q r)) (λ e. rw e)
 
 no_key : (m : Members) (k : Bytes) (p : Keys) → among k (keys_in m) ≡ false → leaf_under m k p ≡ none
 unfolding leaf_at keys_in among any
 no_key no_members k p h = refl
-no_key (member m l v) k p h = let (e, r) = or-neither (k == l) _ h in rw e (no_key m k p r)
+no_key (member m l v) k p h = let (e, r) = or-neither (k ≐ l) _ h in rw e (no_key m k p r)
 
 -- a member under a new key hides no leaf of the others
 new-member : (q r : Keys) (m : Members) (k : Bytes) (v : Node) (o : Option Value) → among k (keys_in m) ≡ false →
     (leaf_at (under (q ++ k ∷ []) v) r <|> (leaf_at (under q (object m)) r <|> o)) ≡ (leaf_at (under q (object (member m k v))) r <|> o)
 unfolding under leaf_at ◌<|>◌
 new-member [] [] m k v o h = refl
-new-member [] (l ∷ r) m k v o h = by_cases (l == k) (λ e. rw (e, bytes_eq l k e, no_key m k r h)) (λ e. rw e)
+new-member [] (l ∷ r) m k v o h = by_cases (l ≐ k) (λ e. rw (e, bytes_eq l k e, no_key m k r h)) (λ e. rw e)
 new-member (x ∷ q) [] m k v o h = refl
-new-member (x ∷ q) (l ∷ r) m k v o h = by_cases (l == x) (λ e. rw e (new-member q r m k v o h)) (λ e. rw e)
+new-member (x ∷ q) (l ∷ r) m k v o h = by_cases (l ≐ x) (λ e. rw e (new-member q r m k v o h)) (λ e. rw e)
 
 -- ── Room: a tree adds no more fields than it has leaves ──
 one-most : (b : Bool) → one b ≤ 1

@@ -9,7 +9,7 @@ use lib.Dec.{leb, eqb}
 use lib.ListN.{length, length-append}
 use native.Mathlib.Omega.{arith}
 use borrow.Author.Tests.{eqb-true, leb-true}
-use Rattle.model.specs.Base.{Bytes, text, all, ◌==◌, ◌>>=◌, ◌>>◌, ◌<|>◌, check, after, if_after, within, is_digit}
+use Rattle.model.specs.Base.{Bytes, text, all, ◌≐◌, ◌>>=◌, ◌>>◌, ◌<|>◌, check, after, if_after, within, is_digit}
 use Rattle.model.specs.Limits.{max_depth, max_key}
 use Rattle.model.specs.Names.{name_byte, is_name_of, is_key}
 use Rattle.model.specs.Values.{Value, valid_value, quoted, value_text, read_value}
@@ -188,7 +188,7 @@ empty-none k q t = rw (descend-skip k q t, descend-start k q t)
 
 whole-reads : (k : Bytes) (q : Keys) (t : Bytes) (m : Members) → read_object max_depth (123 ∷ (descend (k ∷ q) ++ t)) ≡ some (m, []) →
     tree_of (123 ∷ (descend (k ∷ q) ++ t)) ≡ some m
-unfolding tree_of ◌>>=◌ ◌>>◌ ◌<|>◌ ◌==◌ check
+unfolding tree_of ◌>>=◌ ◌>>◌ ◌<|>◌ ◌≐◌ check
 whole-reads k q t m h = rw (skip-none (123 ∷ (descend (k ∷ q) ++ t)) (unfold is_blank in refl), empty-none k q t, h)
 
 pub tree-reads : (p : Keys) (t : Bytes) (n : Node) → 1 ≤ length p → read_node max_depth (start p ++ t) ≡ some (n, []) →

@@ -7,7 +7,7 @@ use lib.Dec.{leb}
 use lib.ListN.{length, length-append}
 use native.Mathlib.Omega.{arith}
 use borrow.Author.Tests.{leb-true}
-use Rattle.model.specs.Base.{Bytes, text, all, ◌==◌, within, All}
+use Rattle.model.specs.Base.{Bytes, text, all, ◌≐◌, within, All}
 use Rattle.model.specs.Limits.{max_depth, max_key}
 use Rattle.model.specs.Names.{name_byte, is_name_of, is_key}
 use Rattle.model.specs.Values.{Value, valid_value, quoted, value_text}
@@ -45,7 +45,7 @@ unfolding turn text
 turn-length d [] q g h = omega arith
 turn-length d (k ∷ p) [] g h = omega arith
 turn-length zero (k ∷ p) (l ∷ q) g h = absurd h
-turn-length (suc d) (k ∷ p) (l ∷ q) g h = by_cases (k == l)
+turn-length (suc d) (k ∷ p) (l ∷ q) g h = by_cases (k ≐ l)
     (λ e. rw e (omega (arith, turn-length d p q g.1 h.1)))
     (λ e. rw (e, length-append) (omega (arith, ascend-length d p g.1, descend-length (suc d) (l ∷ q) h)))
 

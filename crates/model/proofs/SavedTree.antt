@@ -8,7 +8,7 @@ use mathlib.Core.Bool.{true, false}
 use lib.ListN.{length, length-append}
 use lib.Seq.{take_all}
 use native.Mathlib.Omega.{arith}
-use Rattle.model.specs.Base.{Bytes, text, among, ◌==◌, ◌>>=◌, within, is_digit, All}
+use Rattle.model.specs.Base.{Bytes, text, among, ◌≐◌, ◌>>=◌, within, is_digit, All}
 use Rattle.model.specs.Limits.{max_depth, max_fields}
 use Rattle.model.specs.Values.{Value, valid_value, value_text}
 use Rattle.model.specs.Fields.{Keys, Field, Fields, and_then, lex, order_key, order_path, put, store, field_of}
@@ -24,14 +24,14 @@ use Rattle.model.proofs.OpenObjects.{text-plain, leaf-reads, closes, descend-lon
 
 -- ── The order of two paths, by their first keys ──
 module _ (k l : Bytes) (p q : Keys) (b : Before (k ∷ p) (l ∷ q)) where
-  before_here : (k == l) ≡ false → order_key k l ≡ Ordering.lt
+  before_here : (k ≐ l) ≡ false → order_key k l ≡ Ordering.lt
   unfolding order_path lex and_then
   before_here e = by_three (order_key k l)
       (λ h. h)
       (λ h. absurd (bytes-ne k l e (key-orders.same k l h)))
       (λ h. lt-gt (sym (rw h at b)))
 
-  before-within : (k == l) ≡ true → Before p q
+  before-within : (k ≐ l) ≡ true → Before p q
   unfolding order_path lex and_then
   before-within e = rw (bytes_eq k l e, key-orders.self l) at b
 
@@ -47,8 +47,8 @@ not-among : (k : Bytes) (l : List Bytes) → Under k l → among k l ≡ false
 unfolding among
 not-among k l h = false-any _ l (all-imp _ _ apart l h)
   where
-    apart : (j : Bytes) → order_key j k ≡ Ordering.lt → (k == j) ≡ false
-    apart j e = by_cases (k == j) (λ h. lt-eq (sym e ∙ rw (bytes_eq k j h) (key-orders.self j))) (λ h. h)
+    apart : (j : Bytes) → order_key j k ≡ Ordering.lt → (k ≐ j) ≡ false
+    apart j e = by_cases (k ≐ j) (λ h. lt-eq (sym e ∙ rw (bytes_eq k j h) (key-orders.self j))) (λ h. h)
 
 -- n bytes more are within the bound, and the keys before are before the key that is being read
 record Good (n : ℕ) (g : Frame) : Type 0 where
@@ -90,11 +90,11 @@ enter {g = g} {q = q} a e h f c = record {
   counts = rw (a.counts, c) (omega arith);
 }
 
-turn-within : (k l : Bytes) (p q : Keys) → (k == l) ≡ true → turn (k ∷ p) (l ∷ q) ≡ turn p q
+turn-within : (k l : Bytes) (p q : Keys) → (k ≐ l) ≡ true → turn (k ∷ p) (l ∷ q) ≡ turn p q
 unfolding turn
 turn-within k l p q e = rw e
 
-turn-here : (k l : Bytes) (p q : Keys) (t : Bytes) → (k == l) ≡ false →
+turn-here : (k l : Bytes) (p q : Keys) (t : Bytes) → (k ≐ l) ≡ false →
     turn (k ∷ p) (l ∷ q) ++ t ≡ ascend p ++ (44 ∷ (descend (l ∷ q) ++ t))
 unfolding turn text
 turn-here k l p q t e = rw e (append_assoc (ascend p) (44 ∷ descend (l ∷ q)) t)
@@ -129,7 +129,7 @@ module _ (w : Value) (s : Bytes) (valid : valid_value w ≡ true) (ends : Ends s
 
   module _ (d : ℕ) (g : Frame) (gs : Frames) (v : Node) (l : Bytes) (q : Keys)
       (good : All (Good (length (turn (keys (g ∷ gs)) (l ∷ q) ++ rest))) (g ∷ gs)) where
-    next-within : (g.key == l) ≡ true → (All (Good (length (turn (keys gs) q ++ rest))) gs → Next d gs v q) → Next (suc d) (g ∷ gs) v (l ∷ q)
+    next-within : (g.key ≐ l) ≡ true → (All (Good (length (turn (keys gs) q ++ rest))) gs → Next d gs v q) → Next (suc d) (g ∷ gs) v (l ∷ q)
     unfolding resume around store_node count_in
     next-within e f =
         let a = f (subst (λ (t : Bytes). All (Good (length (t ++ rest))) gs) (turn-within g.key l (keys gs) q e) good.1) in
@@ -137,7 +137,7 @@ module _ (w : Value) (s : Bytes) (valid : valid_value w ≡ true) (ends : Ends s
         let c : Good (length s) g = good-less (omega (arith, rest-length)) good.0 in
         rw (turn-within g.key l (keys gs) q e, ← bytes_eq g.key l e) (enter {g = g} a refl c (λ p fs. refl) refl)
 
-    next_here : (g.key == l) ≡ false → order_key g.key l ≡ Ordering.lt → twice_in v ≡ false → Fits d (keys gs) →
+    next_here : (g.key ≐ l) ≡ false → order_key g.key l ≡ Ordering.lt → twice_in v ≡ false → Fits d (keys gs) →
         Fits (suc d) (l ∷ q) → Next (suc d) (g ∷ gs) v (l ∷ q)
     unfolding around store_node count_in keys_in twice
     next_here e o t i h =
@@ -155,7 +155,7 @@ module _ (w : Value) (s : Bytes) (valid : valid_value w ≡ true) (ends : Ends s
   turns d [] v q a b i h t g = never (sym a)
   turns d (f ∷ gs) v [] a b i h t g = never (sym a)
   turns zero (f ∷ gs) v (l ∷ q) a b i h t g = absurd i
-  turns (suc d) (f ∷ gs) v (l ∷ q) a b i h t g = by_cases (f.key == l)
+  turns (suc d) (f ∷ gs) v (l ∷ q) a b i h t g = by_cases (f.key ≐ l)
       (λ e. next-within d f gs v l q g e (turns d gs v q (rw e at a) (before-within _ _ _ _ b e) i.1 h.1 t))
       (λ e. next_here d f gs v l q g e (before_here _ _ _ _ b e) t i.1 h)
 
@@ -178,7 +178,7 @@ turn-ends : (p q : Keys) (r : Bytes) → diverge p q ≡ true → Ends (turn p q
 unfolding diverge
 turn-ends [] q r h = never (sym h)
 turn-ends (k ∷ p) [] r h = never (sym h)
-turn-ends (k ∷ p) (l ∷ q) r h = by_cases (k == l)
+turn-ends (k ∷ p) (l ∷ q) r h = by_cases (k ≐ l)
     (λ e. rw (turn-within k l p q e) (turn-ends p q r (rw e at h)))
     (λ e. rw (turn-here k l p q r e) (ascend-ends p _ (unfold is_digit within is_blank in (refl, refl))))
 

@@ -1,4 +1,5 @@
 -- Sessions in a run (02, 1): a number is answered once, and is open exactly from the login that answers it to the LOGOUT that closes it.
+use Rattle.std.specs.Prelude.{if◌then◌else◌}
 use Prim.Native.Nat.{ℕ, suc, ◌+◌, ◌*◌, ◌≤◌}
 use mathlib.Core.Path.{◌≡◌, refl, sym, ap, ◌∙◌}
 use mathlib.Core.Option.{Option, none, some}
@@ -8,7 +9,7 @@ use lib.Dec.{leb, ltb, eqb}
 use lib.ListN.{length, take}
 use native.Mathlib.Omega.{arith}
 use borrow.Author.Tests.{eqb-true, eqb-false, eq-eqb, ne_eqb}
-use Rattle.model.specs.Base.{Bytes, if◌then◌else◌, any, keep, range, All}
+use Rattle.model.specs.Base.{Bytes, any, keep, range, All}
 use Rattle.model.specs.Limits.{list_room, per_user, max_logins}
 use Rattle.model.specs.Fields.{Field}
 use Rattle.model.specs.Refusals.{Result, refused, ◌>>=◌, ◌>>◌, refuse◌if◌, ◌or◌}

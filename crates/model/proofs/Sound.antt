@@ -8,7 +8,7 @@ use mathlib.Core.Bool.{Bool, true, false, not, ◌&&◌}
 use lib.ListN.{length, replicate, length-replicate}
 use native.Mathlib.Omega.{arith}
 use borrow.Author.Tests.{not-false}
-use Rattle.model.specs.Base.{Bytes, any, among, is_some, ◌==◌, All}
+use Rattle.model.specs.Base.{Bytes, any, among, is_some, ◌≐◌, All}
 use Rattle.model.specs.Limits.{max_users, max_logins}
 use Rattle.model.specs.Fields.{Keys, Field, Fields, order_path, value_at, holds, put}
 use Rattle.model.specs.RecordText.{count}
@@ -115,11 +115,11 @@ diverging-held f (g ∷ gs) h d = by_three (order_path f.path g.path)
     rw (put-more f g gs e) (all_held (λ q. diverge g.path q ≡ true) f gs k d.0, diverging-held f gs k d.1))
 
 -- ── Two paths are the same, diverge, or conflict ──
-key-overlap : (k l : Bytes) → (k == l) ≡ true → overlap (names (k ∷ [])) (names (l ∷ [])) ≡ true
+key-overlap : (k l : Bytes) → (k ≐ l) ≡ true → overlap (names (k ∷ [])) (names (l ∷ [])) ≡ true
 unfolding overlap any among
 key-overlap k l e = rw e
 
-above-key : (k l : Bytes) (p q : Keys) → (k == l) ≡ true → is_above (as_steps (k ∷ p)) (as_steps (l ∷ q)) ≡ is_above (as_steps p) (as_steps q)
+above-key : (k l : Bytes) (p q : Keys) → (k ≐ l) ≡ true → is_above (as_steps (k ∷ p)) (as_steps (l ∷ q)) ≡ is_above (as_steps p) (as_steps q)
 unfolding is_above as_steps
 above-key k l p q e = rw (key-overlap k l e)
 
@@ -129,8 +129,8 @@ same-or-conflict [] [] h n = absurd (n refl)
 same-or-conflict [] (l ∷ q) h n = unfold is_above as_steps in refl
 same-or-conflict (k ∷ p) [] h n = unfold is_above as_steps in refl
 same-or-conflict (k ∷ p) (l ∷ q) h n =
-    let w = or-neither (not (k == l)) (diverge p q) (unfold diverge in h) in
-    let e : (k == l) ≡ true = not-false _ w.0 in
+    let w = or-neither (not (k ≐ l)) (diverge p q) (unfold diverge in h) in
+    let e : (k ≐ l) ≡ true = not-false _ w.0 in
     let z : k ≡ l = bytes_eq k l e in
     rw (above-key k l p q e, above-key l k q p (rw z (bytes-refl l))) (same-or-conflict p q w.1 (λ x. n (ap₂ ◌∷◌ z x)))
 

@@ -9,7 +9,7 @@ use lib.ListN.{length, get_or, replicate}
 use native.Mathlib.Omega.{arith}
 use native.Mathlib.Nat.{zero-add}
 use borrow.Author.Tests.{eqb-true, eq-eqb, le-ltb}
-use Rattle.model.specs.Base.{Bytes, any, keep, sum, range, ◌==◌, All}
+use Rattle.model.specs.Base.{Bytes, any, keep, sum, range, ◌≐◌, All}
 use Rattle.model.specs.Limits.{max_fields, max_users, max_text, max_copy, list_room, per_user}
 use Rattle.model.specs.Fields.{Keys, Field, Fields, order_path, by_order, value_at, field_of}
 use Rattle.model.specs.RecordText.{Members, tree_of, store_members}
@@ -117,7 +117,7 @@ diverge-begins : (p q : Keys) → diverge p q ≡ true → begins p q ≡ false
 unfolding diverge begins
 diverge-begins [] q h = never (sym h)
 diverge-begins (k ∷ p) [] h = refl
-diverge-begins (k ∷ p) (l ∷ q) h = by_cases (k == l) (λ e. rw e (diverge-begins p q (rw e at h))) (λ e. rw e)
+diverge-begins (k ∷ p) (l ∷ q) h = by_cases (k ≐ l) (λ e. rw e (diverge-begins p q (rw e at h))) (λ e. rw e)
 
 neither : (p q : Keys) → diverge p q ≡ true → (begins p q || begins q p) ≡ false
 neither p q e = rw (diverge-begins p q e, diverge-begins q p (diverge-flip q p ∙ e))

@@ -8,7 +8,7 @@ use lib.ListN.{length, length-append}
 use native.Mathlib.Nat.{add-zero, zero-add, add_assoc}
 use native.Mathlib.Omega.{arith}
 use borrow.Author.Tests.{le-leb}
-use Rattle.model.specs.Base.{Bytes, any, among, is_some, ◌==◌, ◌>>=◌, ◌<|>◌, within, All}
+use Rattle.model.specs.Base.{Bytes, any, among, is_some, ◌≐◌, ◌>>=◌, ◌<|>◌, within, All}
 use Rattle.model.specs.Limits.{max_fields, max_depth}
 use Rattle.model.specs.Names.{is_key}
 use Rattle.model.specs.Values.{Value, valid_value, read_value}
@@ -132,7 +132,7 @@ from-members q m p fs h d = members-keep (λ p v. diverge q p ≡ true) (Diverge
 siblings : (p : Keys) (k : Bytes) (m : Members) → among k (keys_in m) ≡ false → Each (λ l v. diverge (p ++ k ∷ []) (p ++ l ∷ []) ≡ true) m
 unfolding keys_in among any
 siblings p k no_members h = tt
-siblings p k (member m l v) h = let (e, r) = or-neither (k == l) _ h in (siblings p k m r, siblings-diverge p k l e)
+siblings p k (member m l v) h = let (e, r) = or-neither (k ≐ l) _ h in (siblings p k m r, siblings-diverge p k l e)
 
 -- each leaf is stored at a path that diverges from what was stored before: what such a store keeps, with one more counted, holds of the tree
 module _ (Q : ℕ → Fields → Type 0) (new : (f : Field) (n : ℕ) (fs : Fields) → DivergesFrom f.path fs → Q n fs → Q (n + 1) (store f fs)) where

@@ -1,5 +1,6 @@
 -- Condition 3. What a set of users gets in a run is what the server itself gives when it is run on what the set sees of the start and on the
 -- set's own sequence. Nothing else of the run comes in, so two runs with one sight of the start and one sequence give the same.
+use Rattle.std.specs.Prelude.{if◌then◌else◌}
 use Prim.Native.Nat.{ℕ, zero, suc, ◌≤◌}
 use mathlib.Core.Path.{◌≡◌, refl, sym, ap, ap₂, ◌∙◌}
 use mathlib.Core.Option.{Option, none, some}
@@ -12,7 +13,7 @@ use native.Mathlib.Omega.{arith}
 use native.Mathlib.Nat.{le_trans}
 use borrow.Author.Tests.{not-false, eqb-true}
 use Rattle.model.specs.Base
-use Rattle.model.specs.Base.{Bytes, if◌then◌else◌, keep, joined, range, is_some}
+use Rattle.model.specs.Base.{Bytes, keep, joined, range, is_some}
 use Rattle.model.specs.Limits.{max_fields, max_logins}
 use Rattle.model.specs.Values.{Value}
 use Rattle.model.specs.Fields.{Keys, Field, holds, put, store, field_of}

@@ -1,5 +1,5 @@
 -- Bytes, lists and readers: what every later file is written with.
-use Rattle.std.specs.Prelude.{ℕ, zero, suc, ◌+◌, ◌-◌, ◌*◌, ◌/◌, ◌%◌, List, [], ◌∷◌, ◌++◌, Bool, true, false, cond, ◌&&◌, ◌||◌, leb, ltb, eqb}
+use Rattle.std.specs.Prelude.{ℕ, zero, suc, ◌+◌, ◌-◌, ◌*◌, ◌/◌, ◌%◌, List, [], ◌∷◌, ◌++◌, Bool, true, false, cond, ◌&&◌, ◌||◌, leb, ltb, eqb, if◌then◌else◌}
 use Prim.Native.String.{String}
 use Prim.Native.String as S
 use Prim.Native.Char.{code}
@@ -13,10 +13,6 @@ Bytes = List ℕ
 unfoldable pub text : String → Bytes
 text S.[] = []
 text (S.◌∷◌ c s) = code c ∷ text s
-
-infix 5 if◌then◌else◌
-abbrev pub if◌then◌else◌ : {A : Type 0} → Bool → A → A → A
-if◌then◌else◌ b x y = cond b x y
 
 -- ── Lists ──
 unfoldable pub any : {A : Type 0} → (A → Bool) → List A → Bool
@@ -60,15 +56,15 @@ is_some none = false
 is_some (some a) = true
 
 -- two texts are the same
-infix 40 ◌==◌
-unfoldable pub ◌==◌ : Bytes → Bytes → Bool
-[] == [] = true
-[] == (y ∷ t) = false
-(x ∷ s) == [] = false
-(x ∷ s) == (y ∷ t) = let r = s == t in eqb x y && r
+infix 40 ◌≐◌
+unfoldable pub ◌≐◌ : Bytes → Bytes → Bool
+[] ≐ [] = true
+[] ≐ (y ∷ t) = false
+(x ∷ s) ≐ [] = false
+(x ∷ s) ≐ (y ∷ t) = let r = s ≐ t in eqb x y && r
 
 unfoldable pub among : Bytes → List Bytes → Bool
-among n l = any (λ m. n == m) l
+among n l = any (λ m. n ≐ m) l
 
 -- texts, with a text between each two
 unfoldable pub between : Bytes → List Bytes → Bytes
@@ -153,5 +149,5 @@ decimal n = digits (suc n) n
 
 -- every definition of this file at once, for a proof by computation
 unfoldable pub Opened : Unit {0}
-unfolding text any all keep joined sum range first_from is_some ◌==◌ among between ◌>>=◌ ◌>>◌ ◌<|>◌ check after if_after in_front span cut within is_digit worth is_decimal number digits decimal
+unfolding text any all keep joined sum range first_from is_some ◌≐◌ among between ◌>>=◌ ◌>>◌ ◌<|>◌ check after if_after in_front span cut within is_digit worth is_decimal number digits decimal
 Opened = tt

@@ -1,7 +1,7 @@
 -- Document 01's worked cases, and some of document 02's requests, as texts, runs and answers; proofs/CasesHold proves what is said of them.
 use Rattle.std.specs.Prelude.{ℕ, List, [], ◌∷◌, ◌++◌, map, Bool, true, false, ◌&&◌, eqb, set, replicate}
 use Prim.Native.String.{String}
-use Rattle.model.specs.Base.{Bytes, text, ◌==◌}
+use Rattle.model.specs.Base.{Bytes, text, ◌≐◌}
 use Rattle.model.specs.Limits.{list_room}
 use Rattle.model.specs.Fields.{order_key, by_order}
 use Rattle.model.specs.Refusals.{Result, refused, done}
@@ -106,7 +106,7 @@ is_fault n l (done s) = false
 
 unfoldable pub passes : Case → Bool
 unfolding numbers asked club_state is_fault rows club_texts
-passes (replies earlier s room a) = numbers (outcome (end club_state (map (asked room) earlier)) (asked room s)).answer == numbers a
+passes (replies earlier s room a) = numbers (outcome (end club_state (map (asked room) earlier)) (asked room s)).answer ≐ numbers a
 passes (sorts a b) = by_order (order_key (text a) (text b)) true false false
 passes (refuses ls n l) = is_fault n l (opened (record {
   users_text = club_texts.users_text;

@@ -1,7 +1,7 @@
 -- The claims about runs, by the club's three conditions, each with its sentence: of document 01, of document 02 where a request is named, or of the conditions where it says so.
-use Rattle.std.specs.Prelude.{ℕ, suc, ◌+◌, ◌*◌, ◌≤◌, ◌<◌, ◌≡◌, List, [], ◌∷◌, map, Bool, true, false, not, ◌&&◌, ◌||◌, leb, ltb, eqb, length, take, replicate}
+use Rattle.std.specs.Prelude.{ℕ, suc, ◌+◌, ◌*◌, ◌≤◌, ◌<◌, ◌≡◌, List, [], ◌∷◌, map, Bool, true, false, not, ◌&&◌, ◌||◌, leb, ltb, eqb, length, take, replicate, if◌then◌else◌}
 use Rattle.std.proofs.Math.Option.{some}
-use Rattle.model.specs.Base.{Bytes, if◌then◌else◌, any, all, keep, joined, sum, range, ◌==◌}
+use Rattle.model.specs.Base.{Bytes, any, all, keep, joined, sum, range, ◌≐◌}
 use Rattle.model.specs.Limits.{max_fields, max_copy, list_room, per_user, max_logins}
 use Rattle.model.specs.Values.{Value, value_of, value_text, valid_value}
 use Rattle.model.specs.Fields.{Keys, valid_keys, Field, Fields, order_path, by_order, value_at, holds, put, store}
@@ -114,7 +114,7 @@ is_sorted (f ∷ (g ∷ gs)) = let r = is_sorted (g ∷ gs) in by_order (order_p
 unfoldable pub begins : Keys → Keys → Bool
 begins [] q = true
 begins (k ∷ p) [] = false
-begins (k ∷ p) (l ∷ q) = let r = begins p q in k == l && r
+begins (k ∷ p) (l ∷ q) = let r = begins p q in k ≐ l && r
 
 -- "No field's path is the beginning of another's"
 unfoldable pub none_begins : Fields → Bool

@@ -1,7 +1,7 @@
 -- Document 01, "Opening the four texts": the state, and how an opening makes it, all or nothing.
-use Rattle.std.specs.Prelude.{ℕ, suc, ◌+◌, List, [], ◌∷◌, ◌++◌, map, Bool, false, ◌&&◌, ltb, length, replicate}
+use Rattle.std.specs.Prelude.{ℕ, suc, ◌+◌, List, [], ◌∷◌, ◌++◌, map, Bool, false, ◌&&◌, ltb, length, replicate, if◌then◌else◌}
 use Rattle.std.proofs.Math.Option.{Option, none, some}
-use Rattle.model.specs.Base.{Bytes, if◌then◌else◌, any, sum}
+use Rattle.model.specs.Base.{Bytes, any, sum}
 use Rattle.model.specs.Limits.{max_fields, max_users, max_text}
 use Rattle.model.specs.Fields.{Fields}
 use Rattle.model.specs.RecordText.{tree_of, twice, count, store_members}

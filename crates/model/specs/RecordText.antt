@@ -1,7 +1,7 @@
 -- Document 01, "Record, names and paths": record text. A text is read to a tree of objects; what is asked of it is asked of the tree.
-use Rattle.std.specs.Prelude.{ℕ, zero, suc, ◌+◌, List, [], ◌∷◌, ◌++◌, Bool, false, ◌||◌, eqb, length}
+use Rattle.std.specs.Prelude.{ℕ, zero, suc, ◌+◌, List, [], ◌∷◌, ◌++◌, Bool, false, ◌||◌, eqb, length, if◌then◌else◌}
 use Rattle.std.proofs.Math.Option.{Option, none, some}
-use Rattle.model.specs.Base.{Bytes, text, if◌then◌else◌, among, ◌==◌, ◌>>=◌, ◌>>◌, ◌<|>◌, check, after, if_after, span}
+use Rattle.model.specs.Base.{Bytes, text, among, ◌≐◌, ◌>>=◌, ◌>>◌, ◌<|>◌, check, after, if_after, span}
 use Rattle.model.specs.Limits.{max_depth}
 use Rattle.model.specs.Names.{name_byte, is_key}
 use Rattle.model.specs.Values.{Value, read_value}
@@ -75,7 +75,7 @@ read_empty s = do
 unfoldable pub tree_of : Bytes → Option Members
 tree_of s = do
   (m, r) ← read_empty (skip s) <|> read_object max_depth (skip s)
-  check (r == [])
+  check (r ≐ [])
   some m
 
 -- ── What is asked of a tree ──
@@ -113,7 +113,7 @@ unfoldable mutual
 
   pub leaf_under : Members → Bytes → Keys → Option Value
   leaf_under no_members k p = none
-  leaf_under (member m l v) k p = let r = leaf_under m k p in if k == l then leaf_at v p else r
+  leaf_under (member m l v) k p = let r = leaf_under m k p in if k ≐ l then leaf_at v p else r
 
 -- the fields of a tree that stands at the path p, put into fields in the order of the text
 unfoldable mutual

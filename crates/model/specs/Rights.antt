@@ -1,6 +1,6 @@
 -- Document 01, "Tables": what a user may read and write, and which paths conflict.
 use Rattle.std.specs.Prelude.{List, [], ◌∷◌, map, Bool, true, false, ◌&&◌, ◌||◌}
-use Rattle.model.specs.Base.{Bytes, any, keep, among, ◌==◌}
+use Rattle.model.specs.Base.{Bytes, any, keep, among, ◌≐◌}
 use Rattle.model.specs.Fields.{Keys}
 use Rattle.model.specs.Paths.{equals, is_in, Step, names, wildcard, environment, Steps}
 use Rattle.model.specs.Tables.{Binding, User, Access, READ, WRITE, Rule, every_role}
@@ -9,11 +9,11 @@ use Rattle.model.specs.Tables
 -- ── Matching ──
 -- "Lines with one user and name form a list": of a user's environment lines, the values under the name n
 unfoldable pub listed : List Binding → Bytes → List Bytes
-listed bs n = map (λ b. b.value) (keep (λ b. b.name == n) bs)
+listed bs n = map (λ b. b.value) (keep (λ b. b.name ≐ n) bs)
 
 unfoldable pub first_is : Bytes → List Bytes → Bool
 first_is k [] = false
-first_is k (v ∷ vs) = k == v
+first_is k (v ∷ vs) = k ≐ v
 
 -- "a list that contains it, any key, `=~n` where it equals the first listed value of n for that user, `in~n` where it is any of them"
 unfoldable pub admits : List Binding → Step → Bytes → Bool
@@ -39,7 +39,7 @@ is_write r = is_writing r.access
 
 -- a line of the user's role or of every role
 unfoldable pub is_for : User → Rule → Bool
-is_for u r = r.role == u.role || r.role == every_role
+is_for u r = r.role ≐ u.role || r.role ≐ every_role
 
 -- "may read it if a line of either kind does"
 unfoldable pub may_read : List Rule → User → Keys → Bool

@@ -1,7 +1,7 @@
 -- Document 01, "Request lines", last part; document 02, request 1: a run, what a set of users sends in it, and what it gets. A set is given by a test of the user index.
-use Rattle.std.specs.Prelude.{ℕ, List, [], ◌∷◌, ◌++◌, map, Bool, true, false, not, ◌&&◌, eqb, length, take}
+use Rattle.std.specs.Prelude.{ℕ, List, [], ◌∷◌, ◌++◌, map, Bool, true, false, not, ◌&&◌, eqb, length, take, if◌then◌else◌}
 use Rattle.std.proofs.Math.Option.{Option, none, some}
-use Rattle.model.specs.Base.{Bytes, text, if◌then◌else◌, any, keep, joined, range, is_some, between, ◌>>=◌, decimal}
+use Rattle.model.specs.Base.{Bytes, text, any, keep, joined, range, is_some, between, ◌>>=◌, decimal}
 use Rattle.model.specs.Values.{Value, value_text}
 use Rattle.model.specs.Fields.{Keys, Field, Fields, holds}
 use Rattle.model.specs.Paths.{keys_text}

@@ -1,6 +1,6 @@
 -- Document 01, "Record, names and paths": "Saved text has this order and no blanks; `{}` is the empty record."
-use Rattle.std.specs.Prelude.{[], ◌∷◌, ◌++◌, map}
-use Rattle.model.specs.Base.{Bytes, text, if◌then◌else◌, ◌==◌}
+use Rattle.std.specs.Prelude.{[], ◌∷◌, ◌++◌, map, if◌then◌else◌}
+use Rattle.model.specs.Base.{Bytes, text, ◌≐◌}
 use Rattle.model.specs.Values.{quoted, value_text}
 use Rattle.model.specs.Fields.{Keys, Fields}
 use Rattle.model.specs.Fields
@@ -19,7 +19,7 @@ ascend p = map (λ k. 0x7D) p
 unfoldable pub turn : Keys → Keys → Bytes
 turn [] q = []
 turn (k ∷ p) [] = []
-turn (k ∷ p) (l ∷ q) = let r = turn p q in if k == l then r else ascend p ++ (text "," ++ descend (l ∷ q))
+turn (k ∷ p) (l ∷ q) = let r = turn p q in if k ≐ l then r else ascend p ++ (text "," ++ descend (l ∷ q))
 
 -- what stands behind the value of the field at p, to the text's end
 unfoldable pub saved_behind : Keys → Fields → Bytes

@@ -1,7 +1,7 @@
 -- Document 01, "Request lines": LOGIN, GET, PUSH and save; document 02, request 1: LOGOUT. What is decided only reads the state; what is decided then changes it.
-use Rattle.std.specs.Prelude.{ℕ, suc, ◌+◌, ◌*◌, ◌/◌, ◌%◌, List, [], ◌∷◌, ◌++◌, map, Bool, true, false, not, ◌&&◌, leb, ltb, eqb, length, drop, set, get_or}
+use Rattle.std.specs.Prelude.{ℕ, suc, ◌+◌, ◌*◌, ◌/◌, ◌%◌, List, [], ◌∷◌, ◌++◌, map, Bool, true, false, not, ◌&&◌, leb, ltb, eqb, length, drop, set, get_or, if◌then◌else◌}
 use Rattle.std.proofs.Math.Option.{Option, none, some}
-use Rattle.model.specs.Base.{Bytes, text, if◌then◌else◌, keep, joined, range, between, ◌==◌}
+use Rattle.model.specs.Base.{Bytes, text, keep, joined, range, between, ◌≐◌}
 use Rattle.model.specs.Limits.{per_user, list_room, max_logins}
 use Rattle.model.specs.Values.{Value}
 use Rattle.model.specs.Fields.{Keys, Field, Fields, holds, store, field_of}
@@ -104,7 +104,7 @@ entered a = record { logins = suc a.logins; is_open = true; created = a.created 
 unfoldable pub decide_login : State → Bytes → Bytes → Result ℕ Change
 decide_login s n k = do
   (i, u) ← user_named n s.tables.users or 12
-  refuse 12 if not (u.key == k)
+  refuse 12 if not (u.key ≐ k)
   refuse 13 if (login_at s i).is_open
   refuse 18 if leb max_logins (login_at s i).logins
   done (sets_login i (entered (login_at s i)))

@@ -1,6 +1,6 @@
 -- Document 01, "Tables": one reader for the three tables. A table is the names of its columns and what a line of values adds to what was read above it.
-use Rattle.std.specs.Prelude.{ℕ, suc, List, [], ◌∷◌, Bool, not, ◌&&◌, eqb, length}
-use Rattle.model.specs.Base.{Bytes, if◌then◌else◌, all, among, ◌==◌}
+use Rattle.std.specs.Prelude.{ℕ, suc, List, [], ◌∷◌, Bool, not, ◌&&◌, eqb, length, if◌then◌else◌}
+use Rattle.model.specs.Base.{Bytes, all, among, ◌≐◌}
 use Rattle.model.specs.Refusals.{Result, refused, done, ◌>>=◌, ◌>>◌, refuse◌if◌}
 use Rattle.model.specs.Base
 use Rattle.model.specs.Refusals
@@ -39,7 +39,7 @@ split (x ∷ s) = let r = split s in if eqb x 0x3B then [] ∷ r else on_first x
 unfoldable pub under : List Bytes → List Bytes → Bytes → Bytes
 under [] vs n = []
 under (h ∷ hs) [] n = []
-under (h ∷ hs) (v ∷ vs) n = let r = under hs vs n in if h == n then v else r
+under (h ∷ hs) (v ∷ vs) n = let r = under hs vs n in if h ≐ n then v else r
 
 unfoldable pub same_length : {A B : Type 0} → List A → List B → Bool
 same_length xs ys = eqb (length xs) (length ys)

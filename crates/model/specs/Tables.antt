@@ -1,8 +1,8 @@
 -- Document 01, "Tables": users, environments and policy.
-use Rattle.std.specs.Prelude.{ℕ, List, [], ◌∷◌, ◌++◌, Bool, not, ◌&&◌, leb, length, set}
+use Rattle.std.specs.Prelude.{ℕ, List, [], ◌∷◌, ◌++◌, Bool, not, ◌&&◌, leb, length, set, if◌then◌else◌}
 use Rattle.std.proofs.Math.Option.{Option, none, some}
 use Rattle.std.proofs.Math.ListN.{get_elem?}
-use Rattle.model.specs.Base.{Bytes, text, if◌then◌else◌, any, first_from, ◌==◌, number}
+use Rattle.model.specs.Base.{Bytes, text, any, first_from, ◌≐◌, number}
 use Rattle.model.specs.Limits.{max_users, max_quota, max_bindings, max_rules}
 use Rattle.model.specs.Names.{is_name, is_key, is_plain}
 use Rattle.model.specs.Paths.{Steps, steps_of}
@@ -43,7 +43,7 @@ unfoldable pub user_at : List User → ℕ → Option User
 user_at us i = get_elem? us i
 
 unfoldable pub user_named : Bytes → List User → Option (ℕ × User)
-user_named n us = first_from 0 (λ u. u.name == n) us
+user_named n us = first_from 0 (λ u. u.name ≐ n) us
 
 -- "The role `*` is every role"
 unfoldable pub every_role : Bytes
@@ -56,9 +56,9 @@ users_table = record {
   columns = text "user" ∷ text "role" ∷ text "key" ∷ text "allowance" ∷ [];
   row = λ val us. do
     refuse 2 if not (is_name (val (text "user")) && is_name (val (text "role")) && is_name (val (text "key")))
-    refuse 2 if val (text "role") == every_role
+    refuse 2 if val (text "role") ≐ every_role
     quota ← number max_quota (val (text "allowance")) or 2
-    refuse 6 if any (λ u. u.name == val (text "user")) us
+    refuse 6 if any (λ u. u.name ≐ val (text "user")) us
     refuse 4 if leb max_users (length us)
     let u : User = record { name = val (text "user"); role = val (text "role"); key = val (text "key"); quota = quota; environment = [] }
     done (us ++ u ∷ []);
@@ -66,7 +66,7 @@ users_table = record {
 
 -- ── "Environments: `user`, `name`, `value`. Name plain, value a name. .. At most 16 lines a user" ──
 unfoldable pub same_binding : Binding → Binding → Bool
-same_binding a b = a.name == b.name && a.value == b.value
+same_binding a b = a.name ≐ b.name && a.value ≐ b.value
 
 unfoldable pub bound : User → Binding → User
 bound u b = record { name = u.name; role = u.role; key = u.key; quota = u.quota; environment = u.environment ++ b ∷ [] }
@@ -87,7 +87,7 @@ environments_table = record {
 -- ── "Policy: `role`, `access`, `path`. At most 64" ──
 -- "access is `READ` or `WRITE`"
 unfoldable pub access_of : Bytes → Option Access
-access_of s = if s == text "READ" then some READ else if s == text "WRITE" then some WRITE else none
+access_of s = if s ≐ text "READ" then some READ else if s ≐ text "WRITE" then some WRITE else none
 
 unfoldable pub policy_table : Table (List Rule)
 policy_table = record {

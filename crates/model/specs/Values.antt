@@ -1,7 +1,7 @@
 -- Document 01, "Record, names and paths": the values that a field may have, read and spelled.
-use Rattle.std.specs.Prelude.{ℕ, suc, ◌-◌, [], ◌++◌, Bool, true, false, not, ◌&&◌, ◌||◌, leb, eqb, length, ℤ, pos, negsuc}
+use Rattle.std.specs.Prelude.{ℕ, suc, ◌-◌, [], ◌++◌, Bool, true, false, not, ◌&&◌, ◌||◌, leb, eqb, length, ℤ, pos, negsuc, if◌then◌else◌}
 use Rattle.std.proofs.Math.Option.{Option, some}
-use Rattle.model.specs.Base.{Bytes, text, if◌then◌else◌, all, ◌==◌, ◌>>=◌, ◌>>◌, ◌<|>◌, check, after, span, within, is_digit, is_decimal, worth, decimal}
+use Rattle.model.specs.Base.{Bytes, text, all, ◌≐◌, ◌>>=◌, ◌>>◌, ◌<|>◌, check, after, span, within, is_digit, is_decimal, worth, decimal}
 use Rattle.model.specs.Limits.{max_string, max_positive, max_negative}
 use Rattle.model.specs.Names
 
@@ -57,7 +57,7 @@ read_value s = read_truth s <|> read_string s <|> read_pos s <|> read_neg s
 unfoldable pub value_of : Bytes → Option Value
 value_of s = do
   (v, r) ← read_value s
-  check (r == [])
+  check (r ≐ [])
   some v
 
 -- ── Its one spelling ──

@@ -1,6 +1,6 @@
 -- Document 01's numbers for each answer.
-use Rattle.std.specs.Prelude.{ℕ, ◌≡◌, ltb, length}
-use Rattle.model.specs.Base.{Bytes, if◌then◌else◌}
+use Rattle.std.specs.Prelude.{ℕ, ◌≡◌, ltb, length, if◌then◌else◌}
+use Rattle.model.specs.Base.{Bytes}
 use Rattle.model.specs.Limits.{max_text}
 use Rattle.model.specs.Refusals.{Result, refused, done}
 use Rattle.model.specs.Opening.{State, Texts, Fault, fault, opened, after_opening}

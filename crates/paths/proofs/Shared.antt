@@ -5,7 +5,7 @@ use mathlib.Core.Bool.{Bool, true, false}
 use native.Mathlib.Nat.{add-zero}
 use native.Mathlib.Omega.{arith}
 use lib.ListN.{get_or, take, drop}
-use Rattle.model.specs.Base.{Bytes, ◌==◌}
+use Rattle.model.specs.Base.{Bytes, ◌≐◌}
 use Rattle.model.specs.Limits.{max_depth}
 use Rattle.layout.specs.Layout.{name_in, key_row}
 use Rattle.layout.proofs.Counts.{counted_step, counted-over}
@@ -26,7 +26,7 @@ module _ (a b : Bytes) (i : ℕ) where
 
   -- x and y are the keys at i, and r says whether they are the same
   module _ {x y : Bytes} {r : Bool} (p : i < min (get_or a 0 0) max_depth) (q : i < min (get_or b 0 0) max_depth)
-      (e : x ≡ name_in (take key_row (drop (i * key_row + 1) a))) (f : y ≡ name_in (take key_row (drop (i * key_row + 1) b))) (is : r ≡ (x == y)) where
+      (e : x ≡ name_in (take key_row (drop (i * key_row + 1) a))) (f : y ≡ name_in (take key_row (drop (i * key_row + 1) b))) (is : r ≡ (x ≐ y)) where
     pub shared_step : r ≡ true → shared_from i a b ≡ shared_from (i + 1) a b
     unfolding path_in shared
     shared_step t = rw (counted_step name_in key_row max_depth a i p, counted_step name_in key_row max_depth b i q, ← e, ← f, ← is, t) (omega arith)

@@ -1,4 +1,5 @@
 -- A path that is the whole text, whatever its steps are: what a loop that reads it has left at a position.
+use Rattle.std.specs.Prelude.{if◌then◌else◌}
 use Prim.Native.Nat.{ℕ, zero, suc, ◌-◌, ◌≤◌, ◌<◌}
 use mathlib.Core.Path.{◌≡◌, refl, ◌∙◌}
 use mathlib.Core.Bool.{true, false}
@@ -9,7 +10,7 @@ use lib.Dec.{leb, ltb}
 use lib.ListN.{length, drop, length-append}
 use Rattle.rows.specs.Positions.{Reader, Reads}
 use Rattle.rows.proofs.Positions.{here, over}
-use Rattle.model.specs.Base.{Bytes, text, is_some, if◌then◌else◌, ◌>>=◌, ◌>>◌, check, after}
+use Rattle.model.specs.Base.{Bytes, text, is_some, ◌>>=◌, ◌>>◌, check, after}
 use Rattle.model.specs.Limits.{max_depth}
 use Rattle.model.specs.Paths.{read_all, read_path}
 use Rattle.model.proofs.Lists.{by_cases}

@@ -1,7 +1,7 @@
 -- What an answer of a key or a path says, and what two paths share.
-use Rattle.std.specs.Prelude.{ℕ, suc, ◌+◌, ◌-◌, [], ◌∷◌, take, drop}
+use Rattle.std.specs.Prelude.{ℕ, suc, ◌+◌, ◌-◌, [], ◌∷◌, take, drop, if◌then◌else◌}
 use Rattle.std.proofs.Math.Option.{Option, none, some}
-use Rattle.model.specs.Base.{Bytes, if◌then◌else◌, ◌==◌}
+use Rattle.model.specs.Base.{Bytes, ◌≐◌}
 use Rattle.model.specs.Fields.{Keys}
 use Rattle.lexical.specs.declared.class.End.{End}
 use Rattle.lexical.specs.declared.class.End.TheVariants.{At, Bad}
@@ -20,4 +20,4 @@ path_answer r = if r.ok then some (path_in r.slot) else none
 unfoldable pub shared : Keys → Keys → ℕ
 shared [] q = 0
 shared (k ∷ p) [] = 0
-shared (k ∷ p) (l ∷ q) = let r = suc (shared p q) in if k == l then r else 0
+shared (k ∷ p) (l ∷ q) = let r = suc (shared p q) in if k ≐ l then r else 0

@@ -1,4 +1,5 @@
 -- Tokens of record text by positions: what a reader reads, with the blanks behind it.
+use Rattle.std.specs.Prelude.{if◌then◌else◌}
 use Prim.Native.Nat.{ℕ, suc, ◌+◌, ◌-◌, ◌≤◌, ◌<◌}
 use mathlib.Core.Path.{◌≡◌, refl, sym, ap, ◌∙◌}
 use mathlib.Core.Option.{Option, none, some}
@@ -10,7 +11,7 @@ use lib.Dec.{eqb}
 use lib.ListN.{length, get_or, take, drop, length-drop}
 use Rattle.rows.specs.Positions.{Reader, Reads, behind, placed, run_end, LeavesEnd}
 use Rattle.rows.proofs.Positions.{here, over, run-within, placed-reads, placed-none, none-placed, reads-placed}
-use Rattle.model.specs.Base.{Bytes, text, if◌then◌else◌, ◌>>=◌, ◌>>◌, check, after, span}
+use Rattle.model.specs.Base.{Bytes, text, ◌>>=◌, ◌>>◌, check, after, span}
 use Rattle.model.specs.Names.{name_byte, is_key}
 use Rattle.model.specs.Values.{read_value}
 use Rattle.model.specs.Paths.{read_quoted}

@@ -9,7 +9,7 @@ use lib.Dec.{eqb}
 use lib.ListN.{length, get_or, take, drop, length-drop}
 use lib.Seq.{drop-drop, length-take-le, take-append-add}
 use Rattle.rows.proofs.Positions.{here, over}
-use Rattle.model.specs.Base.{Bytes, any, all, among, is_some, after, within, ◌==◌}
+use Rattle.model.specs.Base.{Bytes, any, all, among, is_some, after, within, ◌≐◌}
 use Rattle.model.specs.Names.{name_byte}
 use Rattle.model.specs.RecordText.{Node, Members, no_members, member, keys_in}
 use Rattle.model.proofs.Lists.{by_cases, never, and_both}
@@ -47,8 +47,8 @@ no-quote : (x : ℕ) → name_byte x ≡ true → x ≡ 0x22 → ⊥
 unfolding name_byte within
 no-quote x h e = never (sym h ∙ rw e)
 
-same_key : (k b r : Bytes) → all name_byte k ≡ true → all name_byte b ≡ true → is_some (after (k ++ 0x22 ∷ []) (b ++ 0x22 ∷ r)) ≡ (k == b)
-unfolding after all is_some ◌==◌
+same_key : (k b r : Bytes) → all name_byte k ≡ true → all name_byte b ≡ true → is_some (after (k ++ 0x22 ∷ []) (b ++ 0x22 ∷ r)) ≡ (k ≐ b)
+unfolding after all is_some ◌≐◌
 same_key [] [] r p q = refl
 same_key [] (y ∷ b) r p q = rw (ne_eqb 0x22 y (λ e. no-quote y (and_both (name_byte y) _ q).0 (sym e)))
 same_key (x ∷ k) [] r p q = rw (ne_eqb x 0x22 (no-quote x (and_both (name_byte x) _ p).0))

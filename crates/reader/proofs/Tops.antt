@@ -7,7 +7,7 @@ use native.Mathlib.Omega.{arith}
 use lib.ListN.{length, drop}
 use Rattle.rows.specs.Positions.{Reads, placed, run_end, LeavesEnd}
 use Rattle.rows.proofs.Positions.{here, over}
-use Rattle.model.specs.Base.{Bytes, text, ◌==◌, ◌>>=◌, ◌>>◌, ◌<|>◌, check}
+use Rattle.model.specs.Base.{Bytes, text, ◌≐◌, ◌>>=◌, ◌>>◌, ◌<|>◌, check}
 use Rattle.model.specs.Limits.{max_depth}
 use Rattle.model.specs.RecordText.{Members, no_members, is_blank, token, read_object, read_empty, tree_of}
 use Rattle.lexical.proofs.Readers.{leaves-or, leaves-some}
@@ -43,7 +43,7 @@ leaves-top = leaves-or _ (read_object max_depth)
 
 -- ── The whole text ──
 module _ (s : Bytes) (at : ℕ) (is : at ≡ run_end is_blank s 0) where
-  tree : tree_of s ≡ (read_top (drop at s) >>= λ t. check (t.1 == []) >> some t.0)
+  tree : tree_of s ≡ (read_top (drop at s) >>= λ t. check (t.1 ≐ []) >> some t.0)
   unfolding tree_of read_top
   tree = rw (skip_at s 0 at is)
 
@@ -54,9 +54,9 @@ module _ (s : Bytes) (at : ℕ) (is : at ≡ run_end is_blank s 0) where
   -- text stands behind the object, or the text ends with it
   module _ (m : Members) (e : ℕ) (r : Reads read_top s at m e) where
     pub tree-behind : (e ≡ length s → ⊥) → tree_of s ≡ none
-    unfolding ◌>>=◌ ◌>>◌ check ◌==◌
+    unfolding ◌>>=◌ ◌>>◌ check ◌≐◌
     tree-behind f = tree ∙ rw (r.is, here 0 s e (omega (arith, r.to, f)))
 
     pub tree_is : e ≡ length s → tree_of s ≡ some m
-    unfolding ◌>>=◌ ◌>>◌ check ◌==◌
+    unfolding ◌>>=◌ ◌>>◌ check ◌≐◌
     tree_is h = tree ∙ rw (r.is, over s e (omega arith))

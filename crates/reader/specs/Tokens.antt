@@ -1,8 +1,8 @@
 -- Tokens of record text: their readers, and what the answers say.
-use Rattle.std.specs.Prelude.{ℕ, ◌+◌, ◌-◌, ◌≤◌, ◌<◌, ◌≡◌, Bool, ◌||◌, [], ◌∷◌, eqb, length, take, drop}
+use Rattle.std.specs.Prelude.{ℕ, ◌+◌, ◌-◌, ◌≤◌, ◌<◌, ◌≡◌, Bool, ◌||◌, [], ◌∷◌, eqb, length, take, drop, if◌then◌else◌}
 use Rattle.std.proofs.Math.Option.{Option, none, some}
 use Rattle.rows.specs.Positions.{Reader}
-use Rattle.model.specs.Base.{Bytes, text, if◌then◌else◌, ◌>>=◌, ◌<|>◌}
+use Rattle.model.specs.Base.{Bytes, text, ◌>>=◌, ◌<|>◌}
 use Rattle.model.specs.Limits.{max_depth}
 use Rattle.model.specs.Values.{Value, read_value}
 use Rattle.model.specs.RecordText.{Members, skip, token, read_key, read_object, read_empty}

@@ -1,7 +1,7 @@
 -- Where the search for a path ends, and what is stored of a slot.
-use Rattle.std.specs.Prelude.{ℕ, suc, ◌≤◌, ◌≡◌, List, [], ◌∷◌, ltb, length, take, drop, set}
+use Rattle.std.specs.Prelude.{ℕ, suc, ◌≤◌, ◌≡◌, List, [], ◌∷◌, ltb, length, take, drop, set, if◌then◌else◌}
 use Rattle.rows.specs.Rows.{insert_at}
-use Rattle.model.specs.Base.{Bytes, if◌then◌else◌}
+use Rattle.model.specs.Base.{Bytes}
 use Rattle.model.specs.Limits.{max_fields}
 use Rattle.model.specs.Values.{Value}
 use Rattle.model.specs.Fields.{Keys, Field, Fields, order_path, by_order, store, field_of}

@@ -1,4 +1,5 @@
 -- Request lines by positions: what the tests of a line say of the request that is read.
+use Rattle.std.specs.Prelude.{if◌then◌else◌}
 use Prim.Native.Nat.{ℕ, ◌+◌, ◌-◌, ◌≤◌, ◌<◌}
 use mathlib.Core.Path.{◌≡◌, sym, ap, ◌∙◌}
 use mathlib.Core.Bool.{Bool, ◌&&◌}
@@ -8,7 +9,7 @@ use native.Mathlib.Omega.{arith}
 use lib.ListN.{length, take, drop}
 use Rattle.rows.specs.Positions.{placed, run_end}
 use Rattle.rows.proofs.Positions.{here, over, run-within}
-use Rattle.model.specs.Base.{Bytes, text, if◌then◌else◌, ◌>>=◌, ◌>>◌, ◌==◌, check, between, after, number}
+use Rattle.model.specs.Base.{Bytes, text, ◌>>=◌, ◌>>◌, ◌≐◌, check, between, after, number}
 use Rattle.model.specs.Limits.{max_session}
 use Rattle.model.specs.Names.{is_name}
 use Rattle.model.specs.Values.{Value, read_value, value_of}
@@ -143,11 +144,11 @@ module _ (s : Bytes) (at : ℕ) (r : ValueAt) (answer : value_answer s r ≡ pla
 
   module _ (h : at ≤ length s) (v : Scalar) (e : ℕ) (i : r ≡ value.At v e) where
     pub whole-more : (e ≡ length s → ⊥) → value_of (drop at s) ≡ none
-    unfolding value_of ◌>>=◌ ◌>>◌ check ◌==◌
+    unfolding value_of ◌>>=◌ ◌>>◌ check ◌≐◌
     whole-more f =
         let w = value-reads s at r answer h v e i in
         rw (w.is, here 0 s e (omega (arith, w.to, f)))
 
     pub whole_is : e ≡ length s → value_of (drop at s) ≡ some (value_in s v)
-    unfolding value_of ◌>>=◌ ◌>>◌ check ◌==◌
+    unfolding value_of ◌>>=◌ ◌>>◌ check ◌≐◌
     whole_is f = rw ((value-reads s at r answer h v e i).is, over s e (omega arith))

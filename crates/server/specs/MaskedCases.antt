@@ -2,7 +2,7 @@
 -- The places: ann 0, bob 1, cy 2, so their bits count 1, 2 and 4. The fields in their order: e7 cv 1, e7 cv 29, e7 name, e7 note, e9 cv 1, e9 name.
 use Rattle.std.specs.Prelude.{ℕ, List, [], ◌∷◌, map, Bool, ◌&&◌, take, replicate}
 use Prim.Native.String.{String}
-use Rattle.model.specs.Base.{◌==◌}
+use Rattle.model.specs.Base.{◌≐◌}
 use Rattle.model.specs.Opening.{State}
 use Rattle.model.specs.Serving.{over}
 use Rattle.model.specs.Runs.{end}
@@ -45,8 +45,8 @@ unfoldable pub passes : Case → Bool
 unfolding all_in
 passes (pushes s ms l reached left) =
     let e = effect_by_masks s ms (asked 0 l) in
-    (take e.outcome.told e.outcome.list == reached) && (e.masks == left)
-passes (copies ms fields) = (effect_by_masks all_in ms (asked 200 "GET;65537")).outcome.buffer ==
+    (take e.outcome.told e.outcome.list ≐ reached) && (e.masks ≐ left)
+passes (copies ms fields) = (effect_by_masks all_in ms (asked 200 "GET;65537")).outcome.buffer ≐
     over
     (rows ("role;access;path" ∷ "driver;READ;$[*]['name']" ∷ "driver;READ;$[*]['cv']['1','29']" ∷ "name;value" ∷ fields ∷ []))
     (replicate 200 0)

@@ -1,4 +1,5 @@
 -- The login states in memory: the one at an index, one written, what a login is decided to be, and whether a number is an open session's.
+use Rattle.std.specs.Prelude.{if◌then◌else◌}
 use Prim.Native.Nat.{ℕ, suc, ◌+◌, ◌*◌, ◌≤◌, ◌<◌}
 use mathlib.Core.Path.{◌≡◌, refl, sym, ap, ap₂, ◌∙◌}
 use mathlib.Core.Bool.{Bool, true, false, not, ◌&&◌}
@@ -15,7 +16,7 @@ use lib.Seq.{sets, sets-eq, drop-drop}
 use Rattle.rows.specs.Rows.{rows, replaced, written}
 use Rattle.rows.proofs.Rows.{length-rows, row-at, rows-set, map-set, get_d_map}
 use Rattle.rows.proofs.Parts.{part_at, part-part}
-use Rattle.model.specs.Base.{Bytes, if◌then◌else◌, first_from, ◌==◌}
+use Rattle.model.specs.Base.{Bytes, first_from, ◌≐◌}
 use Rattle.model.specs.Limits.{max_users, max_logins}
 use Rattle.model.specs.Refusals.{refused, done, ◌>>=◌, ◌>>◌, refuse◌if◌, ◌or◌}
 use Rattle.model.specs.Tables.{User, user_at, user_named}
@@ -135,7 +136,7 @@ module _ (s n : Bytes) {o : UserAt} {i : ℕ} (at : o ≡ At i) (found : o ≡ u
       e ∙ rw q
 
   -- ── A login of that user, whose key was compared with k ──
-  module _ (ls : List LoginState) (k : Bytes) {key : Bytes} {r : Bool} (is : key ≡ name_in (take name_row (drop (i * user_row + key_at) s))) (same : r ≡ (key == k)) where
+  module _ (ls : List LoginState) (k : Bytes) {key : Bytes} {r : Bool} (is : key ≡ name_in (take name_row (drop (i * user_row + key_at) s))) (same : r ≡ (key ≐ k)) where
     -- the comparison stands for the key's
     login-is : login_decided (users_in s) ls n k
         ≡ ((refuse 12 if not r) >> ((refuse 13 if (get_or ls i empty_login).is_open)

@@ -8,7 +8,7 @@ use borrow.Author.Tests.{eqb-true, eqb-false, ltb-true, ltb-false}
 use lib.Dec.{eqb, ltb}
 use lib.ListN.{length, get_or, take, drop, set, replicate, get_or-replicate, length-replicate, length-set}
 use lib.Seq.{get_or-set_same, get_or-set_other}
-use Rattle.model.specs.Base.{Bytes, ◌==◌}
+use Rattle.model.specs.Base.{Bytes, ◌≐◌}
 use Rattle.model.specs.Limits.{max_depth, max_users}
 use Rattle.model.specs.Fields.{Keys}
 use Rattle.model.specs.Paths.{Steps, wildcard}
@@ -75,8 +75,8 @@ shared-key : (p q : Keys) (j : ℕ) → j < shared p q → get_or p j [] ≡ get
 unfolding shared
 shared-key [] q j h = absurd (omega arith)
 shared-key (k ∷ p) [] j h = absurd (omega arith)
-shared-key (k ∷ p) (l ∷ q) zero h = by_cases (k == l) (λ e. bytes_eq k l e) (λ e. absurd (omega (arith, rw e at h)))
-shared-key (k ∷ p) (l ∷ q) (suc j) h = by_cases (k == l) (λ e. shared-key p q j (omega (arith, rw e at h))) (λ e. absurd (omega (arith, rw e at h)))
+shared-key (k ∷ p) (l ∷ q) zero h = by_cases (k ≐ l) (λ e. bytes_eq k l e) (λ e. absurd (omega (arith, rw e at h)))
+shared-key (k ∷ p) (l ∷ q) (suc j) h = by_cases (k ≐ l) (λ e. shared-key p q j (omega (arith, rw e at h))) (λ e. absurd (omega (arith, rw e at h)))
 
 -- what is known was known before, and of those below i only the first n are
 pub record KeptFirst (n : ℕ) (before : List ℕ) (i : ℕ) (found : List ℕ) : Type 0 where

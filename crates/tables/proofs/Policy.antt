@@ -1,4 +1,5 @@
 -- The lines of a policy in memory: what a loop over their rows has left to ask at each.
+use Rattle.std.specs.Prelude.{if◌then◌else◌}
 use Prim.Native.Nat.{ℕ, suc, ◌+◌, ◌*◌, ◌-◌, ◌≤◌, ◌<◌}
 use mathlib.Core.Path.{◌≡◌}
 use mathlib.Core.Bool.{Bool, ◌&&◌, ◌||◌}
@@ -6,7 +7,7 @@ use mathlib.Core.Option.{some}
 use mathlib.Core.List.{[], ◌∷◌}
 use native.Mathlib.Omega.{arith}
 use lib.ListN.{length, take, drop}
-use Rattle.model.specs.Base.{Bytes, if◌then◌else◌, any}
+use Rattle.model.specs.Base.{Bytes, any}
 use Rattle.model.specs.Limits.{max_rules}
 use Rattle.model.specs.Paths.{Steps}
 use Rattle.model.specs.Tables.{Rule}

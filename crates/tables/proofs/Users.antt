@@ -1,4 +1,5 @@
 -- The users in memory: the user at an index, and what a search through the rows has left at each.
+use Rattle.std.specs.Prelude.{if◌then◌else◌}
 use Prim.Native.Nat.{ℕ, ◌+◌, ◌*◌, ◌≤◌, ◌<◌}
 use mathlib.Core.Path.{◌≡◌, refl}
 use mathlib.Core.Bool.{Bool}
@@ -12,7 +13,7 @@ use Rattle.layout.specs.Layout.{in_use, table, name_row, name_in}
 use Rattle.rows.proofs.Rows.{rows_take}
 use Rattle.rows.proofs.Parts.{part_at}
 use Rattle.rows.proofs.Positions.{elem-left}
-use Rattle.model.specs.Base.{Bytes, if◌then◌else◌, first_from, ◌==◌}
+use Rattle.model.specs.Base.{Bytes, first_from, ◌≐◌}
 use Rattle.model.specs.Limits.{max_users}
 use Rattle.model.specs.Tables.{User, user_at}
 use Rattle.tables.specs.Memory.{user_row, users_bytes, quota_at, user_in, users_in}
@@ -52,7 +53,7 @@ user-below s k h = rw length-table at h
 
 -- ── The search for the name n, from the user i on ──
 abbrev pub named_from : Bytes → Bytes → ℕ → Option (ℕ × User)
-named_from n s i = first_from i (λ (u : User). u.name == n) (drop i (users_in s))
+named_from n s i = first_from i (λ (u : User). u.name ≐ n) (drop i (users_in s))
 
 module _ (n s : Bytes) (i : ℕ) where
   pub named-over : length (in_use user_row max_users s) ≤ i → named_from n s i ≡ none
@@ -69,7 +70,7 @@ module _ (n s : Bytes) (i : ℕ) where
       named_more = used-more user_row max_users s i below passed refl (byte_full user_row max_users s i (omega arith) f)
 
       -- its name was compared with n: it is the one, or the search goes on
-      pub named-next : {name : Bytes} {r : Bool} → name ≡ name_in (take name_row (drop (i * user_row) s)) → r ≡ (name == n)
+      pub named-next : {name : Bytes} {r : Bool} → name ≡ name_in (take name_row (drop (i * user_row) s)) → r ≡ (name ≐ n)
           → named_from n s i ≡ (if r then some (i, user_in (take user_row (drop (i * user_row) s))) else named_from n s (i + 1))
       unfolding first_from user_in
       named-next e t =

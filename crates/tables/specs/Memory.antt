@@ -1,8 +1,8 @@
 -- What the bytes of the tables mean, whatever they are; and the bytes of tables.
-use Rattle.std.specs.Prelude.{ℕ, ◌+◌, ◌*◌, ◌/◌, ◌%◌, ◌≡◌, List, [], ◌∷◌, ◌++◌, eqb, length, get_or, take, drop}
+use Rattle.std.specs.Prelude.{ℕ, ◌+◌, ◌*◌, ◌/◌, ◌%◌, ◌≡◌, List, [], ◌∷◌, ◌++◌, eqb, length, get_or, take, drop, if◌then◌else◌}
 use Rattle.std.proofs.Math.Option.{Option, none, some}
 use Rattle.layout.specs.Layout.{in_use, table, name_row, name_in, encode_name, encode_table, Canonical, CanonicalName, CanonicalTable}
-use Rattle.model.specs.Base.{Bytes, if◌then◌else◌}
+use Rattle.model.specs.Base.{Bytes}
 use Rattle.model.specs.Limits.{max_users, max_rules}
 use Rattle.model.specs.Tables.{User, Access, READ, WRITE, Rule, Tables}
 use Rattle.steps.specs.Steps.{steps_slot, steps_in, encode_steps}

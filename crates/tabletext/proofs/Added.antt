@@ -8,7 +8,7 @@ use native.Mathlib.Omega.{arith}
 use borrow.Author.Tests.{le-leb, lt-leb, not-true, not-false}
 use lib.ListN.{length, take, set}
 use lib.Seq.{take_all}
-use Rattle.model.specs.Base.{Bytes, text, any, first_from, is_some, ◌==◌, number}
+use Rattle.model.specs.Base.{Bytes, text, any, first_from, is_some, ◌≐◌, number}
 use Rattle.model.specs.Limits.{max_key, max_name, max_users, max_quota, max_bindings, max_rules}
 use Rattle.model.specs.Names.{is_name, is_key, is_plain}
 use Rattle.model.specs.Paths.{Steps, steps_of}
@@ -68,11 +68,11 @@ module _ (val : Bytes → Bytes) (us : List User) where
   user-unnamed h = rw h
 
   module _ (names : user_names val ≡ true) where
-    pub user-every : (val (text "role") == every_role) ≡ true → users_table.row val us ≡ refused 2
+    pub user-every : (val (text "role") ≐ every_role) ≡ true → users_table.row val us ≡ refused 2
     unfolding users_table ◌>>◌ refuse◌if◌
     user-every h = rw (names, h)
 
-    module _ (one : (val (text "role") == every_role) ≡ false) where
+    module _ (one : (val (text "role") ≐ every_role) ≡ false) where
       pub user-bad : number max_quota (val (text "allowance")) ≡ none → users_table.row val us ≡ refused 2
       unfolding users_table ◌>>◌ ◌>>=◌ refuse◌if◌ ◌or◌
       user-bad h = rw (names, one, h)

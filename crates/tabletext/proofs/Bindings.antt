@@ -6,7 +6,7 @@ use native.Mathlib.Omega.{arith}
 use lib.ListN.{length, take, drop}
 use lib.Seq.{take-take}
 use Rattle.rows.proofs.Parts.{part-part}
-use Rattle.model.specs.Base.{Bytes, any, ◌==◌}
+use Rattle.model.specs.Base.{Bytes, any, ◌≐◌}
 use Rattle.model.specs.Limits.{max_bindings}
 use Rattle.model.specs.Tables.{Binding, same_binding}
 use Rattle.layout.specs.Layout.{in_use, name_row, key_row, name_in}
@@ -20,9 +20,9 @@ module _ (s : Bytes) {m : ℕ} (counted : m ≡ length (in_use binding_row max_b
 
   -- b is looked for from the row i on: r says whether the row has its name
   module _ (b : Binding) where
-    pub binding-left : {n : Bytes} {r : Bool} → i < m → n ≡ name_in (take name_row (drop (i * binding_row) s)) → r ≡ (b.name == n)
+    pub binding-left : {n : Bytes} {r : Bool} → i < m → n ≡ name_in (take name_row (drop (i * binding_row) s)) → r ≡ (b.name ≐ n)
         → any (same_binding b) (drop i (bindings_in s))
-        ≡ ((r && (b.value == name_in (take key_row (drop (i * binding_row + name_row) s)))) || any (same_binding b) (drop (i + 1) (bindings_in s)))
+        ≡ ((r && (b.value ≐ name_in (take key_row (drop (i * binding_row + name_row) s)))) || any (same_binding b) (drop (i + 1) (bindings_in s)))
     unfolding bindings_in any same_binding binding_in
     binding-left h e t =
         let left = row-left binding_in binding_row max_bindings s counted i h refl in

@@ -1,7 +1,7 @@
 -- The three tables as tables of one memory, and what the answers say.
-use Rattle.std.specs.Prelude.{ℕ, ◌≡◌, List, [], ◌∷◌}
+use Rattle.std.specs.Prelude.{ℕ, ◌≡◌, List, [], ◌∷◌, if◌then◌else◌}
 use Rattle.std.proofs.Math.Option.{Option, none, some}
-use Rattle.model.specs.Base.{Bytes, if◌then◌else◌}
+use Rattle.model.specs.Base.{Bytes}
 use Rattle.model.specs.Refusals.{Result, refused, done, ◌>>=◌}
 use Rattle.model.specs.Table.{Table, Line, ended, broken, lines, split, under, is_head, read_row, read_table}
 use Rattle.model.specs.Tables.{User, Access, Rule, Tables, users_table, environments_table, policy_table}

@@ -5,7 +5,7 @@ use mathlib.Core.List.{[], ◌∷◌, ◌++◌, append_assoc}
 use native.Mathlib.Omega.{arith}
 use lib.ListN.{length, get_or, take, drop, replicate, length-drop}
 use Rattle.model.specs.Limits.{max_depth}
-use Rattle.model.specs.Base.{Bytes, text, ◌==◌}
+use Rattle.model.specs.Base.{Bytes, text, ◌≐◌}
 use Rattle.model.specs.Values.{quoted, value_text}
 use Rattle.model.specs.Fields.{Keys, Fields}
 use Rattle.model.specs.SavedText.{descend, ascend, turn, saved_behind, saved}
@@ -22,7 +22,7 @@ turn-none : (p q : Keys) → min (length p) (length q) ≤ shared p q → turn p
 unfolding turn shared
 turn-none [] q h = refl
 turn-none (k ∷ p) [] h = refl
-turn-none (k ∷ p) (l ∷ q) h = by_cases (k == l)
+turn-none (k ∷ p) (l ∷ q) h = by_cases (k ≐ l)
     (λ e. rw e (turn-none p q (omega (arith, rw e at h))))
     (λ e. absurd (omega (arith, rw e at h)))
 
@@ -31,7 +31,7 @@ turn-some : (p q : Keys) → shared p q < length p → shared p q < length q
 unfolding turn shared
 turn-some [] q g h = absurd (omega arith)
 turn-some (k ∷ p) [] g h = absurd (omega arith)
-turn-some (k ∷ p) (l ∷ q) g h = by_cases (k == l)
+turn-some (k ∷ p) (l ∷ q) g h = by_cases (k ≐ l)
     (λ e. rw e (turn-some p q (omega (arith, rw e at g)) (omega (arith, rw e at h))))
     (λ e. rw e)
 

@@ -1,6 +1,6 @@
 -- Fields that are shown: all, or those that one user may read.
-use Rattle.std.specs.Prelude.{ℕ, suc, ◌+◌, ◌*◌, ◌<◌, Bool, true, List, [], ◌∷◌, map}
-use Rattle.model.specs.Base.{Bytes, if◌then◌else◌, keep}
+use Rattle.std.specs.Prelude.{ℕ, suc, ◌+◌, ◌*◌, ◌<◌, Bool, true, List, [], ◌∷◌, map, if◌then◌else◌}
+use Rattle.model.specs.Base.{Bytes, keep}
 use Rattle.model.specs.Limits.{max_key, max_depth, max_fields, max_users}
 use Rattle.model.specs.Fields.{Fields}
 use Rattle.layout.specs.Layout.{in_use}

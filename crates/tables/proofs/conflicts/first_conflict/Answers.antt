@@ -1,3 +1,4 @@
+use Rattle.std.specs.Prelude.{if◌then◌else◌}
 use Prim.Native.Nat.{◌+◌}
 use mathlib.Core.Path.{◌≡◌, refl, ◌∙◌}
 use mathlib.Core.Bool.{◌&&◌}
@@ -6,7 +7,7 @@ use mathlib.Core.List.{[]}
 use native.Mathlib.Omega.{arith}
 use lib.ListN.{take, drop}
 use borrow.Author.Rules.{rules}
-use Rattle.model.specs.Base.{if◌then◌else◌, any}
+use Rattle.model.specs.Base.{any}
 use Rattle.model.specs.Rights.{conflicts_with}
 use Rattle.model.specs.Opening.{conflict_from}
 use Rattle.tables.specs.Memory.{rule_in, policy_in}

@@ -2,7 +2,7 @@ use mathlib.Core.Path.{◌≡◌, sym, ◌∙◌}
 use mathlib.Core.Bool.{true, false}
 use mathlib.Core.Option.{none, some}
 use native.Mathlib.Omega.{arith}
-use Rattle.model.specs.Base.{Bytes, text, ◌==◌, number}
+use Rattle.model.specs.Base.{Bytes, text, ◌≐◌, number}
 use Rattle.model.specs.Limits.{max_quota}
 use Rattle.model.specs.Names.{is_name}
 use Rattle.model.specs.Table.{split, under}
@@ -41,7 +41,7 @@ names c =
     let key = passed c.is_name-3.ensures c.if-not-is_name-3.false in
     rw (user_named, role_named, ← c.value_under-key.ensures, key)
 
-one-role : (c : Else-same) → (val c.args.head.now c.args.line.now (text "role") == every_role) ≡ false
+one-role : (c : Else-same) → (val c.args.head.now c.args.line.now (text "role") ≐ every_role) ≡ false
 unfolding text every_role
 one-role c = rw (← c.value_under-role.ensures) (sym c.same.ensures ∙ c.if-same.false)
 
