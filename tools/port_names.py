@@ -1,7 +1,8 @@
 #!/usr/bin/env python3
 """Brings the repository's own definitions and lemmas to today's spelling, after port.py: words in snake case, types and modules as they are.
 
-usage: tools/port_names.py [FOLDER]     at the top of the repository, or of the copy that is named: rewrites crates/, README.md and docs/ in place
+usage: tools/port_names.py [FOLDER]     at the top of the repository, or of the copy that is named: rewrites crates/, README.md and docs/ in place.
+Run it once, on what port.py left: what it turned it would turn again.
 
 A name is turned where specs/ or proofs/ declare it: each of its parts between dashes that begins with a small letter and has a capital behind it
 (`runEnd`, `length-upTo`), and a dash in a constructor or a field that specs/ declare (`length-is`). Names of lemmas keep their dashes. Names of src/
