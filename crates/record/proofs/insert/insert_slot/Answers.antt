@@ -13,7 +13,7 @@ use Rattle.record.proofs.insert.insert_slot.Goals as goal
 holds : (c : Start) → Holds slot_bytes max_fields c.args.table.now
 holds c = (omega arith, omega arith)
 
--- the slot has room c the end, which lies in the table
+-- the slot has room before the end, which lies in the table
 room : (c : After-moved_end-end) → let a = c.args in
     (a.i * slot_bytes + slot_bytes ≤ c.moved_end-end.result) × (c.moved_end-end.result ≤ length a.table.now)
 room c =
