@@ -9,7 +9,8 @@ A name is turned where specs/ or proofs/ declare it: each of its parts between d
 that are code, strings, inputs and outputs have no such form, and stay. It prints each name that it turned, and stops where two would fall together.
 
 Two operators have a name of the library, which means the library's own in a contract: that two texts are the same is `≐` for `==`, and the choice
-`if_then_else_` of Base, which is the library's word for word, is the library's.
+`if_then_else_` of Base, which is the library's word for word, is the library's. And where a clause has a record whose field is named as a parameter,
+port.py leaves `name.entry.now` of what is behind a `&`: that is `name.now`.
 """
 import os
 import re
@@ -112,7 +113,7 @@ def operators(path, text):
         return from_library(text, False)
     if path.endswith(".rt"):
         text = text.replace("◌==◌", "◌≐◌")
-        text = re.sub(r"^(\s+(?:requires|ensures)\b[^\n]*)$", lambda m: m.group(1).replace(" == ", " ≐ "), text, flags=re.M)
+        text = re.sub(r"^(\s+(?:requires|ensures)\b[^\n]*)$", lambda m: m.group(1).replace(" == ", " ≐ ").replace(".entry.now", ".now"), text, flags=re.M)
         return from_library(text, True)
     if path.endswith(".edit"):
         out, inside = [], ""

@@ -15,7 +15,7 @@ use steps::step::{BINDING, BINDINGS};
 // An environment line, into a row of zeros.
 fn put_binding(row: &mut [u8], name: &[u8], value: &[u8])
     requires { row.old ≡ replicate binding_row 0 }
-    ensures { row.new ≡ encode_binding (record { name = take max_name name.entry.now; value = take max_key value.now }) }
+    ensures { row.new ≡ encode_binding (record { name = take max_name name.now; value = take max_key value.now }) }
 {
     put_name(&mut row[NAME_ROW..BINDING], value);
     put_name(&mut row[0..NAME_ROW], name);
@@ -24,7 +24,7 @@ fn put_binding(row: &mut [u8], name: &[u8], value: &[u8])
 // An environment line.
 pub fn push_binding(lines: &mut [u8], name: &[u8], value: &[u8])
     requires { (length lines.old ≡ bindings_bytes) × (0 < length name.now) }
-    ensures lines_after { bindings_in lines.new ≡ take max_bindings (bindings_in lines.old ++ record { name = take max_name name.entry.now; value = take max_key value.now } ∷ []) }
+    ensures lines_after { bindings_in lines.new ≡ take max_bindings (bindings_in lines.old ++ record { name = take max_name name.now; value = take max_key value.now } ∷ []) }
     ensures keeps { Keeps CanonicalBindings lines.old lines.new }
 {
     let mut row = [0u8; BINDING];
@@ -35,7 +35,7 @@ pub fn push_binding(lines: &mut [u8], name: &[u8], value: &[u8])
 // A user without environment lines, into a row of zeros.
 fn put_user(row: &mut [u8], name: &[u8], role: &[u8], key: &[u8], quota: u16)
     requires { row.old ≡ replicate user_row 0 }
-    ensures { row.new ≡ encode_user (record { name = take max_name name.entry.now; role = take max_name role.now; key = take max_name key.now; quota = quota; environment = [] }) }
+    ensures { row.new ≡ encode_user (record { name = take max_name name.now; role = take max_name role.now; key = take max_name key.now; quota = quota; environment = [] }) }
 {
     let high = put_byte(row, QUOTA, (quota % 256) as u8);
     put_byte(row, high, (quota / 256) as u8);
@@ -47,7 +47,7 @@ fn put_user(row: &mut [u8], name: &[u8], role: &[u8], key: &[u8], quota: u16)
 // A user.
 pub fn push_user(users: &mut [u8], name: &[u8], role: &[u8], key: &[u8], quota: u16)
     requires { (length users.old ≡ users_bytes) × (0 < length name.now) }
-    ensures users_after { users_in users.new ≡ take max_users (users_in users.old ++ record { name = take max_name name.entry.now; role = take max_name role.now; key = take max_name key.now; quota = quota; environment = [] } ∷ []) }
+    ensures users_after { users_in users.new ≡ take max_users (users_in users.old ++ record { name = take max_name name.now; role = take max_name role.now; key = take max_name key.now; quota = quota; environment = [] } ∷ []) }
     ensures keeps { Keeps CanonicalUsers users.old users.new }
 {
     let mut row = [0u8; USER];
@@ -68,7 +68,7 @@ fn put_rule(row: &mut [u8], role: &[u8], access: u8, steps: &[u8])
 // A policy line.
 pub fn push_rule(policy: &mut [u8], role: &[u8], access: u8, steps: &[u8])
     requires { (length policy.old ≡ policy_bytes) × (0 < length role.now) × (length steps.now ≡ steps_slot) }
-    ensures policy_after { policy_in policy.new ≡ take max_rules (policy_in policy.old ++ record { role = take max_name role.entry.now; access = access_in access; path = steps_in steps.now } ∷ []) }
+    ensures policy_after { policy_in policy.new ≡ take max_rules (policy_in policy.old ++ record { role = take max_name role.now; access = access_in access; path = steps_in steps.now } ∷ []) }
     ensures keeps { CanonicalSteps steps.now → access ≡ access_byte (access_in access) → Keeps CanonicalPolicy policy.old policy.new }
 {
     let mut row = [0u8; RULE];

@@ -70,7 +70,7 @@ pub fn add_user(users: &mut [u8], head: &[u8], line: &[u8]) -> RowRead
 // Whether a user's environment lines have this one.
 fn has_binding(lines: &[u8], name: &[u8], value: &[u8]) -> bool
     requires { length lines.now ≡ bindings_bytes }
-    ensures { result ≡ any (same_binding (record { name = name.entry.now; value = value.now })) (bindings_in lines.now) }
+    ensures { result ≡ any (same_binding (record { name = name.now; value = value.now })) (bindings_in lines.now) }
 {
     let n = row_count(lines, BINDING, BINDINGS);
     let mut i: usize = 0;
