@@ -2,7 +2,7 @@
 use Prim.Native.Nat.{ℕ, suc, ◌<◌}
 use mathlib.Core.Path.{◌≡◌, refl, sym, ◌∙◌}
 use mathlib.Core.Bool.{Bool, true, false}
-use mathlib.Core.Option.{Option, none, some}
+use Rattle.std.specs.Prelude.{Option, None, Some}
 use mathlib.Core.List.{List, [], ◌∷◌}
 use native.Mathlib.Omega.{arith}
 use Rattle.model.specs.Base.{Bytes}
@@ -35,8 +35,8 @@ module _ {E : Type 0} (number : E → ℕ) where
 
   missing : {A : Type 0} (o : Option A) (e : E) → 0 < number e → ByNumber number (o or e)
   unfolding ◌or◌
-  missing none e h = h
-  missing (some a) e h = tt
+  missing None e h = h
+  missing (Some a) e h = tt
 
 -- ── A table ──
 abbrev first : ℕ × ℕ → ℕ
@@ -110,8 +110,8 @@ unfolding check_policy refuse_at fault
 policy-numbered rs = go (conflict_from 2 [] rs)
   where
     go : (o : Option ℕ) → ByNumber number_in (refuse_at o)
-    go none = tt
-    go (some n) = omega arith
+    go None = tt
+    go (Some n) = omega arith
 
 tables-numbered : (t : Texts) → ByNumber number_in (open_tables t)
 unfolding open_tables

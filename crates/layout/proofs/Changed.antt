@@ -82,13 +82,13 @@ module _ (k n : ℕ) where
     used-pushed {ys} below e long kept =
         let later = drop ((i + 1) * k) ys in
         let first : take (i * k) ys ≡ take (i * k) xs = rw e (take-written (i * k) (i * k + k) (0 ∷ []) xs (omega arith)) in
-        let none : up_to is_empty (rows k (n - (i + 1)) later) ≡ [] = rw (e, next_row i k) (none-behind (i + 1) xs fits) in
+        let None : up_to is_empty (rows k (n - (i + 1)) later) ≡ [] = rw (e, next_row i k) (none-behind (i + 1) xs fits) in
         let m : n - i ≡ suc (n - (i + 1)) = omega arith in
         let inside : i * k ≤ length xs = omega (arith, row_inside xs fits i below) in
         let r = rows-keep k i n xs (row ++ later) (omega arith) inside in
         let u = up_to-keep is_empty i (rows k n xs) (rows k (n - i) (row ++ later)) (omega arith) in
         let l : length (in_use k n xs ++ row ∷ []) ≤ n = rw length-append (omega arith) in
-        rw (first, drop-drop, next_row i k, r, u, m, take_at row later k long, drop_at row later k long, kept, none)
+        rw (first, drop-drop, next_row i k, r, u, m, take_at row later k long, drop_at row later k long, kept, None)
         (rw (take_all i (in_use k n xs) (omega arith)) (sym (take_all n (in_use k n xs ++ row ∷ []) l)))
 
     -- where there are n, no more has room

@@ -208,8 +208,8 @@ module _ (k n : ℕ) where
           rw bytes (zeros-behind (i * k) (now * k) (moved * k) row long inside.0 inside.1 inside.2 more))
           (λ f.
           let all : now ≡ n = omega (arith, ltb-false _ n f) in
-          let none : n * k - n * k ≡ 0 = omega arith in
-          rw (all, none) (drop_of_length-le (inserted_row k n i row s) {i = n * k} (omega (arith, inserted-long))))))
+          let None : n * k - n * k ≡ 0 = omega arith in
+          rw (all, None) (drop_of_length-le (inserted_row k n i row s) {i = n * k} (omega (arith, inserted-long))))))
 
   -- none in use
   pub tight-none : 0 < k → Tight k n (zeros (n * k))

@@ -35,15 +35,15 @@ module _ (k n : ℕ) (s : Bytes) where
       pub used-last : is_empty row ≡ true → length (in_use k n s) ≤ i
       unfolding up_to
       used-last e =
-          let none : drop i (in_use k n s) ≡ [] = used-from ∙ rw (← is, e) in
-          omega (arith, ap length none, length-drop i (in_use k n s))
+          let None : drop i (in_use k n s) ≡ [] = used-from ∙ rw (← is, e) in
+          omega (arith, ap length None, length-drop i (in_use k n s))
 
       -- it is in use
       pub used-more : is_empty row ≡ false → i < length (in_use k n s)
       unfolding up_to
       used-more e =
-          let some : drop i (in_use k n s) ≡ row ∷ up_to is_empty (rows k (n - (i + 1)) (drop ((i + 1) * k) s)) = used-from ∙ rw (← is, e) in
-          omega (arith, ap length some, length-drop i (in_use k n s))
+          let Some : drop i (in_use k n s) ≡ row ∷ up_to is_empty (rows k (n - (i + 1)) (drop ((i + 1) * k) s)) = used-from ∙ rw (← is, e) in
+          omega (arith, ap length Some, length-drop i (in_use k n s))
 
   -- the first byte of a row tells whether it is empty
   module _ (i : ℕ) (size : 0 < k) where

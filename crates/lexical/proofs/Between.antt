@@ -2,7 +2,7 @@
 use Prim.Native.Nat.{ℕ, ◌+◌, ◌-◌, ◌≤◌}
 use mathlib.Core.Path.{◌≡◌, refl, sym, ap, ◌∙◌}
 use mathlib.Core.Bool.{true, false, and-true}
-use mathlib.Core.Option.{none, some}
+use Rattle.std.specs.Prelude.{None, Some}
 use mathlib.Core.List.{[], ◌∷◌, ◌++◌, append_assoc}
 use native.Mathlib.Omega.{arith}
 use lib.ListN.{length, take, drop, length-append, length-drop}
@@ -67,7 +67,7 @@ module _ (class : Class) (quote least most : ℕ) where
     -- the opening quote stands there, and behind it `scan` answers x
     module _ (o : is_some (after (quote ∷ []) (drop at s)) ≡ true) (x : End) (answer : x ≡ scan_end class least most s (at + 1)) where
       opened : (to : ℕ) → to ≡ run_end (in_class class) s (at + 1) → read_between class quote least most (drop at s) ≡
-          (check (within least most (to - (at + 1))) >> (after (quote ∷ []) (drop to s) >>= λ r. some (take (to - (at + 1)) (drop (at + 1) s), r)))
+          (check (within least most (to - (at + 1))) >> (after (quote ∷ []) (drop to s) >>= λ r. Some (take (to - (at + 1)) (drop (at + 1) s), r)))
       unfolding read_between ◌>>=◌
       opened to is =
           let (h, e) = byte-stands quote s at o in
@@ -103,7 +103,7 @@ module _ (class : Class) (quote least most : ℕ) where
     pub fits : within least most (length b) ≡ true
     pub passes : all (in_class class) b ≡ true
 
-  pub between-gives : (s b r : Bytes) → read_between class quote least most s ≡ some (b, r) → Quoted s b r
+  pub between-gives : (s b r : Bytes) → read_between class quote least most s ≡ Some (b, r) → Quoted s b r
   unfolding read_between
   between-gives s b r h =
       bind-some _ _ _ h λ s₁ i j.
@@ -131,7 +131,7 @@ module _ (class : Class) (quote least most : ℕ) where
     pub reads : Reads (read_between class quote least most) s at (take (e - 2 - at) (drop (at + 1) s)) e
 
   module _ (s : Bytes) (at : ℕ) (x : End) (answer : text_answer s at x ≡ placed (read_between class quote least most) s at) where
-    pub between-bad : x ≡ Bad → read_between class quote least most (drop at s) ≡ none
+    pub between-bad : x ≡ Bad → read_between class quote least most (drop at s) ≡ None
     unfolding text_answer
     between-bad i = none-placed _ s at (sym (rw i at answer))
 
@@ -155,7 +155,7 @@ pub quoted-between : (quote : ℕ) (s : Bytes) → read_quoted (quote ∷ []) s 
 unfolding read_quoted read_between
 quoted-between quote s = bind-same (after (quote ∷ []) s) _ _ (λ s₁. rw (key-scanned s₁))
 
-pub string-between : (s : Bytes) → read_string s ≡ (read_between Text 0x22 0 32 s >>= λ t. some (string t.0, t.1))
+pub string-between : (s : Bytes) → read_string s ≡ (read_between Text 0x22 0 32 s >>= λ t. Some (string t.0, t.1))
 unfolding read_string read_between text within ◌>>=◌
 string-between s =
     bind-same (after (0x22 ∷ []) s) _ _ (λ s₁. rw (leb-zero, check_bind, bind-bind))

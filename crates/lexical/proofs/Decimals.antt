@@ -2,7 +2,7 @@
 use Rattle.std.specs.Prelude.{if◌then◌else◌}
 use Prim.Native.Nat.{ℕ, ◌+◌, ◌-◌, ◌*◌, ◌≤◌, ◌<◌}
 use mathlib.Core.Path.{◌≡◌, refl, sym}
-use mathlib.Core.Option.{Option, none, some}
+use Rattle.std.specs.Prelude.{Option, None, Some}
 use mathlib.Core.Bool.{Bool, true, false, ◌&&◌}
 use mathlib.Core.List.{[], ◌∷◌}
 use native.Mathlib.Omega.{arith}
@@ -16,7 +16,7 @@ use Rattle.model.proofs.Reading.{some_same}
 
 -- what a number is worth, where all that is left are digits and it is at most m
 unfoldable pub counted : ℕ → ℕ → Bytes → Option ℕ
-counted m n ds = if all is_digit ds && leb (worth n ds) m then some (worth n ds) else none
+counted m n ds = if all is_digit ds && leb (worth n ds) m then Some (worth n ds) else None
 
 and-true : (b : Bool) → (b && true) ≡ b
 and-true true = refl
@@ -38,16 +38,16 @@ module _ (m n : ℕ) (s : Bytes) (i : ℕ) where
   unfolding counted all worth
   counted_step h e = rw (here 0 s i h, e)
 
-  pub counted_stop : i < length s → is_digit (get_or s i 0) ≡ false → counted m n (drop i s) ≡ none
+  pub counted_stop : i < length s → is_digit (get_or s i 0) ≡ false → counted m n (drop i s) ≡ None
   unfolding counted all
   counted_stop h e = rw (here 0 s i h, e)
 
-  pub counted-end : length s ≤ i → n ≤ m → counted m n (drop i s) ≡ some n
+  pub counted-end : length s ≤ i → n ≤ m → counted m n (drop i s) ≡ Some n
   unfolding counted all worth
   counted-end h k = rw (over s i h, le-leb n m k)
 
 -- beyond the most there is no number, whatever follows
-pub counted-past : (m n : ℕ) (ds : Bytes) → m < n → counted m n ds ≡ none
+pub counted-past : (m n : ℕ) (ds : Bytes) → m < n → counted m n ds ≡ None
 unfolding counted
 counted-past m n ds h = rw (lt-leb (worth n ds) m (omega (arith, worth-more n ds)), and-false)
 
@@ -74,7 +74,7 @@ decimal-padded (d ∷ e ∷ ds) h k = rw h
 
 -- ── A number, from its first byte ──
 module _ (m : ℕ) (s : Bytes) where
-  pub number-empty : length s ≡ 0 → number m s ≡ none
+  pub number-empty : length s ≡ 0 → number m s ≡ None
   unfolding number is_decimal
   number-empty h = rw (nothing s h)
     where
@@ -82,7 +82,7 @@ module _ (m : ℕ) (s : Bytes) where
       nothing [] h = refl
       nothing (d ∷ s) h = absurd (omega arith)
 
-  pub number-padded : get_or s 0 0 ≡ 48 → 1 < length s → number m s ≡ none
+  pub number-padded : get_or s 0 0 ≡ 48 → 1 < length s → number m s ≡ None
   unfolding number
   number-padded h k = rw (decimal-padded s h k)
 
@@ -91,7 +91,7 @@ module _ (m : ℕ) (s : Bytes) where
   number-plain h k = rw (decimal-plain s h k)
 
   -- what an answer says
-  pub number-some : (n : ℕ) → number m s ≡ some n → (is_decimal s ≡ true) × (worth 0 s ≡ n) × (n ≤ m)
+  pub number-some : (n : ℕ) → number m s ≡ Some n → (is_decimal s ≡ true) × (worth 0 s ≡ n) × (n ≤ m)
   unfolding number
   number-some n h = by_cases (is_decimal s && leb (worth 0 s) m)
       (λ e. let (d, l) = and_both _ _ e in
@@ -99,6 +99,6 @@ module _ (m : ℕ) (s : Bytes) where
       (d, w, omega (arith, leb-true (worth 0 s) m l)))
       (λ e. none-some (rw e at h))
 
-  pub number-none : number m s ≡ none → (is_decimal s && leb (worth 0 s) m) ≡ false
+  pub number-none : number m s ≡ None → (is_decimal s && leb (worth 0 s) m) ≡ false
   unfolding number
   number-none h = by_cases (is_decimal s && leb (worth 0 s) m) (λ e. none-some (sym (rw e at h))) (λ e. e)

@@ -2,7 +2,7 @@
 use Prim.Native.Nat.{ℕ, ◌+◌, ◌-◌, ◌≤◌}
 use mathlib.Core.Path.{◌≡◌, refl, sym, ap, ◌∙◌}
 use mathlib.Core.Bool.{Bool, true, false}
-use mathlib.Core.Option.{Option, none, some}
+use Rattle.std.specs.Prelude.{Option, None, Some}
 use mathlib.Core.List.{◌++◌}
 use native.Mathlib.Omega.{arith}
 use lib.ListN.{length, take, drop, length-append, length-drop}
@@ -27,8 +27,8 @@ module _ {A : Type 0} (f g : Reader ℕ A) where
   placed-or s at = go (f (drop at s))
     where
       go : (o : Option (A × Bytes)) → behind s (o <|> g (drop at s)) ≡ (behind s o <|> behind s (g (drop at s)))
-      go none = refl
-      go (some t) = refl
+      go None = refl
+      go (Some t) = refl
 
   pub leaves-or : LeavesEnd f → LeavesEnd g → LeavesEnd (λ x. f x <|> g x)
   leaves-or p q s t h = either-some _ _ _ h (q s t) (p s t)
@@ -36,7 +36,7 @@ module _ {A : Type 0} (f g : Reader ℕ A) where
 -- ── Behind a word ──
 module _ {A : Type 0} (w : Bytes) (f : Reader ℕ A) where
   module _ (s : Bytes) (at : ℕ) where
-    pub word-not : is_some (after w (drop at s)) ≡ false → none ≡ placed (λ x. after w x >>= f) s at
+    pub word-not : is_some (after w (drop at s)) ≡ false → None ≡ placed (λ x. after w x >>= f) s at
     unfolding ◌>>=◌
     word-not h = sym (placed-none _ s at (rw (after-no w (drop at s) h)))
 
@@ -48,7 +48,7 @@ module _ {A : Type 0} (w : Bytes) (f : Reader ℕ A) where
   leaves_word p s t h = bind-some _ _ _ h λ r i j. rest-on s r t.1 (rest_of s w r (after-some w s r i)) (p r t j)
 
   -- the word is taken
-  pub word-taken : LeavesEnd f → (s : Bytes) (t : A × Bytes) → (after w s >>= f) ≡ some t → length w + length t.1 ≤ length s
+  pub word-taken : LeavesEnd f → (s : Bytes) (t : A × Bytes) → (after w s >>= f) ≡ Some t → length w + length t.1 ≤ length s
   word-taken p s t h = bind-some _ _ _ h λ r i j.
       let v = p r t j in
       omega (arith, ap length v.2, length-drop v.0 r, ap length (after-some w s r i), length-append w r)
@@ -59,7 +59,7 @@ module _ {A : Type 0} (w : Bytes) (f : Reader ℕ A) where
   leaves-if-word g p q s t h = after-cases _ _ _ _ h (λ i j. q s t j) (λ r i j. leaves_word p s t (rw i j))
 
 -- ── One behind the other ──
-pub leaves-some : {A : Type 0} (a : A) → LeavesEnd (λ (x : Bytes). some (a, x))
+pub leaves-some : {A : Type 0} (a : A) → LeavesEnd (λ (x : Bytes). Some (a, x))
 leaves-some {A} a s t h = (0, omega arith, sym (ap (λ (u : A × Bytes). u.1) (some_same h)))
 
 pub leaves-bind : {A B : Type 0} (f : Reader ℕ A) (g : A → Reader ℕ B) → LeavesEnd f → ((a : A) → LeavesEnd (g a))
@@ -69,14 +69,14 @@ leaves-bind f g p q s t h = bind-some _ _ _ h λ u i j. rest-on s u.1 t.1 (p s u
 -- ── The longest beginning of bytes that pass, where it fits ──
 module _ {A : Type 0} (p : ℕ → Bool) (fits : Bytes → Bool) (make : Bytes → A) where
   unfoldable pub scanned : Reader ℕ A
-  scanned x = check (fits (span p x).0) >> some (make (span p x).0, (span p x).1)
+  scanned x = check (fits (span p x).0) >> Some (make (span p x).0, (span p x).1)
 
   module _ (s : Bytes) (at to : ℕ) (is : to ≡ run_end p s at) where
-    pub scanned-not : fits (take (to - at) (drop at s)) ≡ false → none ≡ placed scanned s at
+    pub scanned-not : fits (take (to - at) (drop at s)) ≡ false → None ≡ placed scanned s at
     unfolding scanned check ◌>>◌
     scanned-not h = sym (placed-none _ s at (rw (span-at p s at to is, h)))
 
-    pub scanned-is : at ≤ length s → fits (take (to - at) (drop at s)) ≡ true → some (make (take (to - at) (drop at s)), to) ≡ placed scanned s at
+    pub scanned-is : at ≤ length s → fits (take (to - at) (drop at s)) ≡ true → Some (make (take (to - at) (drop at s)), to) ≡ placed scanned s at
     unfolding scanned check ◌>>◌
     scanned-is l h =
         let w = run-within p s at to is l in

@@ -2,7 +2,7 @@
 use Prim.Native.Nat.{ℕ, ◌+◌, ◌-◌, ◌≤◌, ◌<◌}
 use mathlib.Core.Path.{◌≡◌, refl, sym, ap₂, ◌∙◌}
 use mathlib.Core.Bool.{Bool, true, false}
-use mathlib.Core.Option.{Option, none, some}
+use Rattle.std.specs.Prelude.{Option, None, Some}
 use mathlib.Core.List.{[], ◌∷◌, ◌++◌}
 use native.Mathlib.Omega.{arith}
 use lib.Dec.{leb, ltb, eqb, eqb-zero-suc, eqb-suc-suc}
@@ -58,15 +58,15 @@ module _ (p : ℕ → Bool) where
 
 -- ── One given byte at a position ──
 module _ (q : ℕ) (s : Bytes) (at : ℕ) where
-  pub after-here : at < length s → get_or s at 0 ≡ q → after (q ∷ []) (drop at s) ≡ some (drop (at + 1) s)
+  pub after-here : at < length s → get_or s at 0 ≡ q → after (q ∷ []) (drop at s) ≡ Some (drop (at + 1) s)
   unfolding after
   after-here h e = rw (here 0 s at h, eq-eqb q (get_or s at 0) (sym e))
 
-  pub after-not : at < length s → (get_or s at 0 ≡ q → ⊥) → after (q ∷ []) (drop at s) ≡ none
+  pub after-not : at < length s → (get_or s at 0 ≡ q → ⊥) → after (q ∷ []) (drop at s) ≡ None
   unfolding after
   after-not h f = rw (here 0 s at h, ne_eqb q (get_or s at 0) (λ e. f (sym e)))
 
-  pub after-over : length s ≤ at → after (q ∷ []) (drop at s) ≡ none
+  pub after-over : length s ≤ at → after (q ∷ []) (drop at s) ≡ None
   unfolding after
   after-over h = rw (over s at h)
 
@@ -82,7 +82,7 @@ module _ (q : ℕ) (s : Bytes) (at : ℕ) where
       (λ e. rw (after-not h (eqb-false (get_or s at 0) q e), e))
 
   -- what is left behind it
-  pub byte-stands : is_some (after (q ∷ []) (drop at s)) ≡ true → (at + 1 ≤ length s) × (after (q ∷ []) (drop at s) ≡ some (drop (at + 1) s))
+  pub byte-stands : is_some (after (q ∷ []) (drop at s)) ≡ true → (at + 1 ≤ length s) × (after (q ∷ []) (drop at s) ≡ Some (drop (at + 1) s))
   byte-stands o = by_cases (ltb at (length s))
       (λ e. let h = ltb-true at (length s) e in (omega arith, after-here h (eqb-true (get_or s at 0) q (sym (byte-test h) ∙ o))))
       (λ e. never (sym o ∙ byte-over (ltb-false at (length s) e)))
@@ -95,20 +95,20 @@ rest_of s a r e = rw e (length a, rw length-append (omega arith), sym (drop_at a
 -- two readers behind the same one
 pub bind-same : {A B : Type 0} (o : Option A) (f g : A → Option B) → ((a : A) → f a ≡ g a) → (o >>= f) ≡ (o >>= g)
 unfolding ◌>>=◌
-bind-same none f g h = refl
-bind-same (some a) f g h = h a
+bind-same None f g h = refl
+bind-same (Some a) f g h = h a
 
 pub bind-bind : {A B C : Type 0} (o : Option A) (f : A → Option B) (g : B → Option C) → ((o >>= f) >>= g) ≡ (o >>= λ a. f a >>= g)
 unfolding ◌>>=◌
-bind-bind none f g = refl
-bind-bind (some a) f g = refl
+bind-bind None f g = refl
+bind-bind (Some a) f g = refl
 
 pub check_bind : {A B : Type 0} (b : Bool) (o : Option A) (f : A → Option B) → ((check b >> o) >>= f) ≡ (check b >> (o >>= f))
 unfolding check ◌>>◌ ◌>>=◌
 check_bind true o f = refl
 check_bind false o f = refl
 
-pub check-none : {A : Type 0} (b : Bool) → ◌≡◌ {A = Option A} (check b >> none) none
+pub check-none : {A : Type 0} (b : Bool) → ◌≡◌ {A = Option A} (check b >> None) None
 unfolding check ◌>>◌
 check-none true = refl
 check-none false = refl

@@ -1,7 +1,7 @@
 -- Comparing texts from a position on: after two equal bytes what is left is the same comparison of what stands behind them.
 use Prim.Native.Nat.{ℕ, ◌+◌, ◌-◌, ◌≤◌, ◌<◌, compare, Ordering}
 use mathlib.Core.Path.{◌≡◌, refl, sym, ap, ◌∙◌}
-use mathlib.Core.Option.{Option, none, some}
+use Rattle.std.specs.Prelude.{Option, None, Some}
 use mathlib.Core.Bool.{Bool, true, false}
 use mathlib.Core.List.{List}
 use native.Mathlib.Nat.{add_assoc}
@@ -120,38 +120,38 @@ module _ (w s : Bytes) (at i : ℕ) where
   unfolding after
   after-step p q h = rw (here 0 w i p, here 0 s (at + i) q, eq-eqb (get_or w i 0) (get_or s (at + i) 0) (sym h), add_assoc)
 
-  pub after_stop : i < length w → at + i < length s → (get_or s (at + i) 0 ≡ get_or w i 0 → ⊥) → after (drop i w) (drop (at + i) s) ≡ none
+  pub after_stop : i < length w → at + i < length s → (get_or s (at + i) 0 ≡ get_or w i 0 → ⊥) → after (drop i w) (drop (at + i) s) ≡ None
   unfolding after
   after_stop p q h = rw (here 0 w i p, here 0 s (at + i) q, ne_eqb (get_or w i 0) (get_or s (at + i) 0) (λ e. h (sym e)))
 
-  pub after-end : length w ≤ i → after (drop i w) (drop (at + i) s) ≡ some (drop (at + i) s)
+  pub after-end : length w ≤ i → after (drop i w) (drop (at + i) s) ≡ Some (drop (at + i) s)
   unfolding after
   after-end p = rw (over w i p)
 
 -- whether a word stands there says what is behind it
 module _ (w s : Bytes) where
-  pub after-yes : is_some (after w s) ≡ true → (after w s ≡ some (drop (length w) s)) × (length w ≤ length s)
+  pub after-yes : is_some (after w s) ≡ true → (after w s ≡ Some (drop (length w) s)) × (length w ≤ length s)
   after-yes h = go (after w s) refl h
     where
-      go : (o : Option Bytes) → after w s ≡ o → is_some o ≡ true → (after w s ≡ some (drop (length w) s)) × (length w ≤ length s)
-      go none e h = never (unfold is_some in sym h)
-      go (some r) e h =
+      go : (o : Option Bytes) → after w s ≡ o → is_some o ≡ true → (after w s ≡ Some (drop (length w) s)) × (length w ≤ length s)
+      go None e h = never (unfold is_some in sym h)
+      go (Some r) e h =
           let k = after-some w s r e in
-          (e ∙ ap some (sym (drop-append_seam w r) ∙ ap (drop (length w)) (sym k)), omega (arith, ap length k, length-append w r))
+          (e ∙ ap Some (sym (drop-append_seam w r) ∙ ap (drop (length w)) (sym k)), omega (arith, ap length k, length-append w r))
 
-  pub after-no : is_some (after w s) ≡ false → after w s ≡ none
+  pub after-no : is_some (after w s) ≡ false → after w s ≡ None
   after-no h = go (after w s) h
     where
-      go : (o : Option Bytes) → is_some o ≡ false → o ≡ none
-      go none h = refl
-      go (some r) h = never (unfold is_some in h)
+      go : (o : Option Bytes) → is_some o ≡ false → o ≡ None
+      go None h = refl
+      go (Some r) h = never (unfold is_some in h)
 
   pub after-short : length s < length w → is_some (after w s) ≡ false
   after-short h = by_cases (is_some (after w s)) (λ e. absurd (omega (arith, (after-yes e).1))) (λ e. e)
 
 -- the same by positions
 pub after-at : (w s : Bytes) (at : ℕ) → at ≤ length s → is_some (after w (drop at s)) ≡ true
-    → (after w (drop at s) ≡ some (drop (at + length w) s)) × (at + length w ≤ length s)
+    → (after w (drop at s) ≡ Some (drop (at + length w) s)) × (at + length w ≤ length s)
 after-at w s at p h =
     let (e, k) = after-yes w (drop at s) h in
-    (e ∙ ap some (drop-drop (length w) at s), omega (arith, length-drop at s))
+    (e ∙ ap Some (drop-drop (length w) at s), omega (arith, length-drop at s))

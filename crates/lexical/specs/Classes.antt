@@ -1,6 +1,6 @@
 -- The byte classes by their names, and what stands between quotes.
 use Rattle.std.specs.Prelude.{ℕ, ◌+◌, ◌-◌, [], ◌∷◌, Bool, not, eqb, length, take, drop, if◌then◌else◌}
-use Rattle.std.proofs.Math.Option.{Option, none, some}
+use Rattle.std.specs.Prelude.{Option, None, Some}
 use Rattle.rows.specs.Positions.{run_end}
 use Rattle.model.specs.Base.{Bytes, ◌>>=◌, ◌>>◌, check, after, span, within, is_digit}
 use Rattle.model.specs.Names.{name_byte, plain_byte}
@@ -37,9 +37,9 @@ read_between class quote least most s = do
   let (b, r) = span (in_class class) s₁
   check (within least most (length b))
   r₁ ← after (quote ∷ []) r
-  some (b, r₁)
+  Some (b, r₁)
 
 -- an answer of a text in quotes that begin at `at`
 unfoldable pub text_answer : Bytes → ℕ → End → Option (Bytes × ℕ)
-text_answer s at (At e) = some (take (e - 2 - at) (drop (at + 1) s), e)
-text_answer s at Bad = none
+text_answer s at (At e) = Some (take (e - 2 - at) (drop (at + 1) s), e)
+text_answer s at Bad = None

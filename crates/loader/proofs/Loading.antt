@@ -2,7 +2,7 @@
 use Prim.Native.Nat.{ℕ, ◌+◌, ◌-◌, ◌≤◌, ◌<◌}
 use mathlib.Core.Path.{◌≡◌, refl, sym, ap, ◌∙◌}
 use mathlib.Core.Bool.{true, false}
-use mathlib.Core.Option.{Option, none, some}
+use Rattle.std.specs.Prelude.{Option, None, Some}
 use mathlib.Core.List.{[], ◌∷◌, ◌++◌}
 use native.Mathlib.Omega.{arith}
 use borrow.Author.Tests.{ne_eqb, le-leb, lt-leb}
@@ -45,7 +45,7 @@ use Rattle.reader.proofs.Mapped.{mapped-is}
 use Rattle.reader.proofs.Objects.{read_node, node-leaf, node-mapped}
 
 -- ── What is read is within its limits ──
-member-key : (s k r : Bytes) → read_member s ≡ some (k, r) → length k ≤ max_key
+member-key : (s k r : Bytes) → read_member s ≡ Some (k, r) → length k ≤ max_key
 unfolding read_member
 member-key s k r h =
     bind-some _ _ _ h λ t key h₁.
@@ -53,7 +53,7 @@ member-key s k r h =
     let e = ap (λ (t : Bytes × Bytes). t.0) (some_same h₂) in
     rw e at (key-named t.0 (key-read s t key)).high
 
-scalar-valid : (s r : Bytes) (v : Value) → read_scalar s ≡ some (v, r) → valid_value v ≡ true
+scalar-valid : (s r : Bytes) (v : Value) → read_scalar s ≡ Some (v, r) → valid_value v ≡ true
 unfolding read_scalar
 scalar-valid s r v h =
     bind-some _ _ _ h λ t value h₁.
@@ -94,7 +94,7 @@ module _ {p : Keys} {k slot : Bytes} (child : Child p k slot) where
 
     module _ (d : ℕ) (s : Bytes) (v : ℕ) (x : ValueAt) (answer : value_answer s x ≡ placed read_scalar s v) where
       pub leaf-loaded : v ≤ length s → (w : Scalar) (e : ℕ) → x ≡ value-at.At w e
-          → some (stored_at slot (value_in s w) fs, e) ≡ placed (mapped (node_loaded (p ++ k ∷ []) fs) (read_node d)) s v
+          → Some (stored_at slot (value_in s w) fs, e) ≡ placed (mapped (node_loaded (p ++ k ∷ []) fs) (read_node d)) s v
       leaf-loaded h w e i =
           rw (leaf-stored (value_in s w) (leaf-valid s v x answer h w e i)) (mapped-is _ (read_node d) s v _ e (node-leaf d s v x answer h w e i))
 
@@ -127,51 +127,51 @@ pub emptied-zeros : (xs : Bytes) → xs ≡ zeros record_bytes → CanonicalFiel
 emptied-zeros xs e = rw (e, first-zero record_bytes) none-canonical
 
 -- ── The whole text ──
-tree-top : (s : Bytes) (m : Members) → tree_of s ≡ some m → (r : Bytes) × (read_top (skip s) ≡ some (m, r))
+tree-top : (s : Bytes) (m : Members) → tree_of s ≡ Some m → (r : Bytes) × (read_top (skip s) ≡ Some (m, r))
 unfolding tree_of read_top
 tree-top s m h =
     bind-some _ _ m h λ t read h₁.
     check-some _ _ m h₁ λ rest h₂.
-    (t.1, read ∙ ap (λ (o : Members). some (o, t.1)) (some_same h₂))
+    (t.1, read ∙ ap (λ (o : Members). Some (o, t.1)) (some_same h₂))
 
-loaded-same : (fs gs : Fields) (e : ℕ) (x : End) → load_answer fs x ≡ some (gs, e) → fs ≡ gs
+loaded-same : (fs gs : Fields) (e : ℕ) (x : End) → load_answer fs x ≡ Some (gs, e) → fs ≡ gs
 loaded-same fs gs e (At n) h = ap (λ (t : Fields × ℕ). t.0) (some_same h)
 loaded-same fs gs e Bad h = none-some h
 
 module _ (s : Bytes) where
   -- a text that is refused has no fields for a table
-  unread : (e : ℕ) → refused e ≡ reading_of s → fields_of s ≡ none
+  unread : (e : ℕ) → refused e ≡ reading_of s → fields_of s ≡ None
   unfolding fields_of reading_of Opened check ◌>>=◌ ◌>>◌
   unread e h = go (tree_of s) refl
     where
-      go : (o : Option Members) → tree_of s ≡ o → fields_of s ≡ none
-      go none i = rw i
-      go (some m) i = by_cases (twice m) (λ t. rw (i, t)) (λ t. let d : reading_of s ≡ done (count m) = rw (i, t) in refused-done (h ∙ d))
+      go : (o : Option Members) → tree_of s ≡ o → fields_of s ≡ None
+      go None i = rw i
+      go (Some m) i = by_cases (twice m) (λ t. rw (i, t)) (λ t. let d : reading_of s ≡ done (count m) = rw (i, t) in refused-done (h ∙ d))
 
-  pub refused-fields : (r : RecordRead) → read_answer r ≡ reading_of s → ((n : ℕ) → r ≡ record-read.Fields n → ⊥) → fields_of s ≡ none
+  pub refused-fields : (r : RecordRead) → read_answer r ≡ reading_of s → ((n : ℕ) → r ≡ record-read.Fields n → ⊥) → fields_of s ≡ None
   refused-fields record-read.NotRecord h o = unread 8 h
   refused-fields record-read.KeyTwice h o = unread 6 h
   refused-fields (record-read.Fields n) h o = absurd (o n refl)
 
   -- one with n fields
   module _ (n : ℕ) (h : reading_of s ≡ done n) where
-    pub tree : (m : Members) × (tree_of s ≡ some m) × (twice m ≡ false) × (count m ≡ n)
+    pub tree : (m : Members) × (tree_of s ≡ Some m) × (twice m ≡ false) × (count m ≡ n)
     unfolding reading_of
     tree =
         let (m, t, r) = or-done (tree_of s) 8 _ n h in
         let (once, d) = if-done 6 (twice m) _ n r in
         (m, t, once, done-same d)
 
-    pub many-fields : max_fields < n → fields_of s ≡ none
+    pub many-fields : max_fields < n → fields_of s ≡ None
     unfolding fields_of check ◌>>=◌ ◌>>◌
     many-fields k = let (m, t, once, c) = tree in rw (t, once, c, lt-leb n max_fields k)
 
     pub few-fields : n ≤ max_fields → (at : ℕ) → at ≡ run_end is_blank s 0 → (fs : Fields) (x : End)
-        → load_answer fs x ≡ placed (mapped (loaded [] []) read_top) s at → fields_of s ≡ some fs
+        → load_answer fs x ≡ placed (mapped (loaded [] []) read_top) s at → fields_of s ≡ Some fs
     unfolding fields_of check placed behind mapped loaded ◌>>=◌ ◌>>◌
     few-fields k at is fs x answer =
         let (m, t, once, c) = tree in
         let (r, top) = tree-top s m t in
-        let read : read_top (drop at s) ≡ some (m, r) = rw (← skip_at s 0 at is) top in
+        let read : read_top (drop at s) ≡ Some (m, r) = rw (← skip_at s 0 at is) top in
         let same = loaded-same fs (store_members [] m []) (length s - length r) x (answer ∙ rw read) in
         rw (t, once, c, le-leb n max_fields k, same)

@@ -1,6 +1,6 @@
 -- The fields of a record's text, and the table after reading it.
 use Rattle.std.specs.Prelude.{ℕ, ◌≡◌, not, ◌&&◌, [], leb}
-use Rattle.std.proofs.Math.Option.{Option, none, some}
+use Rattle.std.specs.Prelude.{Option, None, Some}
 use Rattle.model.specs.Base.{Bytes, ◌>>=◌, ◌>>◌, check}
 use Rattle.model.specs.Limits.{max_fields}
 use Rattle.model.specs.Fields.{Keys, Fields}
@@ -15,17 +15,17 @@ loaded p fs m = store_members p m fs
 
 -- the fields that a table then holds, and where the reader ends
 abbrev pub load_answer : Fields → End → Option (Fields × ℕ)
-load_answer fs (end.At e) = some (fs, e)
-load_answer fs end.Bad = none
+load_answer fs (end.At e) = Some (fs, e)
+load_answer fs end.Bad = None
 
 -- the fields of a text that is accepted, where a table has room for them
 unfoldable pub fields_of : Bytes → Option Fields
 fields_of s = do
   m ← tree_of s
   check (not (twice m) && leb (count m) max_fields)
-  some (store_members [] m [])
+  Some (store_members [] m [])
 
 -- a table holds the fields of a text, or else keeps its bytes
 abbrev pub HoldsOrKeeps : Option Fields → Bytes → Bytes → Type 0
-HoldsOrKeeps none before now = now ≡ before
-HoldsOrKeeps (some fs) before now = fields_in now ≡ fs
+HoldsOrKeeps None before now = now ≡ before
+HoldsOrKeeps (Some fs) before now = fields_in now ≡ fs

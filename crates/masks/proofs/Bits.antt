@@ -219,7 +219,7 @@ module _ (g : ℕ → Bool) (j m : ℕ) (h : SetBelow g j m) where
 
   pub below_end : ((k : ℕ) → j ≤ k → g k ≡ false) → (k : ℕ) → bit_at m k ≡ g k
   unfolding SetBelow
-  below_end none k = h k ∙ by_cases (ltb k j) (λ l. rw l) (λ l. rw (l, none k (ltb-false k j l)))
+  below_end None k = h k ∙ by_cases (ltb k j) (λ l. rw l) (λ l. rw (l, None k (ltb-false k j l)))
 
 -- ── A loop from bit to bit, that sets the bits of those of a mask who pass a test g: those of `rest` were not asked yet ──
 unfoldable pub AskedBut : (ℕ → Bool) → ℕ → ℕ → ℕ → Type 0

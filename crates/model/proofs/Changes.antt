@@ -1,7 +1,7 @@
 -- Condition 1, what changes and what does not: refusals leave everything, a login or a logout changes one login state, a push one field.
 use Prim.Native.Nat.{ℕ, ◌<◌}
 use mathlib.Core.Path.{◌≡◌, refl, sym, ap, subst, ◌∙◌}
-use mathlib.Core.Option.{Option, some}
+use Rattle.std.specs.Prelude.{Option, Some}
 use mathlib.Core.List.{List}
 use mathlib.Core.Bool.{true, false}
 use lib.ListN.{length, set, get_or}
@@ -98,7 +98,7 @@ module _ {loaded : ℕ} {s : State} (r : Running loaded s) where
       (λ e h. none-some (ap session_in h))
       (login-done a n _)
 
-  logout-done : (x : Act) (n : ℕ) (c : Change) → Decided s (some (in_session n logout)) c → answer_of c ≡ accepted →
+  logout-done : (x : Act) (n : ℕ) (c : Change) → Decided s (Some (in_session n logout)) c → answer_of c ≡ accepted →
       OneLoginChanged s x (conclude s (buffer_of x) (list_of x) (done c)) (index_in n) (closed (login_at s (index_in n)))
   unfolding answer_of session_in push_of ◌>>=◌
   logout-done x n (sets_login i a) d h = by_cases a.is_open
@@ -107,7 +107,7 @@ module _ {loaded : ℕ} {s : State} (r : Running loaded s) where
   logout-done x n (shows t) d h = let z : ◌≡◌ {A = ℕ} 0 1 = cc in absurd (omega arith)
   logout-done x n (stores i a f) d h = none-some d.pushed
 
-  pub logout-changes : (x b : Bytes) (l : List ℕ) (n : ℕ) → request_of x ≡ some (in_session n logout) → (outcome s (line x b l)).answer ≡ accepted →
+  pub logout-changes : (x b : Bytes) (l : List ℕ) (n : ℕ) → request_of x ≡ Some (in_session n logout) → (outcome s (line x b l)).answer ≡ accepted →
       OneLoginChanged s (line x b l) (outcome s (line x b l)) (index_in n) (closed (login_at s (index_in n)))
   unfolding conclude unchanged is_accepted request_of_act
   logout-changes x b l n e = by-decision
@@ -127,7 +127,7 @@ module _ {loaded : ℕ} {s : State} (r : Running loaded s) where
     tables_stay = refl;
   })
 
-  accepted-one : (n : ℕ) (p : Keys) (v : Value) (c : Change) → Decided s (some (in_session n (push p v))) c →
+  accepted-one : (n : ℕ) (p : Keys) (v : Value) (c : Change) → Decided s (Some (in_session n (push p v))) c →
       OneFieldChanged s (apply c s) (index_in n) p v
   unfolding push_of ◌>>=◌
   accepted-one n p v (sets_login i a) d = none-some (sym d.quiet)
@@ -136,7 +136,7 @@ module _ {loaded : ℕ} {s : State} (r : Running loaded s) where
       rw (owner-index s.tables n _ i d.owned)
       (subst (λ (g : Field). OneFieldChanged s (apply (stores i a f) s) i g.path g.value) (sym (some_same d.pushed)) (stored_one d))
 
-  pub push-changes : (x b : Bytes) (l : List ℕ) (n : ℕ) (p : Keys) (v : Value) → request_of x ≡ some (in_session n (push p v)) → (outcome s (line x b l)).answer ≡ accepted →
+  pub push-changes : (x b : Bytes) (l : List ℕ) (n : ℕ) (p : Keys) (v : Value) → request_of x ≡ Some (in_session n (push p v)) → (outcome s (line x b l)).answer ≡ accepted →
       OneFieldChanged s (outcome s (line x b l)).state (index_in n) p v
   unfolding conclude unchanged is_accepted request_of_act
   push-changes x b l n p v e = by-decision (λ y. y.answer ≡ accepted → OneFieldChanged s y.state (index_in n) p v) s (line x b l)

@@ -1,7 +1,7 @@
 -- How long a copy is at most, from the limits of the tables.
 use Prim.Native.Nat.{ℕ, suc, ◌+◌, ◌*◌, ◌≤◌}
 use mathlib.Core.Path.{◌≡◌}
-use mathlib.Core.Option.{some}
+use Rattle.std.specs.Prelude.{Some}
 use mathlib.Core.List.{List, [], ◌∷◌, map}
 use lib.ListN.{length, length-append}
 use native.Mathlib.Nat.{mul-suc}
@@ -59,7 +59,7 @@ binding-length b v = simp length-append (omega (arith, (name-named b.name v.name
 
 -- ── The copy ──
 -- the two heads, all lines, any record, and 0A
-pub copy-length : (ts : Tables) (i : ℕ) (u : User) (gs : Fields) → ValidTables ts → user_at ts.users i ≡ some u →
+pub copy-length : (ts : Tables) (i : ℕ) (u : User) (gs : Fields) → ValidTables ts → user_at ts.users i ≡ Some u →
     length (saved gs) ≤ saved_text → length (copy_of ts.policy u gs) ≤ max_copy
 unfolding copy_of user_at table_line between text joined
 copy-length ts i u gs v e k =

@@ -3,7 +3,7 @@
 use Rattle.std.specs.Prelude.{if◌then◌else◌}
 use Prim.Native.Nat.{ℕ, suc, ◌+◌, ◌≤◌, ◌<◌}
 use mathlib.Core.Path.{◌≡◌, refl, sym, ap}
-use mathlib.Core.Option.{Option, none, some}
+use Rattle.std.specs.Prelude.{Option, None, Some}
 use mathlib.Core.List.{List, [], ◌∷◌}
 use mathlib.Core.Bool.{Bool, true, false, not}
 use native.Mathlib.Omega.{arith}
@@ -25,12 +25,12 @@ use Rattle.model.proofs.Reading.{some_same}
 use Rattle.model.proofs.Order.{one}
 
 -- ── Whose a request is ──
-pub user-owner : (t : Tables) (i : ℕ) (u : User) → user_at t.users i ≡ some u → if_user t i ≡ some i
+pub user-owner : (t : Tables) (i : ℕ) (u : User) → user_at t.users i ≡ Some u → if_user t i ≡ Some i
 unfolding if_user is_some
 user-owner t i u e = rw e
 
 -- whose a session's request is, its number says
-pub owner-index : (t : Tables) (n : ℕ) (a : Ask) (i : ℕ) → owner t (in_session n a) ≡ some i → index_in n ≡ i
+pub owner-index : (t : Tables) (n : ℕ) (a : Ask) (i : ℕ) → owner t (in_session n a) ≡ Some i → index_in n ≡ i
 unfolding owner if_user
 owner-index t n a i h = by_cases (is_some (user_at t.users (index_in n))) (λ e. some_same (rw e at h)) (λ e. none-some (rw e at h))
 
@@ -57,18 +57,18 @@ answers-length i a n h = by_cases a.is_open
     (λ e. let k = rw e at h in let z : ◌≡◌ {A = ℕ} 0 1 = cc in absurd (omega arith))
 
 -- the first that passes is found below the end
-first_below : {A : Type 0} (k : ℕ) (f : A → Bool) (xs : List A) (t : ℕ × A) → first_from k f xs ≡ some t → t.0 < k + length xs
+first_below : {A : Type 0} (k : ℕ) (f : A → Bool) (xs : List A) (t : ℕ × A) → first_from k f xs ≡ Some t → t.0 < k + length xs
 unfolding first_from
 first_below k f [] t h = none-some h
 first_below k f (x ∷ xs) t h = by_cases (f x)
     (λ e. omega (arith, ap (λ (u : ℕ × _). u.0) (some_same (rw e at h))))
     (λ e. omega (arith, first_below (suc k) f xs t (rw e at h)))
 
-named-below : (t : Tables) (n : Bytes) (w : ℕ × User) → user_named n t.users ≡ some w → w.0 < length t.users
+named-below : (t : Tables) (n : Bytes) (w : ℕ × User) → user_named n t.users ≡ Some w → w.0 < length t.users
 unfolding user_named
 named-below t n w h = omega (arith, first_below 0 _ t.users w h)
 
-user-below : (t : Tables) (i : ℕ) (u : User) → user_at t.users i ≡ some u → i < length t.users
+user-below : (t : Tables) (i : ℕ) (u : User) → user_at t.users i ≡ Some u → i < length t.users
 unfolding user_at
 user-below t i u h = elem_below t.users i u h
 
@@ -86,9 +86,9 @@ number_in q = q >>= logout_of
 
 -- a login state changes: a session is opened, which counts as a login, or the one that is to be is closed, and nothing is created
 pub record LoginSet (s : State) (q : Option Request) (i : ℕ) (a : LoginState) : Type 0 where
-  pub owned : owner_of s q ≡ some i
-  pub quiet : field_in q ≡ none
-  pub closes : number_in q ≡ (if a.is_open then none else some (session_number i (login_at s i)))
+  pub owned : owner_of s q ≡ Some i
+  pub quiet : field_in q ≡ None
+  pub closes : number_in q ≡ (if a.is_open then None else Some (session_number i (login_at s i)))
   pub below : i < length s.tables.users
   pub turned : (login_at s i).is_open ≡ not a.is_open
   pub counted : a.logins ≡ (login_at s i).logins + one a.is_open
@@ -97,19 +97,19 @@ pub record LoginSet (s : State) (q : Option Request) (i : ℕ) (a : LoginState) 
 
 -- a field is stored: by a user who may write its path, within the quota
 pub record Stored (s : State) (q : Option Request) (i : ℕ) (a : LoginState) (f : Field) : Type 0 where
-  pub owned : owner_of s q ≡ some i
-  pub pushed : field_in q ≡ some f
-  pub closes_none : number_in q ≡ none
+  pub owned : owner_of s q ≡ Some i
+  pub pushed : field_in q ≡ Some f
+  pub closes_none : number_in q ≡ None
   pub user : User
-  pub is_user : user_at s.tables.users i ≡ some user
+  pub is_user : user_at s.tables.users i ≡ Some user
   pub writes : may_write s.tables.policy user f.path ≡ true
   pub after : a ≡ creating (login_at s i) (holds f.path s.fields)
   pub room : holds f.path s.fields ≡ false → (login_at s i).created < user.quota
 
 -- a text is shown
 pub record Shown (q : Option Request) : Type 0 where
-  pub quiet : field_in q ≡ none
-  pub closes_none : number_in q ≡ none
+  pub quiet : field_in q ≡ None
+  pub closes_none : number_in q ≡ None
 
 abbrev pub Decided : State → Option Request → Change → Type 0
 Decided s q (sets_login i a) = LoginSet s q i a
@@ -123,13 +123,13 @@ Fits room (shows t) = length t ≤ room
 Fits room (stores i a f) = list_room ≤ room
 
 abbrev Known : State → Request → ℕ → Change → Type 0
-Known s q room c = Decided s (some q) c × Fits room c
+Known s q room c = Decided s (Some q) c × Fits room c
 
 -- ── The grounds that words share ──
 -- 14: who asks is the user whom the number says, in an open session of that number
 pub record Asking (s : State) (n : ℕ) (a : Asker) : Type 0 where
   pub index : a.index ≡ index_in n
-  pub is_user : user_at s.tables.users (index_in n) ≡ some a.user
+  pub is_user : user_at s.tables.users (index_in n) ≡ Some a.user
   pub login : a.login ≡ login_at s (index_in n)
   pub is_open : is_session (index_in n) (login_at s (index_in n)) n ≡ true
 
@@ -140,7 +140,7 @@ asking s n a h =
     past-if _ _ _ _ h₁ λ is_open h₂.
     rw (← done-same h₂) (record { index = refl; is_user = is_user; login = refl; is_open = not-false _ is_open })
 
-asking-owner : (s : State) (n : ℕ) (a : Asker) (k : Ask) → Asking s n a → owner s.tables (in_session n k) ≡ some a.index
+asking-owner : (s : State) (n : ℕ) (a : Asker) (k : Ask) → Asking s n a → owner s.tables (in_session n k) ≡ Some a.index
 unfolding owner
 asking-owner s n a k h = rw h.index (user-owner s.tables (index_in n) a.user h.is_user)
 
@@ -149,14 +149,14 @@ pub show-change : (t : Bytes) (room : ℕ) (c : Change) → decide_show t room �
 unfolding decide_show
 show-change t room c h = done-same (if-done _ _ _ _ h).1
 
-show-known : (s : State) (q : Request) → Shown (some q) → (t : Bytes) (room : ℕ) (c : Change) → decide_show t room ≡ done c → Known s q room c
+show-known : (s : State) (q : Request) → Shown (Some q) → (t : Bytes) (room : ℕ) (c : Change) → decide_show t room ≡ done c → Known s q room c
 unfolding decide_show
 show-known s q quiet t room c h = past-if _ _ _ _ h λ fits h₁. rw (← done-same h₁) (quiet, ltb-false _ _ fits)
 
 -- ── Each word ──
 -- a login's change
 pub login-change : {C : Type 0} (s : State) (n k : Bytes) (c : Change) → decide_login s n k ≡ done c →
-    ((i : ℕ) (u : User) → user_named n s.tables.users ≡ some (i, u) → (login_at s i).is_open ≡ false → (login_at s i).logins < max_logins →
+    ((i : ℕ) (u : User) → user_named n s.tables.users ≡ Some (i, u) → (login_at s i).is_open ≡ false → (login_at s i).logins < max_logins →
     sets_login i (entered (login_at s i)) ≡ c → C) → C
 unfolding decide_login
 login-change s n k c h f =
@@ -222,7 +222,7 @@ module _ (s : State) (room : ℕ) (c : Change) where
         record {
           owned = asking-owner s n a _ k;
           quiet = refl;
-          closes = ap some (sym (rw k.index (eqb-true _ _ (and_both (login_at s (index_in n)).is_open _ k.is_open).1)));
+          closes = ap Some (sym (rw k.index (eqb-true _ _ (and_both (login_at s (index_in n)).is_open _ k.is_open).1)));
           below = rw k.index (user-below s.tables (index_in n) a.user k.is_user);
           turned = rw k.index (and_both (login_at s (index_in n)).is_open _ k.is_open).0;
           counted = rw (k.login, k.index) (omega arith);
@@ -238,14 +238,14 @@ known s (in_session n get) room c h = get-known s room c n h
 known s (in_session n (push p v)) room c h = push-known s room c n p v h
 known s (in_session n logout) room c h = logout-known s room c n h
 
-pub decided : (s : State) (q : Request) (room : ℕ) (c : Change) → decide s q room ≡ done c → Decided s (some q) c
+pub decided : (s : State) (q : Request) (room : ℕ) (c : Change) → decide s q room ≡ done c → Decided s (Some q) c
 decided s q room c h = (known s q room c h).0
 
 -- ── Each act ──
 decided-line : (s : State) (b : Bytes) (l : List ℕ) (q : Option Request) (c : Change) → decide_line s b l q ≡ done c → Decided s q c
 unfolding decide_line
-decided-line s b l none c h = refused-done h
-decided-line s b l (some q) c h = decided s q _ c h
+decided-line s b l None c h = refused-done h
+decided-line s b l (Some q) c h = decided s q _ c h
 
 abbrev pub DecidedBy : State → Act → Change → Type 0
 DecidedBy s a c = Decided s (request_of_act a) c
@@ -269,8 +269,8 @@ by-decision P s a f g = go (decision s a) refl
 -- ── There is room ──
 -- in the list for a request that stores, in the buffer for any other
 abbrev HasRoom : Option Field → ℕ → ℕ → ℕ → Type 0
-HasRoom none room buffer list = room ≤ buffer
-HasRoom (some f) room buffer list = room ≤ list
+HasRoom None room buffer list = room ≤ buffer
+HasRoom (Some f) room buffer list = room ≤ list
 
 has_room : (q : Request) (b : Bytes) (l : List ℕ) → HasRoom (push_of q) (room_for q b l) (length b) (length l)
 unfolding room_for push_of

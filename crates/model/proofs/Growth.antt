@@ -2,7 +2,7 @@
 -- the user's own pushes and logins.
 use Prim.Native.Nat.{ℕ, suc, ◌+◌, ◌*◌, ◌≤◌, ◌<◌}
 use mathlib.Core.Path.{◌≡◌, refl, sym, ap}
-use mathlib.Core.Option.{Option, none, some}
+use Rattle.std.specs.Prelude.{Option, None, Some}
 use mathlib.Core.List.{List, [], ◌∷◌}
 use mathlib.Core.Bool.{Bool, false, ◌&&◌, and-false}
 use lib.Dec.{eqb}
@@ -45,7 +45,7 @@ module _ {loaded : ℕ} {s : State} (r : Running loaded s) where
     logins_grow = λ j. rw (and-false (in_set (only j) o)) (omega arith);
   }
 
-  grows-sets-login : {q : Option Request} {i : ℕ} {a : LoginState} → LoginSet s q i a → Grows s (some i) false a.is_open (apply (sets_login i a) s)
+  grows-sets-login : {q : Option Request} {i : ℕ} {a : LoginState} → LoginSet s q i a → Grows s (Some i) false a.is_open (apply (sets_login i a) s)
   unfolding one in_set only apply login_at
   grows-sets-login {i = i} {a = a} d = record {
     fields_grow = omega arith;
@@ -54,7 +54,7 @@ module _ {loaded : ℕ} {s : State} (r : Running loaded s) where
   }
 
   grows-stores : {q : Option Request} {i : ℕ} {a : LoginState} {f : Field} → Stored s q i a f →
-      Grows s (some i) (absent f.path s.fields) false (apply (stores i a f) s)
+      Grows s (Some i) (absent f.path s.fields) false (apply (stores i a f) s)
   unfolding in_set only apply login_at
   grows-stores {i = i} {a = a} {f = f} d = record {
     fields_grow = rw (store-is-put r d) (length-put f s.fields);
@@ -74,8 +74,8 @@ module _ {loaded : ℕ} {s : State} (r : Running loaded s) where
 
   refused-creates : (e : ℕ) (p : Option Field) → creates_by s (refusal e) p ≡ false
   unfolding creates_by is_accepted
-  refused-creates e none = refl
-  refused-creates e (some f) = refl
+  refused-creates e None = refl
+  refused-creates e (Some f) = refl
 
   grows-act : (a : Act) → Grows s (owner_in (event_in s a)) (creates (event_in s a)) (is_some (session_in (outcome s a).answer)) (outcome s a).state
   unfolding creates owner_in push_in conclude unchanged
@@ -115,7 +115,7 @@ logins-grow i = run-counts _ (λ s. (login_at s i).logins) (login_by i) (λ s a 
 module _ {loaded : ℕ} {s : State} (r : Running loaded s) (n : ℕ) where
   -- a login is of the user whose index the number has, and the rest is the count with it
   pub record Numbered (o : Option ℕ) : Type 0 where
-    pub owned : o ≡ some (index_in n)
+    pub owned : o ≡ Some (index_in n)
     pub number : n ≡ per_user * index_in n + suc (login_at s (index_in n)).logins
     pub few : suc (login_at s (index_in n)).logins ≤ max_logins
 

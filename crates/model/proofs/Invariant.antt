@@ -1,11 +1,12 @@
 -- What every state of a run has, and that each act keeps it.
 use Prim.Native.Nat.{ℕ, zero, suc, ◌+◌, ◌≤◌, ◌<◌}
 use mathlib.Core.Path.{◌≡◌, refl, sym, ap, ◌∙◌}
-use mathlib.Core.Option.{Option, some}
+use Rattle.std.specs.Prelude.{Option, Some}
 use mathlib.Core.List.{List, [], ◌∷◌, map}
 use mathlib.Core.Bool.{true}
 use lib.Dec.{eqb}
-use lib.ListN.{length, set, get_or, get_elem?, replicate, length-set}
+use lib.ListN.{length, set, get_or, replicate, length-set}
+use Rattle.std.specs.Prelude.{slice_get}
 use lib.Seq.{get_or-set_other}
 use native.Mathlib.Omega.{arith}
 use borrow.Author.Tests.{eqb-true, eqb-false}
@@ -37,7 +38,7 @@ within-sum [] (a ∷ l) w = omega (arith, within-sum [] l w.1)
 within-sum (u ∷ us) (a ∷ l) w = omega (arith, within-sum us l w.1)
 
 -- the login state of a user may change as long as the count is within the quota
-within-set : (us : List User) (l : List LoginState) (i : ℕ) (u : User) (a : LoginState) → get_elem? us i ≡ some u → a.created ≤ u.quota →
+within-set : (us : List User) (l : List LoginState) (i : ℕ) (u : User) (a : LoginState) → slice_get us i ≡ Some u → a.created ≤ u.quota →
     Within us l → Within us (set l i a)
 within-set us [] i u a e h w = tt
 within-set [] (b ∷ l) i u a e h w = none-some e
@@ -52,7 +53,7 @@ within-keep [] (b ∷ l) (suc i) a e w = (w.0, within-keep [] l i a e w.1)
 within-keep (u ∷ us) (b ∷ l) zero a e w = (rw e w.0, w.1)
 within-keep (u ∷ us) (b ∷ l) (suc i) a e w = (w.0, within-keep us l i a e w.1)
 
-pub within-at : (us : List User) (l : List LoginState) (i : ℕ) (u : User) → get_elem? us i ≡ some u → Within us l → (get_or l i empty_login).created ≤ u.quota
+pub within-at : (us : List User) (l : List LoginState) (i : ℕ) (u : User) → slice_get us i ≡ Some u → Within us l → (get_or l i empty_login).created ≤ u.quota
 unfolding empty_login
 within-at us [] i u e w = omega arith
 within-at [] (a ∷ l) i u e w = none-some e
@@ -104,7 +105,7 @@ module _ {loaded : ℕ} {s : State} (r : Running loaded s) where
   few-fields = omega (arith, r.grown, r.fits, within-sum s.tables.users s.login_states r.within)
 
   -- every user has a login state
-  pub user-place : (i : ℕ) (u : User) → user_at s.tables.users i ≡ some u → i < length s.login_states
+  pub user-place : (i : ℕ) (u : User) → user_at s.tables.users i ≡ Some u → i < length s.login_states
   unfolding user_at
   user-place i u e = omega (arith, elem_below s.tables.users i u e, r.users, r.places)
 

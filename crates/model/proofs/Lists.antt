@@ -1,11 +1,12 @@
 -- Laws of the lists, tests and refusals that the definitions are written with.
 use Prim.Native.Nat.{ℕ, zero, suc, ◌+◌, ◌≤◌, ◌<◌}
 use mathlib.Core.Path.{◌≡◌, refl, sym, ap, ap₂, ◌∙◌}
-use mathlib.Core.Option.{Option, none, some}
+use Rattle.std.specs.Prelude.{Option, None, Some}
 use mathlib.Core.List.{List, [], ◌∷◌, ◌++◌, map}
 use mathlib.Core.Bool.{Bool, true, false, ◌&&◌, ◌||◌}
 use lib.Dec.{eqb}
-use lib.ListN.{length, take, set, get_or, get_elem?, replicate}
+use lib.ListN.{length, take, set, get_or, replicate}
+use Rattle.std.specs.Prelude.{slice_get}
 use native.Mathlib.Omega.{arith}
 use borrow.Author.Tests.{eq-eqb, eqb-true}
 use Rattle.model.specs.Base.{Bytes, any, all, All, keep, joined, range, ◌≐◌}
@@ -45,7 +46,7 @@ refused-done h = let z : ◌≡◌ {A = ℕ} 0 1 = cc in absurd (omega arith)
 pub done-same : {E A : Type 0} {a b : A} → ◌≡◌ {A = Result E A} (done a) (done b) → a ≡ b
 done-same h = cc
 
-pub none-some : {C A : Type 0} {a : A} → none ≡ some a → C
+pub none-some : {C A : Type 0} {a : A} → None ≡ Some a → C
 none-some h = let z : ◌≡◌ {A = ℕ} 0 1 = cc in absurd (omega arith)
 
 -- what is done after a test was done behind it
@@ -54,10 +55,10 @@ unfolding ◌>>◌ refuse◌if◌
 if-done e true x a h = refused-done h
 if-done e false x a h = (refl, h)
 
-pub or-done : {E A B : Type 0} (o : Option A) (e : E) (f : A → Result E B) (b : B) → ((o or e) >>= f) ≡ done b → (a : A) × (o ≡ some a) × (f a ≡ done b)
+pub or-done : {E A B : Type 0} (o : Option A) (e : E) (f : A → Result E B) (b : B) → ((o or e) >>= f) ≡ done b → (a : A) × (o ≡ Some a) × (f a ≡ done b)
 unfolding ◌>>=◌ ◌or◌
-or-done none e f b h = refused-done h
-or-done (some a) e f b h = (a, refl, h)
+or-done None e f b h = refused-done h
+or-done (Some a) e f b h = (a, refl, h)
 
 pub bind_done : {E A B : Type 0} (x : Result E A) (f : A → Result E B) (b : B) → (x >>= f) ≡ done b → (a : A) × (x ≡ done a) × (f a ≡ done b)
 unfolding ◌>>=◌
@@ -73,7 +74,7 @@ then-done (done a) y b h = (a, refl, h)
 pub past-if : {C E A : Type 0} (e : E) (b : Bool) (x : Result E A) (a : A) → ((refuse e if b) >> x) ≡ done a → (b ≡ false → x ≡ done a → C) → C
 past-if e b x a h k = let w = if-done e b x a h in k w.0 w.1
 
-pub past-or : {C E A B : Type 0} (o : Option A) (e : E) (f : A → Result E B) (b : B) → ((o or e) >>= f) ≡ done b → ((a : A) → o ≡ some a → f a ≡ done b → C) → C
+pub past-or : {C E A B : Type 0} (o : Option A) (e : E) (f : A → Result E B) (b : B) → ((o or e) >>= f) ≡ done b → ((a : A) → o ≡ Some a → f a ≡ done b → C) → C
 past-or o e f b h k = let w = or-done o e f b h in k w.0 w.1 w.2
 
 pub past : {C E A B : Type 0} (x : Result E A) (f : A → Result E B) (b : B) → (x >>= f) ≡ done b → ((a : A) → x ≡ done a → f a ≡ done b → C) → C
@@ -90,10 +91,10 @@ unfolding ◌>>◌ refuse◌if◌
 if-agree e true x y h = refl
 if-agree e false x y h = h refl
 
-pub or-agree : {E A B : Type 0} (o : Option A) (e : E) (f g : A → Result E B) → ((a : A) → o ≡ some a → f a ≡ g a) → ((o or e) >>= f) ≡ ((o or e) >>= g)
+pub or-agree : {E A B : Type 0} (o : Option A) (e : E) (f g : A → Result E B) → ((a : A) → o ≡ Some a → f a ≡ g a) → ((o or e) >>= f) ≡ ((o or e) >>= g)
 unfolding ◌>>=◌ ◌or◌
-or-agree none e f g h = refl
-or-agree (some a) e f g h = h a refl
+or-agree None e f g h = refl
+or-agree (Some a) e f g h = h a refl
 
 -- ── Texts ──
 pub bytes_eq : (a b : Bytes) → (a ≐ b) ≡ true → a ≡ b
@@ -140,7 +141,7 @@ module _ {A : Type 0} where
   all_get_d P (x ∷ xs) zero d p h = h.0
   all_get_d P (x ∷ xs) (suc i) d p h = all_get_d P xs i d p h.1
 
-  pub all-elem : (P : A → Type 0) (xs : List A) (i : ℕ) (x : A) → get_elem? xs i ≡ some x → All P xs → P x
+  pub all-elem : (P : A → Type 0) (xs : List A) (i : ℕ) (x : A) → slice_get xs i ≡ Some x → All P xs → P x
   all-elem P [] i x e h = none-some e
   all-elem P (y ∷ xs) zero x e h = let z : y ≡ x = cc in rw z at h.0
   all-elem P (y ∷ xs) (suc i) x e h = all-elem P xs i x e h.1
@@ -249,12 +250,12 @@ keep-none f [] h = refl
 keep-none f (x ∷ xs) h = rw h.0 (keep-none f xs h.1)
 
 -- ── Places ──
-pub elem_at : {A : Type 0} (xs : List A) (i : ℕ) → i < length xs → (x : A) × (get_elem? xs i ≡ some x)
+pub elem_at : {A : Type 0} (xs : List A) (i : ℕ) → i < length xs → (x : A) × (slice_get xs i ≡ Some x)
 elem_at [] i h = absurd (omega arith)
 elem_at (x ∷ xs) zero h = (x, refl)
 elem_at (x ∷ xs) (suc i) h = elem_at xs i (omega arith)
 
-pub elem_below : {A : Type 0} (xs : List A) (i : ℕ) (x : A) → get_elem? xs i ≡ some x → i < length xs
+pub elem_below : {A : Type 0} (xs : List A) (i : ℕ) (x : A) → slice_get xs i ≡ Some x → i < length xs
 elem_below [] i x e = none-some e
 elem_below (y ∷ xs) zero x e = omega arith
 elem_below (y ∷ xs) (suc i) x e = omega (arith, elem_below xs i x e)

@@ -1,7 +1,7 @@
 -- An opening loads each leaf of the text with its value, and nothing else.
 use Prim.Native.Nat.{◌+◌, ◌≤◌}
 use mathlib.Core.Path.{◌≡◌, refl, sym, ap₂, ◌∙◌}
-use mathlib.Core.Option.{Option, none, some}
+use Rattle.std.specs.Prelude.{Option, None, Some}
 use mathlib.Core.List.{[], ◌∷◌, ◌++◌}
 use mathlib.Core.Bool.{Bool, true, false}
 use lib.ListN.{length, length-take}
@@ -24,13 +24,13 @@ under [] v = v
 under (k ∷ q) v = object (member no_members k (under q v))
 
 -- a leaf is found at its own path
-own-path : (v : Value) (q : Keys) → leaf_at (under q (leaf v)) q ≡ some v
+own-path : (v : Value) (q : Keys) → leaf_at (under q (leaf v)) q ≡ Some v
 unfolding under leaf_at
 own-path v [] = refl
 own-path v (k ∷ q) = rw (bytes-refl k) (own-path v q)
 
 -- and at no other
-no_other : (v w : Value) (q r : Keys) → leaf_at (under q (leaf v)) r ≡ some w → r ≡ q
+no_other : (v w : Value) (q r : Keys) → leaf_at (under q (leaf v)) r ≡ Some w → r ≡ q
 unfolding under leaf_at
 no_other v w [] [] h = refl
 no_other v w [] (l ∷ r) h = none-some h
@@ -39,14 +39,14 @@ no_other v w (k ∷ q) (l ∷ r) h = by_cases (l ≐ k)
     (λ e. ap₂ ◌∷◌ (bytes_eq l k e) (no_other v w q r (rw e at h)))
     (λ e. none-some (rw e at h))
 
-no-members : (q r : Keys) → leaf_at (under q (object no_members)) r ≡ none
+no-members : (q r : Keys) → leaf_at (under q (object no_members)) r ≡ None
 unfolding under leaf_at
 no-members [] [] = refl
 no-members [] (l ∷ r) = refl
 no-members (k ∷ q) [] = refl
 no-members (k ∷ q) (l ∷ r) = by_cases (l ≐ k) (λ e. rw e (no-members q r)) (λ e. rw e)
 
-no_key : (m : Members) (k : Bytes) (p : Keys) → among k (keys_in m) ≡ false → leaf_under m k p ≡ none
+no_key : (m : Members) (k : Bytes) (p : Keys) → among k (keys_in m) ≡ false → leaf_under m k p ≡ None
 unfolding leaf_at keys_in among any
 no_key no_members k p h = refl
 no_key (member m l v) k p h = let (e, r) = or-neither (k ≐ l) _ h in rw e (no_key m k p r)
@@ -84,8 +84,8 @@ mutual
 put-found : (f : Field) (r : Keys) (fs : Fields) (o : Option Value) → Sorted fs → leaf_at (under f.path (leaf f.value)) r ≡ o →
     value_at r (put f fs) ≡ (o <|> value_at r fs)
 unfolding ◌<|>◌
-put-found f r fs none s e = value-other f r fs s (λ i. none-some (sym (rw i at e) ∙ own-path _ _))
-put-found f r fs (some w) s e = let i = no_other _ w f.path r e in rw i (value-put f fs ∙ sym (own-path _ _) ∙ rw i at e)
+put-found f r fs None s e = value-other f r fs s (λ i. none-some (sym (rw i at e) ∙ own-path _ _))
+put-found f r fs (Some w) s e = let i = no_other _ w f.path r e in rw i (value-put f fs ∙ sym (own-path _ _) ∙ rw i at e)
 
 store_found : (f : Field) (r : Keys) (fs : Fields) → Sorted fs → length fs + 1 ≤ max_fields →
     value_at r (store f fs) ≡ (leaf_at (under f.path (leaf f.value)) r <|> value_at r fs)
@@ -108,10 +108,10 @@ mutual
       node-found v (q ++ k ∷ []) r (store_members q m fs) (stored-sorted q m fs s) t₁ (omega (arith, members-most m q fs))
       ∙ rw (members-found m q r fs s t₂ (omega arith)) (new-member q r m k v (value_at r fs) new)
 
-or-none : {A : Type 0} (o : Option A) → (o <|> none) ≡ o
+or-none : {A : Type 0} (o : Option A) → (o <|> None) ≡ o
 unfolding ◌<|>◌
-or-none none = refl
-or-none (some a) = refl
+or-none None = refl
+or-none (Some a) = refl
 
 pub loads-all : LoadsAll
 unfolding under value_at

@@ -2,7 +2,7 @@
 -- The bytes 34, 44, 58, 123 and 125 are the quote, the comma, the colon and the two braces.
 use Prim.Native.Nat.{ℕ, zero, suc, ◌-◌, ◌≤◌, ◌<◌}
 use mathlib.Core.Path.{◌≡◌, refl, sym, ap, ◌∙◌}
-use mathlib.Core.Option.{Option, none, some}
+use Rattle.std.specs.Prelude.{Option, None, Some}
 use mathlib.Core.List.{List, [], ◌∷◌, ◌++◌, map, append_assoc}
 use mathlib.Core.Bool.{true, false}
 use lib.Dec.{leb, eqb}
@@ -68,8 +68,8 @@ behind d g t = let m = member g.before g.key t.0 in read_more (read_members (rea
 
 -- from behind a node to the end of all the objects around it
 unfoldable pub resume : ℕ → Frames → Node × Bytes → Option (Node × Bytes)
-resume d [] t = some t
-resume zero (g ∷ gs) t = none
+resume d [] t = Some t
+resume zero (g ∷ gs) t = None
 resume (suc d) (g ∷ gs) t = resume d gs t >>= behind d g >>= as_node
 
 -- ── What the readers do at the first byte ──
@@ -77,17 +77,17 @@ skip-none : (s : Bytes) → Stops is_blank s → skip s ≡ s
 unfolding skip
 skip-none s h = ap (λ (p : Bytes × Bytes). p.1) (span-all is_blank [] s (unfold all in refl) h)
 
-leaf-none : (s : Bytes) → read_leaf (123 ∷ s) ≡ none
+leaf-none : (s : Bytes) → read_leaf (123 ∷ s) ≡ None
 unfolding Opened
 leaf-none s = refl
 
 -- no value begins with a blank
-value-plain : (s : Bytes) (t : Value × Bytes) → read_value s ≡ some t → Stops is_blank s
+value-plain : (s : Bytes) (t : Value × Bytes) → read_value s ≡ Some t → Stops is_blank s
 unfolding Opened
 value-plain [] t h = tt
 value-plain (x ∷ s) t h = rw (other 0x20 refl, other 0x09 refl, other 0x0A refl, other 0x0D refl)
   where
-    other : (c : ℕ) → read_value (c ∷ s) ≡ none → eqb x c ≡ false
+    other : (c : ℕ) → read_value (c ∷ s) ≡ None → eqb x c ≡ false
     other c e = by_cases (eqb x c) (λ k. none-some (sym e ∙ rw (eqb-true x c k) at h)) (λ k. k)
 
 -- neither a digit nor a blank comes next
@@ -98,7 +98,7 @@ module _ (v : Value) (r : Bytes) (h : valid_value v ≡ true) (e : Ends r) where
   pub text-plain : Stops is_blank (value_text v ++ r)
   text-plain = value-plain _ _ (value-reads v r h e.0)
 
-  pub leaf-reads : (d : ℕ) → read_node d (value_text v ++ r) ≡ some (leaf v, r)
+  pub leaf-reads : (d : ℕ) → read_node d (value_text v ++ r) ≡ Some (leaf v, r)
   unfolding read_leaf ◌>>=◌ ◌<|>◌
   leaf-reads d = rw (value-reads v r h e.0, skip-none r e.1)
 
@@ -109,7 +109,7 @@ ascend-last k [] r = refl
 ascend-last k (l ∷ p) r = ap (125 ∷◌) (ascend-last k p r)
 
 pub closes : (d : ℕ) (gs : Frames) (v : Node) (r : Bytes) → Fits d (keys gs) → Stops is_blank r →
-    resume d gs (v, ascend (keys gs) ++ r) ≡ some (around gs v, r)
+    resume d gs (v, ascend (keys gs) ++ r) ≡ Some (around gs v, r)
 unfolding resume around
 closes d [] v r h b = unfold ascend in refl
 closes zero (g ∷ gs) v r h b = absurd h
@@ -128,7 +128,7 @@ unfolding start
 start_plain [] t b = b
 start_plain (k ∷ q) t b = unfold is_blank in refl
 
-key_reads : (k r : Bytes) → is_key k ≡ true → Stops is_blank r → read_key (34 ∷ (k ++ (34 ∷ r))) ≡ some (k, r)
+key_reads : (k r : Bytes) → is_key k ≡ true → Stops is_blank r → read_key (34 ∷ (k ++ (34 ∷ r))) ≡ Some (k, r)
 unfolding read_key token text after ◌>>=◌ ◌>>◌ check
 key_reads k r h b =
     let w : all name_byte k ≡ true = unfold is_key is_name_of in (and_both (within 1 max_key (length k)) (all name_byte k) h).1 in
@@ -174,25 +174,25 @@ module _ (k : Bytes) (q : Keys) (t : Bytes) where
         rw (closes d gs v (44 ∷ (descend (k ∷ q) ++ t)) f (unfold is_blank in refl), descend-skip, member-reads d _ _ n)
 
 -- ── The whole text ──
-as-object : (x : Option (Members × Bytes)) (n : Node) (r : Bytes) → x >>= as_node ≡ some (n, r) →
-    (m : Members) × (x ≡ some (m, r)) × (n ≡ object m)
+as-object : (x : Option (Members × Bytes)) (n : Node) (r : Bytes) → x >>= as_node ≡ Some (n, r) →
+    (m : Members) × (x ≡ Some (m, r)) × (n ≡ object m)
 unfolding ◌>>=◌ as_node
-as-object none n r h = none-some h
-as-object (some t) n r h =
+as-object None n r h = none-some h
+as-object (Some t) n r h =
     let e : ◌≡◌ {A = Node × Bytes} (object t.0, t.1) (n, r) = cc in
-    (t.0, ap (λ (x : Node × Bytes). some (t.0, x.1)) e, ap (λ (x : Node × Bytes). x.0) (sym e))
+    (t.0, ap (λ (x : Node × Bytes). Some (t.0, x.1)) e, ap (λ (x : Node × Bytes). x.0) (sym e))
 
-empty-none : (k : Bytes) (q : Keys) (t : Bytes) → read_empty (123 ∷ (descend (k ∷ q) ++ t)) ≡ none
+empty-none : (k : Bytes) (q : Keys) (t : Bytes) → read_empty (123 ∷ (descend (k ∷ q) ++ t)) ≡ None
 unfolding read_empty token text after ◌>>=◌
 empty-none k q t = rw (descend-skip k q t, descend-start k q t)
 
-whole-reads : (k : Bytes) (q : Keys) (t : Bytes) (m : Members) → read_object max_depth (123 ∷ (descend (k ∷ q) ++ t)) ≡ some (m, []) →
-    tree_of (123 ∷ (descend (k ∷ q) ++ t)) ≡ some m
+whole-reads : (k : Bytes) (q : Keys) (t : Bytes) (m : Members) → read_object max_depth (123 ∷ (descend (k ∷ q) ++ t)) ≡ Some (m, []) →
+    tree_of (123 ∷ (descend (k ∷ q) ++ t)) ≡ Some m
 unfolding tree_of ◌>>=◌ ◌>>◌ ◌<|>◌ ◌≐◌ check
 whole-reads k q t m h = rw (skip-none (123 ∷ (descend (k ∷ q) ++ t)) (unfold is_blank in refl), empty-none k q t, h)
 
-pub tree-reads : (p : Keys) (t : Bytes) (n : Node) → 1 ≤ length p → read_node max_depth (start p ++ t) ≡ some (n, []) →
-    (m : Members) × (tree_of (123 ∷ (descend p ++ t)) ≡ some m) × (n ≡ object m)
+pub tree-reads : (p : Keys) (t : Bytes) (n : Node) → 1 ≤ length p → read_node max_depth (start p ++ t) ≡ Some (n, []) →
+    (m : Members) × (tree_of (123 ∷ (descend p ++ t)) ≡ Some m) × (n ≡ object m)
 unfolding start ◌<|>◌
 tree-reads [] t n l h = absurd (omega arith)
 tree-reads (k ∷ q) t n l h =

@@ -2,7 +2,7 @@
 use Prim.Native.Nat.compare
 use Prim.Native.Nat.{ℕ, zero, suc, ◌+◌, ◌≤◌, compare, Ordering}
 use mathlib.Core.Path.{◌≡◌, refl, sym, ap, ap₂, subst, ◌∙◌}
-use mathlib.Core.Option.{none, some}
+use Rattle.std.specs.Prelude.{None, Some}
 use mathlib.Core.List.{List, [], ◌∷◌}
 use mathlib.Core.Bool.{Bool, true, false}
 use lib.ListN.{length, take}
@@ -207,11 +207,11 @@ sorted-put f (g ∷ gs) s = by_three (order_path f.path g.path)
 
 -- ── Finding ──
 module _ (p : Keys) (g : Field) (gs : Fields) where
-  pub value-less : Before p g.path → value_at p (g ∷ gs) ≡ none
+  pub value-less : Before p g.path → value_at p (g ∷ gs) ≡ None
   unfolding value_at by_order
   value-less e = rw e
 
-  pub value_same : order_path p g.path ≡ Ordering.eq → value_at p (g ∷ gs) ≡ some g.value
+  pub value_same : order_path p g.path ≡ Ordering.eq → value_at p (g ∷ gs) ≡ Some g.value
   unfolding value_at by_order
   value_same e = rw e
 
@@ -223,12 +223,12 @@ pub holds_more : (p : Keys) (g : Field) (gs : Fields) → order_path p g.path �
 unfolding holds
 holds_more p g gs e = ap is_some (value-more p g gs e)
 
-pub value-behind : (p : Keys) (gs : Fields) → Behind p gs → value_at p gs ≡ none
+pub value-behind : (p : Keys) (gs : Fields) → Behind p gs → value_at p gs ≡ None
 value-behind p [] b = unfold value_at in refl
 value-behind p (g ∷ gs) b = value-less p g gs b.0
 
 -- the field put in holds its value
-pub value-put : (f : Field) (gs : Fields) → value_at f.path (put f gs) ≡ some f.value
+pub value-put : (f : Field) (gs : Fields) → value_at f.path (put f gs) ≡ Some f.value
 value-put f [] = unfold put in (value_same f.path f [] (path-orders.self _))
 value-put f (g ∷ gs) = by_three (order_path f.path g.path)
     (λ e. rw (put-less f g gs e) (value_same f.path f (g ∷ gs) (path-orders.self _)))

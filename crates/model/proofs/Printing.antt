@@ -1,7 +1,7 @@
 -- What is printed depends neither on what the buffer and the list held nor, where they are long enough, on their lengths.
 use Prim.Native.Nat.{ℕ, ◌≤◌}
 use mathlib.Core.Path.{◌≡◌, refl, ap, ap₂, ◌∙◌}
-use mathlib.Core.Option.{Option, none, some}
+use Rattle.std.specs.Prelude.{Option, None, Some}
 use mathlib.Core.List.{List, [], ◌∷◌, ◌++◌, map}
 use lib.ListN.{length, replicate, length-replicate}
 use native.Mathlib.Nat.{le_refl}
@@ -34,9 +34,9 @@ module _ (s : State) (b b₁ : Bytes) (l l₁ : List ℕ) where
 
   deliveries-alike : (x : Result ℕ Change) (p : Option Field) → print_deliveries (conclude s b l x) p ≡ print_deliveries (conclude s b₁ l₁ x) p
   unfolding print_deliveries
-  deliveries-alike x none = refl
-  deliveries-alike (refused e) (some f) = unfold conclude unchanged in refl
-  deliveries-alike (done c) (some f) = unfold conclude in rw (over-take (notified s c) l, over-take (notified s c) l₁)
+  deliveries-alike x None = refl
+  deliveries-alike (refused e) (Some f) = unfold conclude unchanged in refl
+  deliveries-alike (done c) (Some f) = unfold conclude in rw (over-take (notified s c) l, over-take (notified s c) l₁)
 
   state-alike : (x : Result ℕ Change) → (conclude s b l x).state ≡ (conclude s b₁ l₁ x).state
   unfolding conclude unchanged
@@ -46,7 +46,7 @@ module _ (s : State) (b b₁ : Bytes) (l l₁ : List ℕ) where
 -- ── Length: where there is room, how much plays no part in a decision ──
 -- no copy is longer than a buffer must be
 abbrev pub CopiesFit : State → Type 0
-CopiesFit s = (i : ℕ) (u : User) → user_at s.tables.users i ≡ some u → length (copy_for s u) ≤ max_copy
+CopiesFit s = (i : ℕ) (u : User) → user_at s.tables.users i ≡ Some u → length (copy_for s u) ≤ max_copy
 
 module _ (s : State) (fit : CopiesFit s) (b b₁ : Bytes) (l l₁ : List ℕ)
     (room : max_copy ≤ length b) (room₁ : max_copy ≤ length b₁) (places : list_room ≤ length l) (places₁ : list_room ≤ length l₁) where
@@ -63,8 +63,8 @@ module _ (s : State) (fit : CopiesFit s) (b b₁ : Bytes) (l l₁ : List ℕ)
 
   line-decides-alike : (q : Option Request) → decide_line s b l q ≡ decide_line s b₁ l₁ q
   unfolding decide_line
-  line-decides-alike none = refl
-  line-decides-alike (some q) = decide-alike q
+  line-decides-alike None = refl
+  line-decides-alike (Some q) = decide-alike q
 
   decision-alike : (x : Bytes) → decision s (line x b l) ≡ decision s (line x b₁ l₁)
   unfolding decision

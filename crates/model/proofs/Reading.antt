@@ -1,7 +1,7 @@
 -- Laws of the readers: what they make of a text that was written for them, and what a text was that they read.
 use Prim.Native.Nat.{ℕ, zero, suc, ◌+◌, ◌-◌, ◌*◌, ◌/◌, ◌%◌, ◌^◌, ◌≤◌, ◌<◌}
 use mathlib.Core.Path.{◌≡◌, refl, sym, ap, ap₂, ◌∙◌}
-use mathlib.Core.Option.{Option, none, some}
+use Rattle.std.specs.Prelude.{Option, None, Some}
 use mathlib.Core.List.{List, [], ◌∷◌, ◌++◌, append_assoc, append-nil}
 use mathlib.Core.Bool.{Bool, true, false, not}
 use lib.Dec.{ltb, eqb}
@@ -29,31 +29,31 @@ all_snoc p [] x h k = rw k
 all_snoc p (y ∷ a) x h k = let w = and_both (p y) (all p a) h in rw w.0 (all_snoc p a x w.1 k)
 
 -- ── What was read, from what a reader made of it ──
-pub some_same : {A : Type 0} {a b : A} → some a ≡ some b → a ≡ b
+pub some_same : {A : Type 0} {a b : A} → Some a ≡ Some b → a ≡ b
 some_same h = cc
 
 pub bind-some : {A B C : Type 0} (o : Option A) (f : A → Option B) (b : B) →
-    (o >>= f) ≡ some b → ((a : A) → o ≡ some a → f a ≡ some b → C) → C
+    (o >>= f) ≡ Some b → ((a : A) → o ≡ Some a → f a ≡ Some b → C) → C
 unfolding ◌>>=◌
-bind-some none f b h k = none-some h
-bind-some (some a) f b h k = k a refl h
+bind-some None f b h k = none-some h
+bind-some (Some a) f b h k = k a refl h
 
-pub check-some : {A C : Type 0} (t : Bool) (x : Option A) (a : A) → (check t >> x) ≡ some a → (t ≡ true → x ≡ some a → C) → C
+pub check-some : {A C : Type 0} (t : Bool) (x : Option A) (a : A) → (check t >> x) ≡ Some a → (t ≡ true → x ≡ Some a → C) → C
 unfolding check ◌>>◌
 check-some true x a h k = k refl h
 check-some false x a h k = none-some h
 
 -- of several, the last one's case comes first
-pub after-cases : {A C : Type 0} (o : Option Bytes) (f : Bytes → Option A) (y : Option A) (a : A) → if_after o f y ≡ some a →
-    (o ≡ none → y ≡ some a → C) → ((r : Bytes) → o ≡ some r → f r ≡ some a → C) → C
+pub after-cases : {A C : Type 0} (o : Option Bytes) (f : Bytes → Option A) (y : Option A) (a : A) → if_after o f y ≡ Some a →
+    (o ≡ None → y ≡ Some a → C) → ((r : Bytes) → o ≡ Some r → f r ≡ Some a → C) → C
 unfolding if_after
-after-cases none f y a h g k = g refl h
-after-cases (some r) f y a h g k = k r refl h
+after-cases None f y a h g k = g refl h
+after-cases (Some r) f y a h g k = k r refl h
 
-pub either-some : {A C : Type 0} (o x : Option A) (a : A) → (o <|> x) ≡ some a → (x ≡ some a → C) → (o ≡ some a → C) → C
+pub either-some : {A C : Type 0} (o x : Option A) (a : A) → (o <|> x) ≡ Some a → (x ≡ Some a → C) → (o ≡ Some a → C) → C
 unfolding ◌<|>◌
-either-some none x a h f g = f h
-either-some (some b) x a h f g = g h
+either-some None x a h f g = f h
+either-some (Some b) x a h f g = g h
 
 -- ── Scanning ──
 -- a text that does not begin with a byte that passes
@@ -84,16 +84,16 @@ module _ (p : ℕ → Bool) where
   span-joins (x ∷ s) = by_cases (p x) (λ e. rw e (ap (x ∷◌) (span-joins s))) (λ e. rw e)
 
 -- ── A given beginning ──
-pub after_same : (w r : Bytes) → after w (w ++ r) ≡ some r
+pub after_same : (w r : Bytes) → after w (w ++ r) ≡ Some r
 unfolding after
 after_same [] r = refl
 after_same (x ∷ w) r = rw (eq-eqb x x refl) (after_same w r)
 
-pub after-other : (x y : ℕ) (w s : Bytes) → (x ≡ y → ⊥) → after (x ∷ w) (y ∷ s) ≡ none
+pub after-other : (x y : ℕ) (w s : Bytes) → (x ≡ y → ⊥) → after (x ∷ w) (y ∷ s) ≡ None
 unfolding after
 after-other x y w s h = rw (ne_eqb x y h)
 
-pub after-some : (w s r : Bytes) → after w s ≡ some r → s ≡ w ++ r
+pub after-some : (w s r : Bytes) → after w s ≡ Some r → s ≡ w ++ r
 unfolding after
 after-some [] s r h = some_same h
 after-some (x ∷ w) [] r h = none-some h
@@ -102,18 +102,18 @@ after-some (x ∷ w) (y ∷ s) r h = by_cases (eqb x y)
     (λ e. none-some (rw e at h))
 
 -- a beginning behind what was scanned
-pub after-span : (p : ℕ → Bool) (w s r : Bytes) → after w (span p s).1 ≡ some r → s ≡ (span p s).0 ++ (w ++ r)
+pub after-span : (p : ℕ → Bool) (w s r : Bytes) → after w (span p s).1 ≡ Some r → s ≡ (span p s).0 ++ (w ++ r)
 after-span p w s r h = sym (span-joins p s) ∙ ap ((span p s).0 ++◌) (after-some w _ r h)
 
 -- ── Before and behind the first byte c ──
-pub cut_at : (c : ℕ) (a r : Bytes) → all (λ x. not (eqb x c)) a ≡ true → cut c (a ++ c ∷ r) ≡ some (a, r)
+pub cut_at : (c : ℕ) (a r : Bytes) → all (λ x. not (eqb x c)) a ≡ true → cut c (a ++ c ∷ r) ≡ Some (a, r)
 unfolding cut all ◌>>=◌ in_front
 cut_at c [] r h = rw (eq-eqb c c refl)
 cut_at c (x ∷ a) r h =
     let w = and_both (not (eqb x c)) _ h in
     by_cases (eqb x c) (λ e. never (sym w.0 ∙ ap not e)) (λ e. rw (e, cut_at c a r w.1))
 
-pub cut-some : (c : ℕ) (s : Bytes) (q : Bytes × Bytes) → cut c s ≡ some q →
+pub cut-some : (c : ℕ) (s : Bytes) (q : Bytes × Bytes) → cut c s ≡ Some q →
     (s ≡ q.0 ++ c ∷ q.1) × (all (λ x. not (eqb x c)) q.0 ≡ true)
 unfolding cut all in_front
 cut-some c [] q h = none-some h

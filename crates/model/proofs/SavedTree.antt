@@ -2,7 +2,7 @@
 use Prim.Native.Nat.{Ordering}
 use Prim.Native.Nat.{ℕ, zero, suc, ◌+◌, ◌-◌, ◌≤◌, ◌<◌}
 use mathlib.Core.Path.{◌≡◌, refl, sym, ap, subst, ◌∙◌}
-use mathlib.Core.Option.{Option, some}
+use Rattle.std.specs.Prelude.{Option, Some}
 use mathlib.Core.List.{List, [], ◌∷◌, ◌++◌, append_assoc, append-nil, foldl}
 use mathlib.Core.Bool.{true, false}
 use lib.ListN.{length, length-append}
@@ -165,7 +165,7 @@ module _ (w : Value) (s : Bytes) (valid : valid_value w ≡ true) (ends : Ends s
   turns_at d gs p q v e = rw (← e) (turns d gs v q)
 
 closes_at : (d : ℕ) (gs : Frames) (p : Keys) (v : Node) → keys gs ≡ p → Fits d p →
-    resume d gs (v, ascend p) ≡ some (around gs v, [])
+    resume d gs (v, ascend p) ≡ Some (around gs v, [])
 closes_at d gs p v e = rw (← e, ← append-nil (ascend (keys gs))) (λ h. closes d gs v [] h tt)
 
 -- ── What stands behind a value ──
@@ -212,7 +212,7 @@ stored xs (f ∷ fs) s n =
 -- the reading x comes to the end, with the fields fs in the tree behind what u holds
 record Reads (x : Option (Node × Bytes)) (u : Node) (fs : Fields) : Type 0 where
   node : Node
-  whole : x ≡ some (node, [])
+  whole : x ≡ Some (node, [])
   once : twice_in node ≡ false
   counts : count_in node ≡ count_in u + length fs
   stores : store_node [] node [] ≡ store_all (store_node [] u []) fs
@@ -246,7 +246,7 @@ reads-behind f (g ∷ fs) a s v d =
 -- the tree that the saved text of fields is
 pub record SavedAs (fs : Fields) : Type 0 where
   pub tree : Members
-  pub read : tree_of (saved fs) ≡ some tree
+  pub read : tree_of (saved fs) ≡ Some tree
   pub once : twice tree ≡ false
   pub many : count tree ≡ length fs
   pub stored : store_members [] tree [] ≡ fs

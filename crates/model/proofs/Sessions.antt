@@ -2,7 +2,7 @@
 use Rattle.std.specs.Prelude.{if◌then◌else◌}
 use Prim.Native.Nat.{ℕ, suc, ◌+◌, ◌*◌, ◌≤◌}
 use mathlib.Core.Path.{◌≡◌, refl, sym, ap, ◌∙◌}
-use mathlib.Core.Option.{Option, none, some}
+use Rattle.std.specs.Prelude.{Option, None, Some}
 use mathlib.Core.List.{List, [], ◌∷◌}
 use mathlib.Core.Bool.{Bool, true, false, not, ◌&&◌, ◌||◌, and-true, and-false, or-false}
 use lib.Dec.{leb, ltb, eqb}
@@ -150,8 +150,8 @@ module _ {loaded : ℕ} {s : State} (r : Running loaded s) (n : ℕ) where
 
     shut-is : (o : Bool) → a.is_open ≡ o → in_set (only n) (number_in q) ≡ (not o && eqb (session_number i (login_at s i)) n)
     unfolding in_set only
-    shut-is true e = ap (in_set (only n)) d.closes ∙ ap (λ (b : Bool). in_set (only n) (if b then none else some (session_number i (login_at s i)))) e
-    shut-is false e = ap (in_set (only n)) d.closes ∙ ap (λ (b : Bool). in_set (only n) (if b then none else some (session_number i (login_at s i)))) e
+    shut-is true e = ap (in_set (only n)) d.closes ∙ ap (λ (b : Bool). in_set (only n) (if b then None else Some (session_number i (login_at s i)))) e
+    shut-is false e = ap (in_set (only n)) d.closes ∙ ap (λ (b : Bool). in_set (only n) (if b then None else Some (session_number i (login_at s i)))) e
 
     login-turns : Turns s s₁ n (in_set (only n) (session_in (answer_of (sets_login i a)))) (in_set (only n) (number_in q))
     login-turns = by_cases a.is_open
@@ -227,8 +227,8 @@ module _ (loaded n : ℕ) where
 -- ── A number without a session ──
 or-refused : {E A B : Type 0} (o : Option A) (e : E) (f : A → Result E B) → ((a : A) → f a ≡ refused e) → ((o or e) >>= f) ≡ refused e
 unfolding ◌>>=◌ ◌or◌
-or-refused none e f h = refl
-or-refused (some a) e f h = h a
+or-refused None e f h = refl
+or-refused (Some a) e f h = h a
 
 module _ (s : State) (n : ℕ) (none_open : is_open_number s n ≡ false) where
   nobody-asks : asker s n ≡ refused 14
@@ -242,7 +242,7 @@ module _ (s : State) (n : ℕ) (none_open : is_open_number s n ≡ false) where
   refused-without (push p v) b l = by_cases (ltb (length l) list_room) (λ e. rw e) (λ e. rw (e, nobody-asks))
   refused-without logout b l = rw nobody-asks
 
-  pub shut-refuses : (x b : Bytes) (l : List ℕ) (q : Ask) → request_of x ≡ some (in_session n q) → (outcome s (line x b l)).answer ≡ refusal (ground_without q l)
+  pub shut-refuses : (x b : Bytes) (l : List ℕ) (q : Ask) → request_of x ≡ Some (in_session n q) → (outcome s (line x b l)).answer ≡ refusal (ground_without q l)
   unfolding outcome decision decide_line conclude unchanged
   shut-refuses x b l q is = rw (is, refused-without q b l)
 
@@ -277,8 +277,8 @@ last-open s n last shut = by_cases (login_at s (index_in n)).is_open
     (λ e. e)
 
 -- a user without a session who gives the key is let in, until the last login
-pub lets-in : (s : State) (name : Bytes) (i : ℕ) (u : User) → user_named name s.tables.users ≡ some (i, u) → (login_at s i).is_open ≡ false →
-    (x b : Bytes) (l : List ℕ) → request_of x ≡ some (login name u.key) →
+pub lets-in : (s : State) (name : Bytes) (i : ℕ) (u : User) → user_named name s.tables.users ≡ Some (i, u) → (login_at s i).is_open ≡ false →
+    (x b : Bytes) (l : List ℕ) → request_of x ≡ Some (login name u.key) →
     (outcome s (line x b l)).answer ≡ (if leb max_logins (login_at s i).logins then refusal 18 else session (suc (session_number i (login_at s i))))
 unfolding outcome decision decide_line decide decide_login conclude unchanged answer_of session_number ◌>>=◌ ◌>>◌ refuse◌if◌ ◌or◌
 lets-in s name i u named shut x b l is = by_cases (leb max_logins (login_at s i).logins)
@@ -287,7 +287,7 @@ lets-in s name i u named shut x b l is = by_cases (leb max_logins (login_at s i)
 
 -- an open number is some user's, whom LOGOUT lets go
 pub lets-out : {loaded : ℕ} {s : State} → Running loaded s → (n : ℕ) → is_open_number s n ≡ true →
-    (x b : Bytes) (l : List ℕ) → request_of x ≡ some (in_session n logout) → (outcome s (line x b l)).answer ≡ accepted
+    (x b : Bytes) (l : List ℕ) → request_of x ≡ Some (in_session n logout) → (outcome s (line x b l)).answer ≡ accepted
 unfolding outcome decision decide_line decide decide_logout asker conclude unchanged answer_of is_open_number is_session user_at ◌>>=◌ ◌>>◌ refuse◌if◌ ◌or◌
 lets-out {s = s} r n is_open x b l is =
     let (u, at) = elem_at s.tables.users (index_in n) (r.seated (index_in n) (and_both _ _ is_open).0) in

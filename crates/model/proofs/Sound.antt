@@ -2,7 +2,7 @@
 use Prim.Native.Nat.{Ordering}
 use Prim.Native.Nat.{ℕ, ◌≤◌}
 use mathlib.Core.Path.{◌≡◌, refl, sym, ap, ap₂, subst, ◌∙◌}
-use mathlib.Core.Option.{Option, none, some}
+use Rattle.std.specs.Prelude.{Option, None, Some}
 use mathlib.Core.List.{List, [], ◌∷◌}
 use mathlib.Core.Bool.{Bool, true, false, not, ◌&&◌}
 use lib.ListN.{length, replicate, length-replicate}
@@ -34,8 +34,8 @@ use Rattle.model.proofs.Invariant.{Running, store-is-put, within-empty, total-em
 
 -- ── What a pushed field is ──
 -- what a line asks to store is valid: by each word's reader
-module _ (x : Bytes) (q : Request) (f : Field) (pushed : push_of q ≡ some f) where
-  from-login : read_login x ≡ some q → Valid f
+module _ (x : Bytes) (q : Request) (f : Field) (pushed : push_of q ≡ Some f) where
+  from-login : read_login x ≡ Some q → Valid f
   unfolding read_login push_of
   from-login h =
       bind-some _ _ _ h λ r e₁ h₁.
@@ -43,18 +43,18 @@ module _ (x : Bytes) (q : Request) (f : Field) (pushed : push_of q ≡ some f) w
       check-some _ _ _ h₂ λ c h₃.
       none-some (rw (← some_same h₃) at pushed)
 
-  from-ask : (word : Bytes) (a : Ask) → ((n : ℕ) → push_of (in_session n a) ≡ none) → read_ask word a x ≡ some q → Valid f
+  from-ask : (word : Bytes) (a : Ask) → ((n : ℕ) → push_of (in_session n a) ≡ None) → read_ask word a x ≡ Some q → Valid f
   unfolding read_ask
   from-ask word a quiet h =
       bind-some _ _ _ h λ r e₁ h₁.
       bind-some _ _ _ h₁ λ n e₂ h₂.
       none-some (sym (quiet n) ∙ rw (← some_same h₂) at pushed)
 
-  from-get : read_get x ≡ some q → Valid f
+  from-get : read_get x ≡ Some q → Valid f
   unfolding read_get push_of
   from-get h = from-ask _ get (λ n. refl) h
 
-  from-push : read_push x ≡ some q → Valid f
+  from-push : read_push x ≡ Some q → Valid f
   unfolding read_push push_of
   from-push h =
       bind-some _ _ _ h λ r e₁ h₁.
@@ -65,21 +65,21 @@ module _ (x : Bytes) (q : Request) (f : Field) (pushed : push_of q ≡ some f) w
       bind-some _ _ _ h₅ λ v e₆ h₆.
       rw (← some_same (rw (← some_same h₆) at pushed)) (record { path = keys-valid _ p e₅; value = value-of-valid _ v e₆ })
 
-  from-logout : read_logout x ≡ some q → Valid f
+  from-logout : read_logout x ≡ Some q → Valid f
   unfolding read_logout push_of
   from-logout h = from-ask _ logout (λ n. refl) h
 
   -- what the first of some readers reads, one of them reads
-  by-reader : {C : Type 0} (rs : List (Bytes → Option Request)) → All (λ read. read x ≡ some q → C) rs → first_of rs x ≡ some q → C
+  by-reader : {C : Type 0} (rs : List (Bytes → Option Request)) → All (λ read. read x ≡ Some q → C) rs → first_of rs x ≡ Some q → C
   unfolding first_of
   by-reader [] each h = none-some h
   by-reader (r ∷ rs) each h = either-some (r x) (first_of rs x) q h (by-reader rs each.1) each.0
 
-  pub push-valid : request_of x ≡ some q → Valid f
+  pub push-valid : request_of x ≡ Some q → Valid f
   unfolding request_of readers
   push-valid h = check-some _ _ _ h λ c k. by-reader readers (from-login, (from-get, (from-push, (from-logout, tt)))) k
 
-pub act-valid : (s : State) (a : Act) (f : Field) → push_in (event_in s a) ≡ some f → Valid f
+pub act-valid : (s : State) (a : Act) (f : Field) → push_in (event_in s a) ≡ Some f → Valid f
 unfolding push_in request_of_act
 act-valid s (line t b l) f h = bind-some _ _ _ h λ q e k. push-valid t q f k e
 act-valid s (save b) f h = bind-some _ _ _ h λ q e k. none-some e

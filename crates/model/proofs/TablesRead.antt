@@ -1,7 +1,7 @@
 -- What the tables of an accepted opening have, and what an accepted opening says of each text.
 use Prim.Native.Nat.{ℕ, suc, ◌+◌, ◌≤◌, ◌<◌}
 use mathlib.Core.Path.{◌≡◌, refl, sym, subst, ◌∙◌}
-use mathlib.Core.Option.{Option, none, some}
+use Rattle.std.specs.Prelude.{Option, None, Some}
 use mathlib.Core.List.{List, [], ◌∷◌, ◌++◌, append_assoc, append-nil}
 use mathlib.Core.Bool.{Bool, true, false, ◌&&◌}
 use lib.Dec.{leb, ltb}
@@ -82,7 +82,7 @@ pub record ValidUser (u : User) : Type 0 where
 abbrev pub ValidUsers : List User → Type 0
 ValidUsers us = AtMost max_users ValidUser us
 
-number-most : (m n : ℕ) (s : Bytes) → number m s ≡ some n → n ≤ m
+number-most : (m n : ℕ) (s : Bytes) → number m s ≡ Some n → n ≤ m
 unfolding number
 number-most m n s h = by_cases (is_decimal s && leb (worth 0 s) m)
     (λ e. let k : worth 0 s ≡ n = cc (rw e at h) in omega (arith, leb-true (worth 0 s) m (and_both (is_decimal s) _ e).1))
@@ -106,7 +106,7 @@ user-keeps val us us₁ v h =
 
 -- what is found is one of them
 first-all : {A : Type 0} (P : A → Type 0) (i : ℕ) (p : A → Bool) (f : ℕ × A) (xs : List A) →
-    first_from i p xs ≡ some f → All P xs → P f.1
+    first_from i p xs ≡ Some f → All P xs → P f.1
 unfolding first_from
 first-all P i p f [] h a = none-some h
 first-all {A} P i p f (x ∷ xs) h a = by_cases (p x)
@@ -144,7 +144,7 @@ binding-keeps val us us₁ v h =
 -- ── Policy ──
 pub record ValidRule (r : Rule) : Type 0 where
   pub role : is_name r.role ≡ true
-  pub read : (s : Bytes) × (steps_of s ≡ some r.path)
+  pub read : (s : Bytes) × (steps_of s ≡ Some r.path)
 
 abbrev pub ValidRules : List Rule → Type 0
 ValidRules rs = AtMost max_rules ValidRule rs
@@ -175,7 +175,7 @@ unfolding conflicts_with
 apart_from r [] h = tt
 apart_from r (e ∷ es) h = (λ k l. conflict-flip e.path r.path ∙ rw k at (h l).0, apart_from r es (λ l. (h l).1))
 
-none_apart : (n : ℕ) (es rs : List Rule) → conflict_from n es rs ≡ none → Pairs Apart es → Pairs Apart (es ++ rs)
+none_apart : (n : ℕ) (es rs : List Rule) → conflict_from n es rs ≡ None → Pairs Apart es → Pairs Apart (es ++ rs)
 unfolding conflict_from
 none_apart n es [] h p = rw append-nil p
 none_apart n es (r ∷ rs) h p = by_cases (is_write r && any (conflicts_with r.path) es)
@@ -193,10 +193,10 @@ unfolding from
 from-done n (refused e) a h = refused-done h
 from-done n (done b) a h = cc
 
-policy-done : (o : Option ℕ) → refuse_at o ≡ done tt → o ≡ none
+policy-done : (o : Option ℕ) → refuse_at o ≡ done tt → o ≡ None
 unfolding refuse_at
-policy-done none h = refl
-policy-done (some n) h = refused-done h
+policy-done None h = refl
+policy-done (Some n) h = refused-done h
 
 pub tables-valid : (t : Texts) (ts : Tables) → open_tables t ≡ done ts → ValidTables ts
 unfolding open_tables check_policy
@@ -252,7 +252,7 @@ opened_with r t s o short = rw (o.users-short, o.environments-short, o.policy-sh
 -- ── An accepted record ──
 pub record RecordFrom (ts : Tables) (s : Bytes) (fs : Fields) : Type 0 where
   pub tree : Members
-  pub read : tree_of s ≡ some tree
+  pub read : tree_of s ≡ Some tree
   pub once : twice tree ≡ false
   pub fits : count tree + quotas ts.users ≤ max_fields
   pub stored : store_members [] tree [] ≡ fs
@@ -280,7 +280,7 @@ record-again ts s fs r =
     rw (r.read, r.once, le-ltb _ _ r.fits, r.stored, false-any _ fs r.apart)
 
 -- one that is read, and whose fields are too many
-pub record-grown : (ts : Tables) (s : Bytes) (m : Members) → tree_of s ≡ some m → twice m ≡ false → max_fields < count m + quotas ts.users →
+pub record-grown : (ts : Tables) (s : Bytes) (m : Members) → tree_of s ≡ Some m → twice m ≡ false → max_fields < count m + quotas ts.users →
     open_record ts s ≡ refused (fault 9 4 0)
 unfolding open_record ◌>>=◌ ◌>>◌ refuse◌if◌ ◌or◌
 record-grown ts s m read once more = rw (read, once, lt-ltb _ _ more)

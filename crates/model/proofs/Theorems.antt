@@ -1,7 +1,7 @@
 -- The claims of specs/Claims, proved, in their order; some stand where their argument does (Changes, Spelling, Loads).
 use Prim.Native.Nat.{ℕ, zero, suc, ◌+◌, ◌*◌, ◌≤◌}
 use mathlib.Core.Path.{◌≡◌, refl, sym, ap, ap₂, ◌∙◌}
-use mathlib.Core.Option.{some}
+use Rattle.std.specs.Prelude.{Some}
 use mathlib.Core.List.{List, [], ◌∷◌, map, map-map}
 use mathlib.Core.Bool.{Bool, true, false, ◌||◌, and-false}
 use lib.Dec.{ltb, eqb}
@@ -371,7 +371,7 @@ set-cannot-tell r set h k =
     ∙ sym (one-run set r.start₂ r.acts₂ (ran-opened _ _ r.opened₂).running)
 
 -- what the set of one user sees is what that user may read
-seen-only : (t : Tables) (i : ℕ) (u : User) (p : Keys) → user_at t.users i ≡ some u → seen (only i) t p ≡ may_read t.policy u p
+seen-only : (t : Tables) (i : ℕ) (u : User) (p : Keys) → user_at t.users i ≡ Some u → seen (only i) t p ≡ may_read t.policy u p
 unfolding seen only reads_at reads_by user_at
 seen-only t i u p e = by_cases (may_read t.policy u p)
     (λ h. any-range _ 0 (length t.users) i (omega arith) (omega (arith, elem_below t.users i u e)) (rw (eq-eqb i i refl, e) h) ∙ sym h)
@@ -380,11 +380,11 @@ seen-only t i u p e = by_cases (may_read t.policy u p)
     (λ x. rw x)))
     ∙ sym h)
 
-seen-readable : (s : State) (i : ℕ) (u : User) → user_at s.tables.users i ≡ some u → seen_fields (only i) s ≡ readable s.tables.policy u s.fields
+seen-readable : (s : State) (i : ℕ) (u : User) → user_at s.tables.users i ≡ Some u → seen_fields (only i) s ≡ readable s.tables.policy u s.fields
 unfolding seen_fields readable
 seen-readable s i u e = keep-agree _ _ s.fields (all-every _ (λ f. seen-only s.tables i u f.path e) s.fields)
 
 pub user-cannot-tell : Claims.UserCannotTell
 user-cannot-tell r i u e h k =
-    let f : user_at r.start₂.tables.users i ≡ some u = rw (tables-equal r) at e in
+    let f : user_at r.start₂.tables.users i ≡ Some u = rw (tables-equal r) at e in
     set-cannot-tell r (only i) (seen-readable r.start₁ i u e ∙ h ∙ sym (seen-readable r.start₂ i u f)) k

@@ -1,7 +1,7 @@
 -- What a record text that is read gives: its fields are valid, sorted and diverge, and none is lost.
 use Prim.Native.Nat.{ℕ, zero, suc, ◌+◌, ◌≤◌}
 use mathlib.Core.Path.{◌≡◌, refl, sym, ap, subst, ◌∙◌}
-use mathlib.Core.Option.{Option, some}
+use Rattle.std.specs.Prelude.{Option, Some}
 use mathlib.Core.List.{[], ◌∷◌, ◌++◌}
 use mathlib.Core.Bool.{true, false}
 use lib.ListN.{length, length-append}
@@ -176,7 +176,7 @@ pub stored-count : (m : Members) → twice m ≡ false → count m ≤ max_field
 stored-count m h l = members-apart (λ n fs. n ≤ max_fields → length fs ≡ n) count-store m [] 0 [] h tt (λ k. refl) (rw zero-add l) ∙ zero-add (count m)
 
 -- ── Reading ──
-pub key-read : (s : Bytes) (t : Bytes × Bytes) → read_key s ≡ some t → is_key t.0 ≡ true
+pub key-read : (s : Bytes) (t : Bytes × Bytes) → read_key s ≡ Some t → is_key t.0 ≡ true
 unfolding read_key
 key-read s t h =
     bind-some _ _ t h λ s₁ quote h₁.
@@ -186,8 +186,8 @@ key-read s t h =
 
 -- members behind those that were read, from what a key holds
 members-read : (inner : Bytes → Option (Node × Bytes)) (P : Node → Type 0) →
-    ((s : Bytes) (t : Node × Bytes) → inner s ≡ some t → P t.0) →
-    (n : ℕ) (m : Members) (s : Bytes) (t : Members × Bytes) → read_members inner n m s ≡ some t →
+    ((s : Bytes) (t : Node × Bytes) → inner s ≡ Some t → P t.0) →
+    (n : ℕ) (m : Members) (s : Bytes) (t : Members × Bytes) → read_members inner n m s ≡ Some t →
     Keyed P m → Keyed P t.0
 unfolding read_members read_more
 members-read inner P f zero m s t h e = none-some h
@@ -200,36 +200,36 @@ members-read inner P f (suc n) m s t h e =
     (λ o c. bind-some _ _ t c λ s₄ brace h₄. subst (λ (t : Members × Bytes). Keyed P t.0) (some_same h₄) more)
     (λ s₄ comma h₄. members-read inner P f n (member m k.0 v.0) s₄ t h₄ more)
 
-empty-read : (d : ℕ) (s : Bytes) (t : Members × Bytes) → read_empty s ≡ some t → Deep (suc d) (object t.0)
+empty-read : (d : ℕ) (s : Bytes) (t : Members × Bytes) → read_empty s ≡ Some t → Deep (suc d) (object t.0)
 unfolding read_empty
 empty-read d s t h =
     bind-some _ _ t h λ s₁ left h₁.
     bind-some _ _ t h₁ λ s₂ right h₂.
     subst (λ (t : Members × Bytes). Deep (suc d) (object t.0)) (some_same h₂) tt
 
-module _ (value-valid : (s r : Bytes) (v : Value) → read_value s ≡ some (v, r) → valid_value v ≡ true) where
-  leaf-read : (d : ℕ) (s : Bytes) (t : Node × Bytes) → read_leaf s ≡ some t → Deep d t.0
+module _ (value-valid : (s r : Bytes) (v : Value) → read_value s ≡ Some (v, r) → valid_value v ≡ true) where
+  leaf-read : (d : ℕ) (s : Bytes) (t : Node × Bytes) → read_leaf s ≡ Some t → Deep d t.0
   unfolding read_leaf
   leaf-read d s t h =
       bind-some _ _ t h λ v value h₁.
       subst (λ (t : Node × Bytes). Deep d t.0) (some_same h₁) (deep-leaf d v.0 (value-valid s v.1 v.0 value))
 
   -- what a key holds, from what an object read there has
-  inner-read : (d : ℕ) (s : Bytes) (t : Node × Bytes) → ((o : Members × Bytes) → read_object d s ≡ some o → Deep d (object o.0)) →
-      (read_leaf s <|> (read_object d s >>= as_node)) ≡ some t → Deep d t.0
+  inner-read : (d : ℕ) (s : Bytes) (t : Node × Bytes) → ((o : Members × Bytes) → read_object d s ≡ Some o → Deep d (object o.0)) →
+      (read_leaf s <|> (read_object d s >>= as_node)) ≡ Some t → Deep d t.0
   unfolding as_node
   inner-read d s t f h = either-some _ _ t h
       (λ c. bind-some _ _ t c λ o read h₁. subst (λ (t : Node × Bytes). Deep d t.0) (some_same h₁) (f o read))
       (leaf-read d s t)
 
-  object-read : (d : ℕ) (s : Bytes) (t : Members × Bytes) → read_object d s ≡ some t → Deep d (object t.0)
+  object-read : (d : ℕ) (s : Bytes) (t : Members × Bytes) → read_object d s ≡ Some t → Deep d (object t.0)
   unfolding read_object
   object-read zero s t h = none-some h
   object-read (suc d) s t h =
       bind-some _ _ t h λ s₁ brace h₁.
       members-read _ (Deep d) (λ s t e. inner-read d s t (object-read d s) e) (length s₁) no_members s₁ t h₁ tt
 
-  pub tree-read : (s : Bytes) (m : Members) → tree_of s ≡ some m → Deep max_depth (object m)
+  pub tree-read : (s : Bytes) (m : Members) → tree_of s ≡ Some m → Deep max_depth (object m)
   unfolding tree_of
   tree-read s m h =
       bind-some _ _ m h λ t read h₁.
@@ -237,5 +237,5 @@ module _ (value-valid : (s r : Bytes) (v : Value) → read_value s ≡ some (v, 
       let deep = either-some _ _ t read (object-read max_depth (skip s) t) (empty-read 5 (skip s) t) in
       subst (λ (m : Members). Deep max_depth (object m)) (some_same h₂) deep
 
-  pub tree-valid : (s : Bytes) (m : Members) → tree_of s ≡ some m → All Valid (store_members [] m [])
+  pub tree-valid : (s : Bytes) (m : Members) → tree_of s ≡ Some m → All Valid (store_members [] m [])
   tree-valid s m h = stored-valid m (tree-read s m h)

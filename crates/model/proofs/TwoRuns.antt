@@ -3,7 +3,7 @@
 use Rattle.std.specs.Prelude.{if◌then◌else◌}
 use Prim.Native.Nat.{ℕ, zero, suc, ◌≤◌}
 use mathlib.Core.Path.{◌≡◌, refl, sym, ap, ap₂, ◌∙◌}
-use mathlib.Core.Option.{Option, none, some}
+use Rattle.std.specs.Prelude.{Option, None, Some}
 use mathlib.Core.List.{List, [], ◌∷◌, ◌++◌, map, append_assoc, append-nil}
 use mathlib.Core.Bool.{Bool, true, false, not, ◌&&◌, and-false}
 use lib.Dec.{eqb}
@@ -75,13 +75,13 @@ copies_of i (shows c) = copy i c ∷ []
 copies_of i (stores j a f) = []
 
 answers_of : (ℕ → Bool) → Result ℕ Change → Option ℕ → List Got
-answers_of In x none = []
-answers_of In (refused e) (some i) = if In i then answer i (refusal e) ∷ [] else []
-answers_of In (done c) (some i) = if In i then answer i (answer_of c) ∷ copies_of i c else []
+answers_of In x None = []
+answers_of In (refused e) (Some i) = if In i then answer i (refusal e) ∷ [] else []
+answers_of In (done c) (Some i) = if In i then answer i (answer_of c) ∷ copies_of i c else []
 
 deliveries_of : List ℕ → Option Field → List Got
-deliveries_of ms none = []
-deliveries_of ms (some f) = map (λ m. delivery (index_in m) (delivery_line f.path f.value m)) ms
+deliveries_of ms None = []
+deliveries_of ms (Some f) = map (λ m. delivery (index_in m) (delivery_line f.path f.value m)) ms
 
 pub over-take : {A : Type 0} (xs ys : List A) → take (length xs) (over xs ys) ≡ xs
 unfolding over
@@ -108,9 +108,9 @@ module _ (In : ℕ → Bool) (s : State) where
 
   answers-are : (b : Bytes) (l : List ℕ) (x : Result ℕ Change) (o : Option ℕ) → answers In (conclude s b l x) o ≡ answers_of In x o
   unfolding answers answers_of conclude unchanged copies
-  answers-are b l x none = refl
-  answers-are b l (refused e) (some i) = refl
-  answers-are b l (done c) (some i) = rw (copies-are i b c)
+  answers-are b l x None = refl
+  answers-are b l (refused e) (Some i) = refl
+  answers-are b l (done c) (Some i) = rw (copies-are i b c)
 
   told-are : (b : Bytes) (l : List ℕ) (x : Result ℕ Change) → keep (λ m. In (index_in m)) (take (conclude s b l x).told (conclude s b l x).list) ≡ notified_of x
   unfolding conclude unchanged notified_of
@@ -119,8 +119,8 @@ module _ (In : ℕ → Bool) (s : State) where
 
   deliveries-are : (b : Bytes) (l : List ℕ) (x : Result ℕ Change) (p : Option Field) → deliveries In (conclude s b l x) p ≡ deliveries_of (notified_of x) p
   unfolding deliveries deliveries_of
-  deliveries-are b l x none = refl
-  deliveries-are b l x (some f) = rw (told-are b l x)
+  deliveries-are b l x None = refl
+  deliveries-are b l x (Some f) = rw (told-are b l x)
 
   got-is : (b : Bytes) (l : List ℕ) (x : Result ℕ Change) (o : Option ℕ) (p : Option Field) → got_of In o p (conclude s b l x) ≡ gains x o p
   unfolding got_of gains
@@ -141,8 +141,8 @@ module _ (In : ℕ → Bool) where
   after_result v (done c) = apply c v
 
   after_own : State → ℕ → Option Request → State
-  after_own v room none = v
-  after_own v room (some q) = after_result v (decide v q room)
+  after_own v room None = v
+  after_own v room (Some q) = after_result v (decide v q room)
 
   after : State → Item → State
   after v (own t room) = after_own v room (request_of t)
@@ -155,12 +155,12 @@ module _ (In : ℕ → Bool) where
       (keep (λ j. ((login_at s j).is_open && ok j && reads_at s.tables j p) && In j) (range 0 (length s.tables.users)))
 
   gives_own : State → ℕ → Option Request → List Got
-  gives_own v room none = []
-  gives_own v room (some q) = gains In v (decide v q room) (owner v.tables q) (push_of q)
+  gives_own v room None = []
+  gives_own v room (Some q) = gains In v (decide v q room) (owner v.tables q) (push_of q)
 
   gives : State → Item → List Got
   gives v (own t room) = gives_own v room (request_of t)
-  gives v (others p x) = deliveries_of (listening v (λ j. true) p) (some (record { path = p; value = x }))
+  gives v (others p x) = deliveries_of (listening v (λ j. true) p) (Some (record { path = p; value = x }))
 
   afters : State → List Item → State
   afters v [] = v
@@ -222,11 +222,11 @@ module _ (In : ℕ → Bool) where
 
   -- ── Fields seen ──
   -- what a member of the set may read is seen
-  member-sees : (t : Tables) (i : ℕ) (u : User) (p : Keys) → In i ≡ true → user_at t.users i ≡ some u → may_read t.policy u p ≡ true → seen In t p ≡ true
+  member-sees : (t : Tables) (i : ℕ) (u : User) (p : Keys) → In i ≡ true → user_at t.users i ≡ Some u → may_read t.policy u p ≡ true → seen In t p ≡ true
   unfolding seen reads_at reads_by user_at
   member-sees t i u p e h k = any-range _ 0 (length t.users) i (omega arith) (omega (arith, elem_below t.users i u h)) (rw (e, h) k)
 
-  readable-seen : (s : State) (i : ℕ) (u : User) → In i ≡ true → user_at s.tables.users i ≡ some u →
+  readable-seen : (s : State) (i : ℕ) (u : User) → In i ≡ true → user_at s.tables.users i ≡ Some u →
       readable s.tables.policy u (view s).fields ≡ readable s.tables.policy u s.fields
   unfolding readable view seen_fields
   readable-seen s i u e h = keep-within (λ f. seen In s.tables f.path) (λ f. may_read s.tables.policy u f.path) (λ f k. member-sees s.tables i u f.path e h k) s.fields
@@ -347,7 +347,7 @@ module _ (In : ℕ → Bool) where
     view-own q (shows t) d h = unfold apply in refl
     view-own q (stores i a f) d h = sym (view-stores r d (rw d.owned at h))
 
-    own-result : (q : Request) (room : ℕ) (b : Bytes) (l : List ℕ) (x : Result ℕ Change) → decide s q room ≡ x → in_set In (owner_of s (some q)) ≡ true →
+    own-result : (q : Request) (room : ℕ) (b : Bytes) (l : List ℕ) (x : Result ℕ Change) → decide s q room ≡ x → in_set In (owner_of s (Some q)) ≡ true →
         after_result (view s) x ≡ view (conclude s b l x).state
     unfolding after_result conclude unchanged
     own-result q room b l (refused e) h k = refl
@@ -356,8 +356,8 @@ module _ (In : ℕ → Bool) where
     own-step : (t b : Bytes) (l : List ℕ) (q : Option Request) → request_of t ≡ q → in_set In (owner_of s q) ≡ true →
         Step s (own_request (line t b l) q) (got_of In (owner_of s q) (field_in q) (conclude s b l (decide_line s b l q))) (conclude s b l (decide_line s b l q)).state
     unfolding decide_line own_request Base.◌>>=◌ gives gives_own after after_own view
-    own-step t b l none e h = never (unfold in_set in sym h)
-    own-step t b l (some q) e h =
+    own-step t b l None e h = never (unfold in_set in sym h)
+    own-step t b l (Some q) e h =
         let room : ℕ = room_for q b l in
         let x : Result ℕ Change = decide s q room in
         let o : Option ℕ = owner s.tables q in
@@ -375,14 +375,14 @@ module _ (In : ℕ → Bool) where
     -- a request that is not the set's
     answers-out : (x : Result ℕ Change) (o : Option ℕ) → in_set In o ≡ false → answers_of In x o ≡ []
     unfolding answers_of in_set
-    answers-out x none h = refl
-    answers-out (refused e) (some i) h = rw h
-    answers-out (done c) (some i) h = rw h
+    answers-out x None h = refl
+    answers-out (refused e) (Some i) h = rw h
+    answers-out (done c) (Some i) h = rw h
 
     deliveries-none : (p : Option Field) → deliveries_of [] p ≡ []
     unfolding deliveries_of
-    deliveries-none none = refl
-    deliveries-none (some f) = refl
+    deliveries-none None = refl
+    deliveries-none (Some f) = refl
 
     got-out : (b : Bytes) (l : List ℕ) (x : Result ℕ Change) (o : Option ℕ) (p : Option Field) → in_set In o ≡ false →
         got_of In o p (conclude s b l x) ≡ deliveries_of (notified_of In s x) p
@@ -391,8 +391,8 @@ module _ (In : ℕ → Bool) where
 
     refused-no-item : (e : ℕ) (p : Option Field) → others_push In s (refusal e) p ≡ []
     unfolding others_push is_accepted
-    refused-no-item e none = refl
-    refused-no-item e (some f) = refl
+    refused-no-item e None = refl
+    refused-no-item e (Some f) = refl
 
     -- nobody of the set listens to a hidden path
     listening-hidden : (ok : ℕ → Bool) (p : Keys) → seen In s.tables p ≡ false → listening s ok p ≡ []
@@ -411,7 +411,7 @@ module _ (In : ℕ → Bool) where
         (λ k. rw k))
 
     others-push : {q : Option Request} {i : ℕ} {a : LoginState} {f : Field} → Stored s q i a f → In i ≡ false →
-        Step s (if seen In s.tables f.path then others f.path f.value ∷ [] else []) (deliveries_of (notified_of In s (done (stores i a f))) (some f)) (apply (stores i a f) s)
+        Step s (if seen In s.tables f.path then others f.path f.value ∷ [] else []) (deliveries_of (notified_of In s (done (stores i a f))) (Some f)) (apply (stores i a f) s)
     unfolding deliveries_of notified_of notified
     others-push {i = i} {f = f} d h =
         let k = kept-receivers s i f.path (few-at r) in

@@ -3,7 +3,7 @@ use Rattle.std.specs.Prelude.{ℕ, zero, suc, ◌+◌, ◌-◌, ◌*◌, ◌/◌
 use Prim.Native.String.{String}
 use Prim.Native.String as S
 use Prim.Native.Char.{code}
-use Rattle.std.proofs.Math.Option.{Option, none, some}
+use Rattle.std.specs.Prelude.{Option, None, Some}
 
 -- a byte is a number below 256, a text the list of its bytes
 abbrev pub Bytes : Type 0
@@ -48,12 +48,12 @@ range i (suc n) = i ∷ range (suc i) n
 
 -- the first element that passes, with its index, counted from i
 unfoldable pub first_from : {A : Type 0} → ℕ → (A → Bool) → List A → Option (ℕ × A)
-first_from i p [] = none
-first_from i p (x ∷ xs) = let r = first_from (suc i) p xs in if p x then some (i, x) else r
+first_from i p [] = None
+first_from i p (x ∷ xs) = let r = first_from (suc i) p xs in if p x then Some (i, x) else r
 
 unfoldable pub is_some : {A : Type 0} → Option A → Bool
-is_some none = false
-is_some (some a) = true
+is_some None = false
+is_some (Some a) = true
 
 -- two texts are the same
 infix 40 ◌≐◌
@@ -75,34 +75,34 @@ between c (x ∷ (y ∷ l)) = x ++ (c ++ between c (y ∷ l))
 -- ── Readers: a reader takes a text to what it read and the rest, or to nothing ──
 infixl 20 ◌>>=◌
 unfoldable pub ◌>>=◌ : {A B : Type 0} → Option A → (A → Option B) → Option B
-none >>= f = none
-some a >>= f = f a
+None >>= f = None
+Some a >>= f = f a
 
 infixl 20 ◌>>◌
 unfoldable pub ◌>>◌ : {A B : Type 0} → Option A → Option B → Option B
-none >> b = none
-some a >> b = b
+None >> b = None
+Some a >> b = b
 
 -- what the first reads, or else what the second does
 infixl 30 ◌<|>◌
 unfoldable pub ◌<|>◌ : {A : Type 0} → Option A → Option A → Option A
-none <|> b = b
-some a <|> b = some a
+None <|> b = b
+Some a <|> b = Some a
 
 unfoldable pub check : Bool → Option (Unit {0})
-check true = some tt
-check false = none
+check true = Some tt
+check false = None
 
 -- what stands behind the given beginning
 unfoldable pub after : Bytes → Bytes → Option Bytes
-after [] s = some s
-after (x ∷ w) [] = none
-after (x ∷ w) (y ∷ s) = let r = after w s in if eqb x y then r else none
+after [] s = Some s
+after (x ∷ w) [] = None
+after (x ∷ w) (y ∷ s) = let r = after w s in if eqb x y then r else None
 
 -- goes on with what stands behind a beginning, or else gives y
 unfoldable pub if_after : {A : Type 0} → Option Bytes → (Bytes → A) → A → A
-if_after none f y = y
-if_after (some r) f y = f r
+if_after None f y = y
+if_after (Some r) f y = f r
 
 unfoldable pub in_front : ℕ → Bytes × Bytes → Bytes × Bytes
 in_front x p = (x ∷ p.0, p.1)
@@ -114,8 +114,8 @@ span p (x ∷ s) = let r = in_front x (span p s) in if p x then r else ([], x �
 
 -- what stands before and behind the first byte c
 unfoldable pub cut : ℕ → Bytes → Option (Bytes × Bytes)
-cut c [] = none
-cut c (x ∷ s) = let r = cut c s >>= λ p. some (in_front x p) in if eqb x c then some ([], s) else r
+cut c [] = None
+cut c (x ∷ s) = let r = cut c s >>= λ p. Some (in_front x p) in if eqb x c then Some ([], s) else r
 
 -- ── Numbers in decimal ──
 unfoldable pub within : ℕ → ℕ → ℕ → Bool
@@ -137,7 +137,7 @@ is_decimal (d ∷ (e ∷ ds)) = within 49 57 d && all is_digit (e ∷ ds)
 
 -- a whole text that is a number of at most m
 unfoldable pub number : ℕ → Bytes → Option ℕ
-number m s = if is_decimal s && leb (worth 0 s) m then some (worth 0 s) else none
+number m s = if is_decimal s && leb (worth 0 s) m then Some (worth 0 s) else None
 
 -- the digits of n, of which there are at most k
 unfoldable pub digits : ℕ → ℕ → Bytes

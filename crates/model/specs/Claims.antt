@@ -1,6 +1,6 @@
 -- The claims about runs, by the club's three conditions, each with its sentence: of document 01, of document 02 where a request is named, or of the conditions where it says so.
 use Rattle.std.specs.Prelude.{ℕ, suc, ◌+◌, ◌*◌, ◌≤◌, ◌<◌, ◌≡◌, List, [], ◌∷◌, map, Bool, true, false, not, ◌&&◌, ◌||◌, leb, ltb, eqb, length, take, replicate, if◌then◌else◌}
-use Rattle.std.proofs.Math.Option.{some}
+use Rattle.std.specs.Prelude.{Some}
 use Rattle.model.specs.Base.{Bytes, any, all, keep, joined, sum, range, ◌≐◌}
 use Rattle.model.specs.Limits.{max_fields, max_copy, list_room, per_user, max_logins}
 use Rattle.model.specs.Values.{Value, value_of, value_text, valid_value}
@@ -45,7 +45,7 @@ RefusedAct =
 
 -- what an accepted push at index i of the value v to the path p makes of a state
 pub record OneFieldChanged (s s₁ : State) (i : ℕ) (p : Keys) (v : Value) : Type 0 where
-  pub holds_value : value_at p s₁.fields ≡ some v
+  pub holds_value : value_at p s₁.fields ≡ Some v
   pub other_fields : (q : Keys) → (q ≡ p → ⊥) → value_at q s₁.fields ≡ value_at q s.fields
   pub own_login : login_at s₁ i ≡ record {
     logins = (login_at s i).logins;
@@ -59,7 +59,7 @@ pub record OneFieldChanged (s s₁ : State) (i : ℕ) (p : Keys) (v : Value) : T
 abbrev pub PushChangesOne : Type 0
 PushChangesOne =
     (t : Texts) (s : State) → Reached t s → (x b : Bytes) (l : List ℕ) (n : ℕ) (p : Keys) (v : Value) →
-    request_of x ≡ some (in_session n (push p v)) → (outcome s (line x b l)).answer ≡ accepted →
+    request_of x ≡ Some (in_session n (push p v)) → (outcome s (line x b l)).answer ≡ accepted →
     OneFieldChanged s (outcome s (line x b l)).state (index_in n) p v
 
 -- an act's outcome that has this login state at index i, and nothing else changed
@@ -86,7 +86,7 @@ LoginChangesOne =
 abbrev pub LogoutChangesOne : Type 0
 LogoutChangesOne =
     (t : Texts) (s : State) → Reached t s → (x b : Bytes) (l : List ℕ) (n : ℕ) →
-    request_of x ≡ some (in_session n logout) → (outcome s (line x b l)).answer ≡ accepted →
+    request_of x ≡ Some (in_session n logout) → (outcome s (line x b l)).answer ≡ accepted →
     OneLoginChanged s (line x b l) (outcome s (line x b l)) (index_in n) (record {
       logins = (login_at s (index_in n)).logins;
       is_open = false;
@@ -136,7 +136,7 @@ NothingFallsOff =
 -- an opening loads each leaf of the text with its value, and nothing else
 abbrev pub LoadsAll : Type 0
 LoadsAll =
-    (t : Texts) (s : State) (m : Members) → opened t ≡ done s → tree_of t.record_text ≡ some m →
+    (t : Texts) (s : State) (m : Members) → opened t ≡ done s → tree_of t.record_text ≡ Some m →
     (p : Keys) → value_at p s.fields ≡ leaf_at (object m) p
 
 -- ── Condition 2: saving and opening again ──
@@ -189,7 +189,7 @@ CountsOwnLogins =
 abbrev pub LoginAnswers : Type 0
 LoginAnswers =
     (t : Texts) (s : State) (acts : List Act) → opened t ≡ done s → (a : Act) (n : ℕ) → (outcome (end s acts) a).answer ≡ session n →
-    (i : ℕ) × (owner_in (event_in (end s acts) a) ≡ some i) × (n ≡ per_user * i + suc (length (keep (login_by i) (events s acts))))
+    (i : ℕ) × (owner_in (event_in (end s acts) a) ≡ Some i) × (n ≡ per_user * i + suc (length (keep (login_by i) (events s acts))))
 
 -- 02, 1: "The logins of a user end at 65,535"
 abbrev pub LoginsEnd : Type 0
@@ -199,7 +199,7 @@ LoginsEnd = (t : Texts) (s : State) → Reached t s → (i : ℕ) → (login_at 
 abbrev pub NumberDivides : Type 0
 NumberDivides =
     (t : Texts) (s : State) (acts : List Act) → opened t ≡ done s → (a : Act) (n : ℕ) → (outcome (end s acts) a).answer ≡ session n →
-    (owner_in (event_in (end s acts) a) ≡ some (index_in n)) × (count_in n ≡ suc (length (keep (login_by (index_in n)) (events s acts))))
+    (owner_in (event_in (end s acts) a) ≡ Some (index_in n)) × (count_in n ≡ suc (length (keep (login_by (index_in n)) (events s acts))))
 
 -- ── Condition 2: sessions (02, 1) ──
 -- a number is answered at most once
@@ -224,7 +224,7 @@ OpenByParts =
 -- "LOGOUT gives 11, then 14": accepted exactly where the number is open
 abbrev pub LogoutAnswers : Type 0
 LogoutAnswers =
-    (t : Texts) (s : State) (acts : List Act) → opened t ≡ done s → (x b : Bytes) (l : List ℕ) (n : ℕ) → request_of x ≡ some (in_session n logout) →
+    (t : Texts) (s : State) (acts : List Act) → opened t ≡ done s → (x b : Bytes) (l : List ℕ) (n : ℕ) → request_of x ≡ Some (in_session n logout) →
     (outcome (end s acts) (line x b l)).answer ≡ (if is_open_after (events s acts) n then accepted else refusal 14)
 
 -- "14 no open session has this number"; a PUSH is refused 15 before, where its list is too short
@@ -235,7 +235,7 @@ ground_without logout l = 14
 
 -- a number with which nothing is done: each line that carries it is refused, and no list receives it
 pub record Shut (s : State) (n : ℕ) : Type 0 where
-  pub refuses : (x b : Bytes) (l : List ℕ) (q : Ask) → request_of x ≡ some (in_session n q) → (outcome s (line x b l)).answer ≡ refusal (ground_without q l)
+  pub refuses : (x b : Bytes) (l : List ℕ) (q : Ask) → request_of x ≡ Some (in_session n q) → (outcome s (line x b l)).answer ≡ refusal (ground_without q l)
   pub not_told : (a : Act) → any (eqb n) (take (outcome s a).told (outcome s a).list) ≡ false
 
 -- so it is with every number that is not open: past, still to come, or nobody's
@@ -256,8 +256,8 @@ abbrev pub LogsInAgain : Type 0
 LogsInAgain =
     (t : Texts) (s : State) (acts : List Act) → opened t ≡ done s →
     (n : ℕ) → any (closes n) (events s acts) ≡ true → count_in n ≡ length (keep (login_by (index_in n)) (events s acts)) →
-    (name : Bytes) (u : User) → user_named name s.tables.users ≡ some (index_in n, u) →
-    (x b : Bytes) (l : List ℕ) → request_of x ≡ some (login name u.key) →
+    (name : Bytes) (u : User) → user_named name s.tables.users ≡ Some (index_in n, u) →
+    (x b : Bytes) (l : List ℕ) → request_of x ≡ Some (login name u.key) →
     (outcome (end s acts) (line x b l)).answer ≡ (if leb max_logins (count_in n) then refusal 18 else session (suc n))
 
 -- ── Condition 2: growth ──
@@ -288,14 +288,14 @@ CountsOwnPushes =
 -- and never exceeds the quota
 abbrev pub WithinQuota : Type 0
 WithinQuota =
-    (t : Texts) (s : State) → Reached t s → (i : ℕ) (u : User) → user_at s.tables.users i ≡ some u →
+    (t : Texts) (s : State) → Reached t s → (i : ℕ) (u : User) → user_at s.tables.users i ≡ Some u →
     (login_at s i).created ≤ u.quota
 
 -- ── Condition 2: lengths ──
 -- "A copy never exceeds 51,069 bytes"
 abbrev pub CopyBound : Type 0
 CopyBound =
-    (t : Texts) (s : State) → Reached t s → (i : ℕ) (u : User) → user_at s.tables.users i ≡ some u →
+    (t : Texts) (s : State) → Reached t s → (i : ℕ) (u : User) → user_at s.tables.users i ≡ Some u →
     length (copy_for s u) ≤ max_copy
 
 unfoldable pub ascends : List ℕ → Bool
@@ -312,18 +312,18 @@ ListAscends =
 -- ── Condition 2: spelling ──
 -- reading the standard spelling of a policy path gives the path back
 abbrev pub StepsReadBack : Type 0
-StepsReadBack = (s : Bytes) (p : Steps) → steps_of s ≡ some p → steps_of (steps_text p) ≡ some p
+StepsReadBack = (s : Bytes) (p : Steps) → steps_of s ≡ Some p → steps_of (steps_text p) ≡ Some p
 
 -- so paths with one standard spelling are one path
 abbrev pub OneSpelling : Type 0
-OneSpelling = (s₁ s₂ : Bytes) (p₁ p₂ : Steps) → steps_of s₁ ≡ some p₁ → steps_of s₂ ≡ some p₂ → steps_text p₁ ≡ steps_text p₂ → p₁ ≡ p₂
+OneSpelling = (s₁ s₂ : Bytes) (p₁ p₂ : Steps) → steps_of s₁ ≡ Some p₁ → steps_of s₂ ≡ Some p₂ → steps_text p₁ ≡ steps_text p₂ → p₁ ≡ p₂
 
 -- "with path and value as pushed": each has one spelling
 abbrev pub KeysAsWritten : Type 0
-KeysAsWritten = (s : Bytes) (p : Keys) → keys_of s ≡ some p → keys_text p ≡ s
+KeysAsWritten = (s : Bytes) (p : Keys) → keys_of s ≡ Some p → keys_text p ≡ s
 
 abbrev pub ValueAsWritten : Type 0
-ValueAsWritten = (s : Bytes) (v : Value) → value_of s ≡ some v → value_text v ≡ s
+ValueAsWritten = (s : Bytes) (v : Value) → value_of s ≡ Some v → value_text v ≡ s
 
 -- ── Condition 2: what `serve` prints ──
 -- a line with the zeros that `serve` gives
@@ -384,7 +384,7 @@ SetCannotTell =
 -- the user may read are the same in the same order"
 abbrev pub UserCannotTell : Type 0
 UserCannotTell =
-    (r : TwoRuns) (i : ℕ) (u : User) → user_at r.start₁.tables.users i ≡ some u →
+    (r : TwoRuns) (i : ℕ) (u : User) → user_at r.start₁.tables.users i ≡ Some u →
     readable r.start₁.tables.policy u r.start₁.fields ≡ readable r.start₂.tables.policy u r.start₂.fields →
     sequence (only i) (events r.start₁ r.acts₁) ≡ sequence (only i) (events r.start₂ r.acts₂) →
     got (only i) (events r.start₁ r.acts₁) ≡ got (only i) (events r.start₂ r.acts₂)

@@ -1,6 +1,6 @@
 -- Document 01, "Record, names and paths": fields, their order, and the table that holds them.
 use Prim.Native.Nat.{compare, Ordering}
-use Rattle.std.proofs.Math.Option.{Option, none, some}
+use Rattle.std.specs.Prelude.{Option, None, Some}
 use Rattle.std.specs.Prelude.{List, [], ◌∷◌, Bool, ◌&&◌, length, take}
 use Rattle.model.specs.Base.{Bytes, all, is_some, within}
 use Rattle.model.specs.Limits.{max_depth, max_fields}
@@ -56,8 +56,8 @@ by_order Ordering.gt a b c = c
 -- ── One search serves finding and putting: it ends at the first path that is not before p ──
 -- the value that the field at p holds
 unfoldable pub value_at : Keys → Fields → Option Value
-value_at p [] = none
-value_at p (g ∷ gs) = let r = value_at p gs in by_order (order_path p g.path) none (some g.value) r
+value_at p [] = None
+value_at p (g ∷ gs) = let r = value_at p gs in by_order (order_path p g.path) None (Some g.value) r
 
 unfoldable pub holds : Keys → Fields → Bool
 holds p fs = is_some (value_at p fs)

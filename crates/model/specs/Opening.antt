@@ -1,6 +1,6 @@
 -- Document 01, "Opening the four texts": the state, and how an opening makes it, all or nothing.
 use Rattle.std.specs.Prelude.{ℕ, suc, ◌+◌, List, [], ◌∷◌, ◌++◌, map, Bool, false, ◌&&◌, ltb, length, replicate, if◌then◌else◌}
-use Rattle.std.proofs.Math.Option.{Option, none, some}
+use Rattle.std.specs.Prelude.{Option, None, Some}
 use Rattle.model.specs.Base.{Bytes, any, sum}
 use Rattle.model.specs.Limits.{max_fields, max_users, max_text}
 use Rattle.model.specs.Fields.{Fields}
@@ -63,14 +63,14 @@ from t (done a) = done a
 
 -- the number, counted from n, of the first WRITE line in conflict with an earlier one
 unfoldable pub conflict_from : ℕ → List Rule → List Rule → Option ℕ
-conflict_from n above [] = none
+conflict_from n above [] = None
 conflict_from n above (r ∷ rs) =
     let next = conflict_from (suc n) (above ++ r ∷ []) rs in
-    if is_write r && any (conflicts_with r.path) above then some n else next
+    if is_write r && any (conflicts_with r.path) above then Some n else next
 
 unfoldable pub refuse_at : Option ℕ → Result Fault (Unit {0})
-refuse_at none = done tt
-refuse_at (some n) = refused (fault 5 3 n)
+refuse_at None = done tt
+refuse_at (Some n) = refused (fault 5 3 n)
 
 -- "After the policy's lines: 5 the first WRITE line that tangles with an earlier one"
 unfoldable pub check_policy : List Rule → Result Fault (Unit {0})

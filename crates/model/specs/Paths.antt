@@ -1,6 +1,6 @@
 -- Document 01, "Record, names and paths": how a field's path and a policy's path are spelled and read.
 use Rattle.std.specs.Prelude.{ℕ, zero, suc, List, [], ◌∷◌, ◌++◌, map, Bool, false, not, ◌&&◌, ◌||◌, leb, eqb, length}
-use Rattle.std.proofs.Math.Option.{Option, none, some}
+use Rattle.std.specs.Prelude.{Option, None, Some}
 use Rattle.model.specs.Base.{Bytes, text, joined, between, ◌>>=◌, ◌>>◌, ◌<|>◌, check, after, if_after, span, is_digit}
 use Rattle.model.specs.Limits.{max_depth, max_listed, max_path_text}
 use Rattle.model.specs.Names.{is_letter, name_byte, is_key, plain_byte, is_plain}
@@ -54,7 +54,7 @@ read_quoted q s = do
   let (n, r) = span name_byte s₁
   check (is_key n)
   r₁ ← after q r
-  some (n, r₁)
+  Some (n, r₁)
 
 -- "names in either quote"
 unfoldable pub read_either : Bytes → Option (Bytes × Bytes)
@@ -66,11 +66,11 @@ in_brackets inner s = do
   s₁ ← after (text "[") s
   (a, r) ← inner s₁
   r₁ ← after (text "]") r
-  some (a, r₁)
+  Some (a, r₁)
 
 -- ── A step in each spelling ──
 unfoldable pub read_wildcard : Bytes → Option (Step × Bytes)
-read_wildcard s = after (text "*") s >>= λ r. some (wildcard, r)
+read_wildcard s = after (text "*") s >>= λ r. Some (wildcard, r)
 
 unfoldable pub identifier_byte : ℕ → Bool
 identifier_byte x = is_letter x || is_digit x || eqb x 0x5F
@@ -84,7 +84,7 @@ unfoldable pub read_identifier : Bytes → Option (Step × Bytes)
 read_identifier s = do
   let (n, r) = span identifier_byte s
   check (is_key n && starts_well n)
-  some (names (n ∷ []), r)
+  Some (names (n ∷ []), r)
 
 -- "`.n` .., `.*`"
 unfoldable pub read_dotted : Bytes → Option (Step × Bytes)
@@ -96,18 +96,18 @@ read_environment o s = do
   s₁ ← after (operator_text o) s
   let (n, r) = span plain_byte s₁
   check (is_plain n)
-  some (environment o n, r)
+  Some (environment o n, r)
 
 -- names behind those read, with commas between, k more at most
 unfoldable pub read_names : ℕ → List Bytes → Bytes → Option (List Bytes × Bytes)
-read_names zero ns s = none
+read_names zero ns s = None
 read_names (suc k) ns s = do
   (n, r) ← read_either s
-  if_after (after (text ",") r) (read_names k (ns ++ n ∷ [])) (some (ns ++ n ∷ [], r))
+  if_after (after (text ",") r) (read_names k (ns ++ n ∷ [])) (Some (ns ++ n ∷ [], r))
 
 -- "1 to 4 names in either quote and commas between"
 unfoldable pub read_list : Bytes → Option (Step × Bytes)
-read_list s = read_names max_listed [] s >>= λ t. some (names t.0, t.1)
+read_list s = read_names max_listed [] s >>= λ t. Some (names t.0, t.1)
 
 -- what a step has between brackets
 unfoldable pub read_selector : Bytes → Option (Step × Bytes)
@@ -119,9 +119,9 @@ read_step s = read_dotted s <|> in_brackets read_selector s
 -- ── A whole path ──
 -- k of what `one` reads at most, up to the text's end, behind those read
 unfoldable pub read_all : {A : Type 0} → (Bytes → Option (A × Bytes)) → ℕ → List A → Bytes → Option (List A)
-read_all one zero p [] = some p
-read_all one zero p (x ∷ s) = none
-read_all one (suc k) p [] = some p
+read_all one zero p [] = Some p
+read_all one zero p (x ∷ s) = None
+read_all one (suc k) p [] = Some p
 read_all one (suc k) p (x ∷ s) = one (x ∷ s) >>= λ t. read_all one k (p ++ t.0 ∷ []) t.1
 
 -- `$` and 1 to 6 of what `one` reads
@@ -130,14 +130,14 @@ read_path one s = do
   s₁ ← after (text "$") s
   p ← read_all one max_depth [] s₁
   check (leb 1 (length p))
-  some p
+  Some p
 
 -- a policy path, whole
 unfoldable pub steps_of : Bytes → Option Steps
 steps_of s = do
   p ← read_path read_step s
   check (leb (length (steps_text p)) max_path_text)
-  some p
+  Some p
 
 unfoldable pub read_key_step : Bytes → Option (Bytes × Bytes)
 read_key_step s = in_brackets (read_quoted (text "'")) s

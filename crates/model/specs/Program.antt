@@ -1,6 +1,6 @@
 -- Document 01, "One afternoon in the hall": what the program `serve` prints, from the four files and its input.
 use Rattle.std.specs.Prelude.{ℕ, List, [], ◌∷◌, ◌++◌, map, take, replicate}
-use Rattle.std.proofs.Math.Option.{Option, none, some}
+use Rattle.std.specs.Prelude.{Option, None, Some}
 use Rattle.model.specs.Base.{Bytes, text, joined, decimal}
 use Rattle.model.specs.Limits.{list_room, max_copy}
 use Rattle.model.specs.Fields.{Field}
@@ -13,8 +13,8 @@ use Rattle.model.specs.Runs
 
 -- "the deliveries for PUSH"
 unfoldable pub print_deliveries : Outcome → Option Field → Bytes
-print_deliveries o none = []
-print_deliveries o (some f) = joined (map (λ m. delivery_line f.path f.value m ++ text "\n") (take o.told o.list))
+print_deliveries o None = []
+print_deliveries o (Some f) = joined (map (λ m. delivery_line f.path f.value m ++ text "\n") (take o.told o.list))
 
 -- "`OK;session` for a login, `OK;length` and the copy for GET, `OK` .. for PUSH, `NO;number` for a refusal"; "prints `OK`" for LOGOUT (02, 1)
 unfoldable pub print_answer : Bytes → Answer → Bytes

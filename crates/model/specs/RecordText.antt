@@ -1,6 +1,6 @@
 -- Document 01, "Record, names and paths": record text. A text is read to a tree of objects; what is asked of it is asked of the tree.
 use Rattle.std.specs.Prelude.{ℕ, zero, suc, ◌+◌, List, [], ◌∷◌, ◌++◌, Bool, false, ◌||◌, eqb, length, if◌then◌else◌}
-use Rattle.std.proofs.Math.Option.{Option, none, some}
+use Rattle.std.specs.Prelude.{Option, None, Some}
 use Rattle.model.specs.Base.{Bytes, text, among, ◌≐◌, ◌>>=◌, ◌>>◌, ◌<|>◌, check, after, if_after, span}
 use Rattle.model.specs.Limits.{max_depth}
 use Rattle.model.specs.Names.{name_byte, is_key}
@@ -28,7 +28,7 @@ skip s = (span is_blank s).1
 
 -- a token, with the blanks behind it
 unfoldable pub token : Bytes → Bytes → Option Bytes
-token w s = after w s >>= λ r. some (skip r)
+token w s = after w s >>= λ r. Some (skip r)
 
 -- "Keys that are no names .. are not in this grammar"
 unfoldable pub read_key : Bytes → Option (Bytes × Bytes)
@@ -37,18 +37,18 @@ read_key s = do
   let (k, r) = span name_byte s₁
   check (is_key k)
   r₁ ← token (text "\"") r
-  some (k, r₁)
+  Some (k, r₁)
 
 unfoldable pub read_leaf : Bytes → Option (Node × Bytes)
-read_leaf s = read_value s >>= λ t. some (leaf t.0, skip t.1)
+read_leaf s = read_value s >>= λ t. Some (leaf t.0, skip t.1)
 
 -- behind a member: a comma and more members, or the closing brace
 unfoldable pub read_more : (Bytes → Option (Members × Bytes)) → Members → Bytes → Option (Members × Bytes)
-read_more more m s = if_after (token (text ",") s) more (token (text "}") s >>= λ r. some (m, r))
+read_more more m s = if_after (token (text ",") s) more (token (text "}") s >>= λ r. Some (m, r))
 
 -- one member or more behind those read, up to the closing brace: `inner` reads what a key holds, and the number bounds how many there are
 unfoldable pub read_members : (Bytes → Option (Node × Bytes)) → ℕ → Members → Bytes → Option (Members × Bytes)
-read_members inner zero m s = none
+read_members inner zero m s = None
 read_members inner (suc n) m s = do
   (k, s₁) ← read_key s
   s₂ ← token (text ":") s₁
@@ -56,11 +56,11 @@ read_members inner (suc n) m s = do
   read_more (read_members inner n (member m k v)) (member m k v) s₃
 
 unfoldable pub as_node : Members × Bytes → Option (Node × Bytes)
-as_node t = some (object t.0, t.1)
+as_node t = Some (object t.0, t.1)
 
 -- "An object may hold objects, six keys deep at most. Only the top object may be empty": an object with members, at most d keys deep
 unfoldable pub read_object : ℕ → Bytes → Option (Members × Bytes)
-read_object zero s = none
+read_object zero s = None
 read_object (suc d) s = do
   s₁ ← token (text "{") s
   read_members (λ t. read_leaf t <|> (read_object d t >>= as_node)) (length s₁) no_members s₁
@@ -69,14 +69,14 @@ unfoldable pub read_empty : Bytes → Option (Members × Bytes)
 read_empty s = do
   s₁ ← token (text "{") s
   s₂ ← token (text "}") s₁
-  some (no_members, s₂)
+  Some (no_members, s₂)
 
 -- "Record text is a JSON object"
 unfoldable pub tree_of : Bytes → Option Members
 tree_of s = do
   (m, r) ← read_empty (skip s) <|> read_object max_depth (skip s)
   check (r ≐ [])
-  some m
+  Some m
 
 -- ── What is asked of a tree ──
 unfoldable pub keys_in : Members → List Bytes
@@ -106,13 +106,13 @@ unfoldable mutual
 -- the value of the leaf at a path, if there is one: of the member under the key k, at what is left of the path
 unfoldable mutual
   pub leaf_at : Node → Keys → Option Value
-  leaf_at (leaf v) [] = some v
-  leaf_at (leaf v) (k ∷ p) = none
-  leaf_at (object m) [] = none
+  leaf_at (leaf v) [] = Some v
+  leaf_at (leaf v) (k ∷ p) = None
+  leaf_at (object m) [] = None
   leaf_at (object m) (k ∷ p) = leaf_under m k p
 
   pub leaf_under : Members → Bytes → Keys → Option Value
-  leaf_under no_members k p = none
+  leaf_under no_members k p = None
   leaf_under (member m l v) k p = let r = leaf_under m k p in if k ≐ l then leaf_at v p else r
 
 -- the fields of a tree that stands at the path p, put into fields in the order of the text

@@ -1,5 +1,5 @@
 -- Refusals: each has one ground, and of several the first that is asked for decides.
-use Rattle.std.proofs.Math.Option.{Option, none, some}
+use Rattle.std.specs.Prelude.{Option, None, Some}
 use Rattle.std.specs.Prelude.{Bool, true, false}
 
 pub data Result (E A : Type 0) : Type 0 where
@@ -24,8 +24,8 @@ refuse◌if◌ e false = done tt
 -- what is there, or a refusal
 infix 10 ◌or◌
 unfoldable pub ◌or◌ : {E A : Type 0} → Option A → E → Result E A
-◌or◌ none e = refused e
-◌or◌ (some a) e = done a
+◌or◌ None e = refused e
+◌or◌ (Some a) e = done a
 
 unfoldable pub Opened : Unit {0}
 unfolding ◌>>=◌ ◌>>◌ refuse◌if◌ ◌or◌

@@ -1,6 +1,6 @@
 -- Document 01, "Request lines": "A line is first taken apart; one that cannot be is refused 11"; with document 02, request 1.
 use Rattle.std.specs.Prelude.{ℕ, List, [], ◌∷◌, ◌&&◌, leb, length}
-use Rattle.std.proofs.Math.Option.{Option, none, some}
+use Rattle.std.specs.Prelude.{Option, None, Some}
 use Rattle.model.specs.Base.{Bytes, text, ◌>>=◌, ◌>>◌, ◌<|>◌, check, after, cut, number}
 use Rattle.model.specs.Limits.{max_line, max_session}
 use Rattle.model.specs.Names.{is_name}
@@ -30,14 +30,14 @@ read_login s = do
   r ← after (text "LOGIN;") s
   (u, k) ← cut 0x3B r
   check (is_name u && is_name k)
-  some (login u k)
+  Some (login u k)
 
 -- a word with a session number behind it and nothing more
 unfoldable pub read_ask : Bytes → Ask → Bytes → Option Request
 read_ask word a s = do
   r ← after word s
   n ← session_of r
-  some (in_session n a)
+  Some (in_session n a)
 
 -- "`GET;session`"
 unfoldable pub read_get : Bytes → Option Request
@@ -49,7 +49,7 @@ read_push s = do
   r ← after (text "PUSH;") s
   (n, r₁) ← cut 0x3B r
   (p, v) ← cut 0x3B r₁
-  some (in_session (← session_of n) (push (← keys_of p) (← value_of v)))
+  Some (in_session (← session_of n) (push (← keys_of p) (← value_of v)))
 
 -- "`LOGOUT;session`" (02, 1)
 unfoldable pub read_logout : Bytes → Option Request
@@ -61,7 +61,7 @@ readers = read_login ∷ read_get ∷ read_push ∷ read_logout ∷ []
 
 -- what the first reader that can read a line reads
 unfoldable pub first_of : {A : Type 0} → List (Bytes → Option A) → Bytes → Option A
-first_of [] s = none
+first_of [] s = None
 first_of (r ∷ rs) s = r s <|> first_of rs s
 
 -- "one line of at most 256 bytes": what it asks for
@@ -70,17 +70,17 @@ request_of s = check (leb (length s) max_line) >> first_of readers s
 
 -- the field that a request is to store, and that others are told of
 unfoldable pub push_of : Request → Option Field
-push_of (login u k) = none
-push_of (in_session n get) = none
-push_of (in_session n (push p v)) = some (field_of p v)
-push_of (in_session n logout) = none
+push_of (login u k) = None
+push_of (in_session n get) = None
+push_of (in_session n (push p v)) = Some (field_of p v)
+push_of (in_session n logout) = None
 
 -- the number of the session that a request is to close
 unfoldable pub logout_of : Request → Option ℕ
-logout_of (login u k) = none
-logout_of (in_session n get) = none
-logout_of (in_session n (push p v)) = none
-logout_of (in_session n logout) = some n
+logout_of (login u k) = None
+logout_of (in_session n get) = None
+logout_of (in_session n (push p v)) = None
+logout_of (in_session n logout) = Some n
 
 unfoldable pub Opened : Unit {0}
 unfolding Paths.Opened session_of read_login read_ask read_get read_push read_logout readers first_of request_of push_of logout_of

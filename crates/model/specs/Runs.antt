@@ -1,6 +1,6 @@
 -- Document 01, "Request lines", last part; document 02, request 1: a run, what a set of users sends in it, and what it gets. A set is given by a test of the user index.
 use Rattle.std.specs.Prelude.{ℕ, List, [], ◌∷◌, ◌++◌, map, Bool, true, false, not, ◌&&◌, eqb, length, take, if◌then◌else◌}
-use Rattle.std.proofs.Math.Option.{Option, none, some}
+use Rattle.std.specs.Prelude.{Option, None, Some}
 use Rattle.model.specs.Base.{Bytes, text, any, keep, joined, range, is_some, between, ◌>>=◌, decimal}
 use Rattle.model.specs.Values.{Value, value_text}
 use Rattle.model.specs.Fields.{Keys, Field, Fields, holds}
@@ -15,7 +15,7 @@ use Rattle.model.specs.Serving
 -- what an act asks for: nothing, if it is a save or a line that cannot be taken apart
 unfoldable pub request_of_act : Act → Option Request
 request_of_act (line t b l) = request_of t
-request_of_act (save b) = none
+request_of_act (save b) = None
 
 -- an act as it happened
 pub record Event : Type 0 where
@@ -40,12 +40,12 @@ end s (a ∷ acts) = end (outcome s a).state acts
 
 -- ── Whose a request is ──
 unfoldable pub index_of : {A : Type 0} → Option (ℕ × A) → Option ℕ
-index_of none = none
-index_of (some t) = some t.0
+index_of None = None
+index_of (Some t) = Some t.0
 
 -- an index, if there is a user
 unfoldable pub if_user : Tables → ℕ → Option ℕ
-if_user t i = if is_some (user_at t.users i) then some i else none
+if_user t i = if is_some (user_at t.users i) then Some i else None
 
 -- "LOGIN lines naming that user and GET or PUSH lines whose number divided by 65,536, rounded down, is that user's place"; LOGOUT lines
 -- too: "by its number it is one of the user's own requests" (02, 1)
@@ -61,8 +61,8 @@ unfoldable pub push_in : Event → Option Field
 push_in e = e.request >>= push_of
 
 unfoldable pub in_set : (ℕ → Bool) → Option ℕ → Bool
-in_set set none = false
-in_set set (some i) = set i
+in_set set None = false
+in_set set (Some i) = set i
 
 -- the set of one user
 unfoldable pub only : ℕ → ℕ → Bool
@@ -91,13 +91,13 @@ pub data Item : Type 0 where
 -- "A user's requests are, among lines not refused 11, .. with the lengths lent"
 unfoldable pub own_request : Act → Option Request → List Item
 own_request (save b) q = []
-own_request (line t b l) none = []
-own_request (line t b l) (some q) = own t (room_for q b l) ∷ []
+own_request (line t b l) None = []
+own_request (line t b l) (Some q) = own t (room_for q b l) ∷ []
 
 -- "The others' pushes are the accepted PUSH lines that are not the user's requests and name a path the user may read"
 unfoldable pub others_push : (ℕ → Bool) → State → Answer → Option Field → List Item
-others_push set s a none = []
-others_push set s a (some f) = if is_accepted a && seen set s.tables f.path then others f.path f.value ∷ [] else []
+others_push set s a None = []
+others_push set s a (Some f) = if is_accepted a && seen set s.tables f.path then others f.path f.value ∷ [] else []
 
 unfoldable pub items : (ℕ → Bool) → Event → List Item
 items set e = if in_set set (owner_in e) then own_request e.act e.request else others_push set e.before e.result.answer (push_in e)
@@ -125,13 +125,13 @@ copies i b accepted = []
 
 -- "for each own request its answer"
 unfoldable pub answers : (ℕ → Bool) → Outcome → Option ℕ → List Got
-answers set o none = []
-answers set o (some i) = if set i then answer i o.answer ∷ copies i o.buffer o.answer else []
+answers set o None = []
+answers set o (Some i) = if set i then answer i o.answer ∷ copies i o.buffer o.answer else []
 
 -- "for each accepted push the deliveries, .. for each number its list received that, divided as above, gives the user's place"
 unfoldable pub deliveries : (ℕ → Bool) → Outcome → Option Field → List Got
-deliveries set o none = []
-deliveries set o (some f) =
+deliveries set o None = []
+deliveries set o (Some f) =
     map (λ m. delivery (index_in m) (delivery_line f.path f.value m)) (keep (λ m. set (index_in m)) (take o.told o.list))
 
 unfoldable pub got_in : (ℕ → Bool) → Event → List Got
@@ -143,8 +143,8 @@ got set es = joined (map (got_in set) es)
 
 -- ── The sum ──
 unfoldable pub creates_by : State → Answer → Option Field → Bool
-creates_by s a none = false
-creates_by s a (some f) = is_accepted a && not (holds f.path s.fields)
+creates_by s a None = false
+creates_by s a (Some f) = is_accepted a && not (holds f.path s.fields)
 
 -- "accepted pushes since the opening that named an absent field"
 unfoldable pub creates : Event → Bool
@@ -161,10 +161,10 @@ is_open_number s n = is_session (index_in n) (login_at s (index_in n)) n
 
 -- the session number that is answered
 unfoldable pub session_in : Answer → Option ℕ
-session_in (refusal e) = none
-session_in (session n) = some n
-session_in (length_is n) = none
-session_in accepted = none
+session_in (refusal e) = None
+session_in (session n) = Some n
+session_in (length_is n) = None
+session_in accepted = None
 
 -- a login that answers the number n
 unfoldable pub gives : ℕ → Event → Bool

@@ -1,6 +1,6 @@
 -- Document 01, "Request lines": LOGIN, GET, PUSH and save; document 02, request 1: LOGOUT. What is decided only reads the state; what is decided then changes it.
 use Rattle.std.specs.Prelude.{ℕ, suc, ◌+◌, ◌*◌, ◌/◌, ◌%◌, List, [], ◌∷◌, ◌++◌, map, Bool, true, false, not, ◌&&◌, leb, ltb, eqb, length, drop, set, get_or, if◌then◌else◌}
-use Rattle.std.proofs.Math.Option.{Option, none, some}
+use Rattle.std.specs.Prelude.{Option, None, Some}
 use Rattle.model.specs.Base.{Bytes, text, keep, joined, range, between, ◌≐◌}
 use Rattle.model.specs.Limits.{per_user, list_room, max_logins}
 use Rattle.model.specs.Values.{Value}
@@ -164,8 +164,8 @@ apply (shows c) s = s
 apply (stores i a f) s = record { tables = s.tables; login_states = set s.login_states i a; fields = store f s.fields }
 
 unfoldable pub reads_by : List Rule → Option User → Keys → Bool
-reads_by rs none p = false
-reads_by rs (some u) p = may_read rs u p
+reads_by rs None p = false
+reads_by rs (Some u) p = may_read rs u p
 
 -- the user at an index may read a path
 unfoldable pub reads_at : Tables → ℕ → Keys → Bool
@@ -218,8 +218,8 @@ list_of (save b) = []
 
 -- "A line is first taken apart; one that cannot be is refused 11"
 unfoldable pub decide_line : State → Bytes → List ℕ → Option Request → Result ℕ Change
-decide_line s b l none = refused 11
-decide_line s b l (some q) = decide s q (room_for q b l)
+decide_line s b l None = refused 11
+decide_line s b l (Some q) = decide s q (room_for q b l)
 
 -- what an act is decided to be
 unfoldable pub decision : State → Act → Result ℕ Change

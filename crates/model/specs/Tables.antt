@@ -1,7 +1,7 @@
 -- Document 01, "Tables": users, environments and policy.
 use Rattle.std.specs.Prelude.{ℕ, List, [], ◌∷◌, ◌++◌, Bool, not, ◌&&◌, leb, length, set, if◌then◌else◌}
-use Rattle.std.proofs.Math.Option.{Option, none, some}
-use Rattle.std.proofs.Math.ListN.{get_elem?}
+use Rattle.std.specs.Prelude.{Option, None, Some}
+use Rattle.std.specs.Prelude.{slice_get}
 use Rattle.model.specs.Base.{Bytes, text, any, first_from, ◌≐◌, number}
 use Rattle.model.specs.Limits.{max_users, max_quota, max_bindings, max_rules}
 use Rattle.model.specs.Names.{is_name, is_key, is_plain}
@@ -40,7 +40,7 @@ pub record Tables : Type 0 where
 
 -- "the place of a user counts value lines from 0": the user index
 unfoldable pub user_at : List User → ℕ → Option User
-user_at us i = get_elem? us i
+user_at us i = slice_get us i
 
 unfoldable pub user_named : Bytes → List User → Option (ℕ × User)
 user_named n us = first_from 0 (λ u. u.name ≐ n) us
@@ -87,7 +87,7 @@ environments_table = record {
 -- ── "Policy: `role`, `access`, `path`. At most 64" ──
 -- "access is `READ` or `WRITE`"
 unfoldable pub access_of : Bytes → Option Access
-access_of s = if s ≐ text "READ" then some READ else if s ≐ text "WRITE" then some WRITE else none
+access_of s = if s ≐ text "READ" then Some READ else if s ≐ text "WRITE" then Some WRITE else None
 
 unfoldable pub policy_table : Table (List Rule)
 policy_table = record {

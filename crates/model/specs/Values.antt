@@ -1,6 +1,6 @@
 -- Document 01, "Record, names and paths": the values that a field may have, read and spelled.
 use Rattle.std.specs.Prelude.{ℕ, suc, ◌-◌, [], ◌++◌, Bool, true, false, not, ◌&&◌, ◌||◌, leb, eqb, length, ℤ, pos, negsuc, if◌then◌else◌}
-use Rattle.std.proofs.Math.Option.{Option, some}
+use Rattle.std.specs.Prelude.{Option, Some}
 use Rattle.model.specs.Base.{Bytes, text, all, ◌≐◌, ◌>>=◌, ◌>>◌, ◌<|>◌, check, after, span, within, is_digit, is_decimal, worth, decimal}
 use Rattle.model.specs.Limits.{max_string, max_positive, max_negative}
 use Rattle.model.specs.Names
@@ -24,7 +24,7 @@ valid_value (whole (negsuc n)) = leb (suc n) max_negative
 
 -- ── A value at a text's start ──
 unfoldable pub read_truth : Bytes → Option (Value × Bytes)
-read_truth s = (after (text "true") s >>= λ r. some (truth true, r)) <|> (after (text "false") s >>= λ r. some (truth false, r))
+read_truth s = (after (text "true") s >>= λ r. Some (truth true, r)) <|> (after (text "false") s >>= λ r. Some (truth false, r))
 
 -- "a string of 0 to 32 bytes"
 unfoldable pub read_string : Bytes → Option (Value × Bytes)
@@ -33,14 +33,14 @@ read_string s = do
   let (b, r) = span string_byte s₁
   check (leb (length b) max_string)
   r₁ ← after (text "\"") r
-  some (string b, r₁)
+  Some (string b, r₁)
 
 -- a number of 0 and more
 unfoldable pub read_pos : Bytes → Option (Value × Bytes)
 read_pos s = do
   let (d, r) = span is_digit s
   check (is_decimal d && leb (worth 0 d) max_positive)
-  some (whole (pos (worth 0 d)), r)
+  Some (whole (pos (worth 0 d)), r)
 
 -- a number below 0: "`-0`" is "not in this grammar"
 unfoldable pub read_neg : Bytes → Option (Value × Bytes)
@@ -48,7 +48,7 @@ read_neg s = do
   s₁ ← after (text "-") s
   let (d, r) = span is_digit s₁
   check (is_decimal d && within 1 max_negative (worth 0 d))
-  some (whole (negsuc (worth 0 d - 1)), r)
+  Some (whole (negsuc (worth 0 d - 1)), r)
 
 unfoldable pub read_value : Bytes → Option (Value × Bytes)
 read_value s = read_truth s <|> read_string s <|> read_pos s <|> read_neg s
@@ -58,7 +58,7 @@ unfoldable pub value_of : Bytes → Option Value
 value_of s = do
   (v, r) ← read_value s
   check (r ≐ [])
-  some v
+  Some v
 
 -- ── Its one spelling ──
 unfoldable pub quoted : Bytes → Bytes

@@ -45,14 +45,14 @@ module _ (u e p r : Bytes) where
       by_cases (ltb max_text (length e)) (λ b. rw (is, a, b)) (λ b.
       by_cases (ltb max_text (length p)) (λ c. rw (is, a, b, c)) (λ c.
       by_cases (ltb max_text (length r)) (λ d. rw (is, a, b, c, d)) (λ d.
-      let none : too_long (texts_of u e p r) ≡ 0 = rw (a, b, c, d) in absurd (omega arith)))))
+      let None : too_long (texts_of u e p r) ≡ 0 = rw (a, b, c, d) in absurd (omega arith)))))
 
   -- no text is
-  module _ {n : ℕ} (is : n ≡ too_long (texts_of u e p r)) (none : n ≡ 0) where
+  module _ {n : ℕ} (is : n ≡ too_long (texts_of u e p r)) (None : n ≡ 0) where
     all_short : (ltb max_text (length u) ≡ false) × (ltb max_text (length e) ≡ false) × (ltb max_text (length p) ≡ false) × (ltb max_text (length r) ≡ false)
     unfolding texts_of too_long
     all_short =
-        let (a, h) = if-zero _ 0 _ (sym is ∙ none) in
+        let (a, h) = if-zero _ 0 _ (sym is ∙ None) in
         let (b, i) = if-zero _ 1 _ h in
         let (c, j) = if-zero _ 2 _ i in
         (a, b, c, (if-zero _ 3 _ j).0)

@@ -2,7 +2,7 @@
 use Prim.Native.Nat.{ℕ, ◌+◌, ◌≤◌, ◌<◌}
 use mathlib.Core.Path.{◌≡◌, refl, sym, ◌∙◌}
 use mathlib.Core.Bool.{Bool}
-use mathlib.Core.Option.{Option, none, some}
+use Rattle.std.specs.Prelude.{Option, None, Some}
 use mathlib.Core.List.{[]}
 use native.Mathlib.Omega.{arith}
 use borrow.Author.Tests.{lt-ltb, le-ltb, le-leb}
@@ -28,8 +28,8 @@ module _ (tables s : Bytes) where
   opened-refused e h = go (tree_of s) refl
     where
       go : (o : Option Members) → tree_of s ≡ o → refused (fault e 4 0) ≡ open_record (tables_in tables) s
-      go none i = let r : reading_of s ≡ refused 8 = rw i in let n : e ≡ 8 = cc in rw (i, n)
-      go (some m) i = by_cases (twice m)
+      go None i = let r : reading_of s ≡ refused 8 = rw i in let n : e ≡ 8 = cc in rw (i, n)
+      go (Some m) i = by_cases (twice m)
           (λ t. let r : reading_of s ≡ refused 6 = rw (i, t) in let n : e ≡ 6 = cc in rw (i, t, n))
           (λ t. let r : reading_of s ≡ done (count m) = rw (i, t) in refused-done (sym h ∙ r))
 
@@ -46,6 +46,6 @@ module _ (tables s : Bytes) where
     unfolding open_record tables_in fields_of base.check base.◌>>=◌ base.◌>>◌ Opened
     opened-few h old new held behind t e =
         let (m, i, once, c) = tree s n read in
-        let all : fields_of s ≡ some (store_members [] m []) = rw (i, once, c, le-leb n max_fields (omega arith)) in
+        let all : fields_of s ≡ Some (store_members [] m []) = rw (i, once, c, le-leb n max_fields (omega arith)) in
         let is : fields_in new ≡ store_members [] m [] = rw all at held in
         rw (← e, t, behind, is, i, once, c, le-ltb max_fields (n + quotas (users_in tables)) h)

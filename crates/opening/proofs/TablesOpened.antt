@@ -2,7 +2,7 @@
 use Prim.Native.Nat.{ℕ, suc, ◌≤◌}
 use mathlib.Core.Path.{◌≡◌, refl, sym, ap, ◌∙◌}
 use mathlib.Core.Bool.{◌&&◌}
-use mathlib.Core.Option.{Option, none, some}
+use Rattle.std.specs.Prelude.{Option, None, Some}
 use mathlib.Core.List.{List, [], ◌∷◌, ◌++◌}
 use native.Mathlib.Omega.{arith}
 use borrow.Author.Tests.{not-false}
@@ -104,12 +104,12 @@ module _ {A B : Type 0} (f : A → B) (t : Table A) (u : Table B) (columns : u.c
       go (done b) = h b
 
 -- ── A policy that was read: the line of its first conflict is n ──
-conflict-behind : (n : ℕ) (above rs : List Rule) (l : ℕ) → conflict_from n above rs ≡ some l → n ≤ l
+conflict-behind : (n : ℕ) (above rs : List Rule) (l : ℕ) → conflict_from n above rs ≡ Some l → n ≤ l
 unfolding conflict_from
 conflict-behind n above [] l h = none-some h
 conflict-behind n above (r ∷ rs) l h =
     by_cases (is_write r && any (conflicts_with r.path) above)
-    (λ t. let q : some n ≡ some l = rw t at h in let e : n ≡ l = cc in omega arith)
+    (λ t. let q : Some n ≡ Some l = rw t at h in let e : n ≡ l = cc in omega arith)
     (λ t. omega (arith, conflict-behind (suc n) (above ++ r ∷ []) rs l (rw t at h)))
 
 module _ (rs : List Rule) {n : ℕ} (is : n ≡ line_number (conflict_from 2 [] rs)) where
@@ -118,16 +118,16 @@ module _ (rs : List Rule) {n : ℕ} (is : n ≡ line_number (conflict_from 2 [] 
   policy-conflict h = go (conflict_from 2 [] rs) is
     where
       go : (o : Option ℕ) → n ≡ line_number o → refuse_at o ≡ refused (fault 5 3 n)
-      go none i = absurd (h i)
-      go (some l) i = rw i
+      go None i = absurd (h i)
+      go (Some l) i = rw i
 
   policy-free : n ≡ 0 → check_policy rs ≡ done tt
   unfolding check_policy refuse_at
   policy-free h = go (conflict_from 2 [] rs) refl
     where
       go : (o : Option ℕ) → conflict_from 2 [] rs ≡ o → refuse_at o ≡ done tt
-      go none i = refl
-      go (some l) i = let e : n ≡ l = is ∙ ap line_number i in absurd (omega (arith, conflict-behind 2 [] rs l i))
+      go None i = refl
+      go (Some l) i = let e : n ≡ l = is ∙ ap line_number i in absurd (omega (arith, conflict-behind 2 [] rs l i))
 
 -- ── A memory without users and policy ──
 abbrev pub no_tables : Tables

@@ -2,7 +2,7 @@
 use Prim.Native.Nat.{ℕ, ◌+◌, ◌<◌}
 use mathlib.Core.Path.{◌≡◌, ap, ◌∙◌}
 use mathlib.Core.Bool.{true, false}
-use mathlib.Core.Option.{none, some}
+use Rattle.std.specs.Prelude.{None, Some}
 use mathlib.Core.List.{[], ◌∷◌}
 use native.Mathlib.Omega.{arith}
 use lib.ListN.{length, drop}
@@ -17,17 +17,17 @@ use Rattle.lexical.proofs.Readers.{leaves_word, word-taken, leaves-some, leaves-
 module _ {A : Type 0} (inner : Reader ℕ A) where
   -- ── By positions ──
   module _ (s : Bytes) (at : ℕ) where
-    pub brackets-unopened : is_some (after (0x5B ∷ []) (drop at s)) ≡ false → in_brackets inner (drop at s) ≡ none
+    pub brackets-unopened : is_some (after (0x5B ∷ []) (drop at s)) ≡ false → in_brackets inner (drop at s) ≡ None
     unfolding in_brackets text ◌>>=◌
     brackets-unopened h = rw (after-no (0x5B ∷ []) (drop at s) h)
 
     module _ (o : is_some (after (0x5B ∷ []) (drop at s)) ≡ true) where
-      pub brackets-empty : inner (drop (at + 1) s) ≡ none → in_brackets inner (drop at s) ≡ none
+      pub brackets-empty : inner (drop (at + 1) s) ≡ None → in_brackets inner (drop at s) ≡ None
       unfolding in_brackets text ◌>>=◌
       brackets-empty i = rw ((byte-stands 0x5B s at o).1, i)
 
       module _ (a : A) (e : ℕ) (r : Reads inner s (at + 1) a e) where
-        pub brackets-unclosed : is_some (after (0x5D ∷ []) (drop e s)) ≡ false → in_brackets inner (drop at s) ≡ none
+        pub brackets-unclosed : is_some (after (0x5D ∷ []) (drop e s)) ≡ false → in_brackets inner (drop at s) ≡ None
         unfolding in_brackets text ◌>>=◌
         brackets-unclosed i = rw ((byte-stands 0x5B s at o).1, r.is, after-no (0x5D ∷ []) (drop e s) i)
 
@@ -42,9 +42,9 @@ module _ {A : Type 0} (inner : Reader ℕ A) where
   pub record Bracketed (s : Bytes) (a : A) (r : Bytes) : Type 0 where
     pub behind : Bytes
     pub is : s ≡ 0x5B ∷ behind
-    pub reads : inner behind ≡ some (a, 0x5D ∷ r)
+    pub reads : inner behind ≡ Some (a, 0x5D ∷ r)
 
-  pub brackets-give : (s : Bytes) (a : A) (r : Bytes) → in_brackets inner s ≡ some (a, r) → Bracketed s a r
+  pub brackets-give : (s : Bytes) (a : A) (r : Bytes) → in_brackets inner s ≡ Some (a, r) → Bracketed s a r
   unfolding in_brackets text
   brackets-give s a r h =
       bind-some _ _ _ h λ s₁ i j.
@@ -55,18 +55,18 @@ module _ {A : Type 0} (inner : Reader ℕ A) where
       record {
         behind = s₁;
         is = after-some (0x5B ∷ []) s s₁ i;
-        reads = k ∙ ap (λ (x : Bytes). some (t.0, x)) closes ∙ ap (λ (x : A × Bytes). some (x.0, 0x5D ∷ x.1)) same;
+        reads = k ∙ ap (λ (x : Bytes). Some (t.0, x)) closes ∙ ap (λ (x : A × Bytes). Some (x.0, 0x5D ∷ x.1)) same;
       }
 
   -- what is left behind the closing bracket
-  inside-leaves : LeavesEnd inner → LeavesEnd (λ x. inner x >>= λ t. after (text "]") t.1 >>= λ r. some (t.0, r))
+  inside-leaves : LeavesEnd inner → LeavesEnd (λ x. inner x >>= λ t. after (text "]") t.1 >>= λ r. Some (t.0, r))
   inside-leaves leaves =
-      leaves-bind inner (λ a x. after (text "]") x >>= λ r. some (a, r)) leaves (λ a. leaves_word (text "]") (λ r. some (a, r)) (leaves-some a))
+      leaves-bind inner (λ a x. after (text "]") x >>= λ r. Some (a, r)) leaves (λ a. leaves_word (text "]") (λ r. Some (a, r)) (leaves-some a))
 
   pub brackets-leave : LeavesEnd inner → LeavesEnd (in_brackets inner)
   unfolding in_brackets
   brackets-leave leaves = leaves_word (text "[") _ (inside-leaves leaves)
 
-  pub brackets-shorten : LeavesEnd inner → (s : Bytes) (t : A × Bytes) → in_brackets inner s ≡ some t → length t.1 < length s
+  pub brackets-shorten : LeavesEnd inner → (s : Bytes) (t : A × Bytes) → in_brackets inner s ≡ Some t → length t.1 < length s
   unfolding in_brackets text
   brackets-shorten leaves s t h = omega (arith, word-taken (0x5B ∷ []) _ (inside-leaves leaves) s t h)

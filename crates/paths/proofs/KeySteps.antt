@@ -2,7 +2,7 @@
 use Prim.Native.Nat.{ℕ, ◌+◌, ◌-◌, ◌≤◌, ◌<◌}
 use mathlib.Core.Path.{◌≡◌, sym, ap, ◌∙◌}
 use mathlib.Core.Bool.{true, false}
-use mathlib.Core.Option.{none, some}
+use Rattle.std.specs.Prelude.{None, Some}
 use mathlib.Core.List.{[], ◌∷◌, ◌++◌}
 use native.Mathlib.Omega.{arith}
 use lib.ListN.{length, take, drop, length-append, length-take, length-drop}
@@ -33,7 +33,7 @@ unfolding read_key_step in_brackets text
 key-brackets s = bind-same (after (0x5B ∷ []) s) _ _ (λ s₁. rw (quoted-between 0x27 s₁))
 
 -- b was read as a key, and r is the rest
-key-is : (s b r : Bytes) → read_key_step s ≡ some (b, r)
+key-is : (s b r : Bytes) → read_key_step s ≡ Some (b, r)
     → (s ≡ 0x5B ∷ (0x27 ∷ (b ++ (0x27 ∷ (0x5D ∷ r))))) × (within 1 max_key (length b) ≡ true)
 key-is s b r h =
     let w = brackets-give in_quotes s b r (sym (key-brackets s) ∙ h) in
@@ -51,7 +51,7 @@ pub record KeyStands (s : Bytes) (at e : ℕ) : Type 0 where
 
 module _ (s : Bytes) (at : ℕ) where
   -- ── What the function `key_step` answers ──
-  key-not : in_brackets in_quotes (drop at s) ≡ none → key_answer s at Bad ≡ placed read_key_step s at
+  key-not : in_brackets in_quotes (drop at s) ≡ None → key_answer s at Bad ≡ placed read_key_step s at
   unfolding key_answer
   key-not h = sym (placed-none _ s at (key-brackets (drop at s) ∙ h))
 
@@ -80,7 +80,7 @@ module _ (s : Bytes) (at : ℕ) where
 
   -- ── For a caller of it: what its answer says ──
   module _ (x : End) (answer : key_answer s at x ≡ placed read_key_step s at) where
-    pub key-bad : x ≡ Bad → read_key_step (drop at s) ≡ none
+    pub key-bad : x ≡ Bad → read_key_step (drop at s) ≡ None
     unfolding key_answer
     key-bad i = none-placed _ s at (sym (rw i at answer))
 

@@ -3,7 +3,7 @@ use Rattle.std.specs.Prelude.{if◌then◌else◌}
 use Prim.Native.Nat.{ℕ, zero, suc, ◌-◌, ◌≤◌, ◌<◌}
 use mathlib.Core.Path.{◌≡◌, refl, ◌∙◌}
 use mathlib.Core.Bool.{true, false}
-use mathlib.Core.Option.{Option, none, some}
+use Rattle.std.specs.Prelude.{Option, None, Some}
 use mathlib.Core.List.{List, [], ◌∷◌, ◌++◌}
 use native.Mathlib.Omega.{arith}
 use lib.Dec.{leb, ltb}
@@ -20,9 +20,9 @@ use Rattle.lexical.proofs.Slices.{after-yes, after-no}
 module _ {A : Type 0} (one : Reader ℕ A) where
   -- what is read of the rest of a text, behind the steps p
   unfoldable pub left : List A → Bytes → Option (List A)
-  left p s = read_all one (max_depth - length p) p s >>= λ q. check (leb 1 (length q)) >> some q
+  left p s = read_all one (max_depth - length p) p s >>= λ q. check (leb 1 (length q)) >> Some q
 
-  pub path-unopened : (s : Bytes) → is_some (after (0x24 ∷ []) s) ≡ false → read_path one s ≡ none
+  pub path-unopened : (s : Bytes) → is_some (after (0x24 ∷ []) s) ≡ false → read_path one s ≡ None
   unfolding read_path text ◌>>=◌
   path-unopened s h = rw (after-no (0x24 ∷ []) s h)
 
@@ -31,17 +31,17 @@ module _ {A : Type 0} (one : Reader ℕ A) where
   path-opened s h = rw (after-yes (0x24 ∷ []) s h).0
 
   -- where nothing is left, those that were read are all
-  all_end : (k : ℕ) (p : List A) → read_all one k p [] ≡ some p
+  all_end : (k : ℕ) (p : List A) → read_all one k p [] ≡ Some p
   unfolding read_all
   all_end zero p = refl
   all_end (suc k) p = refl
 
   module _ (s : Bytes) (at : ℕ) (p : List A) where
-    pub left-full : at < length s → max_depth ≤ length p → left p (drop at s) ≡ none
+    pub left-full : at < length s → max_depth ≤ length p → left p (drop at s) ≡ None
     unfolding left read_all ◌>>=◌
     left-full h f = let z : max_depth - length p ≡ zero = omega arith in rw (z, here 0 s at h)
 
-    pub left_end : (n : ℕ) → length s ≤ at → n ≡ length p → (if ltb 0 n then some p else none) ≡ left p (drop at s)
+    pub left_end : (n : ℕ) → length s ≤ at → n ≡ length p → (if ltb 0 n then Some p else None) ≡ left p (drop at s)
     unfolding left ◌>>=◌ ◌>>◌ check
     left_end n h i = rw (over s at h, i, all_end) (by_cases (leb 1 (length p)) (λ e. rw e) (λ e. rw e))
 
@@ -58,7 +58,7 @@ module _ {A : Type 0} (one : Reader ℕ A) where
           rw (z, all-next, bind-bind) (bind-same (one (drop at s)) _ _ (λ t.
           let n : length (p ++ t.0 ∷ []) ≡ suc (length p) = rw length-append (omega arith) in rw n))
 
-      pub left-bad : one (drop at s) ≡ none → left p (drop at s) ≡ none
+      pub left-bad : one (drop at s) ≡ None → left p (drop at s) ≡ None
       unfolding ◌>>=◌
       left-bad n = left-next ∙ rw n
 

@@ -1,6 +1,6 @@
 // A field's path: at most six keys in a slot.
 ghost use Rattle.std.specs.Prelude.{◌≡◌, ◌+◌, ◌≤◌, ◌<◌, ◌^◌, length};
-ghost use Rattle.std.proofs.Math.Option.{none};
+ghost use Rattle.std.specs.Prelude.{None};
 ghost use Rattle.rows.specs.Rows.{Wrote};
 ghost use Rattle.rows.specs.Positions.{placed};
 ghost use Rattle.model.specs.Limits.{max_path_text, max_depth};
@@ -92,7 +92,7 @@ fn key_step(s: &[u8], at: usize) -> End
 }
 
 fn no_path() -> PathRead
-    ensures { (path_answer result ≡ none) × CanonicalKeys max_depth result.slot }
+    ensures { (path_answer result ≡ None) × CanonicalKeys max_depth result.slot }
 {
     PathRead {
         ok: false,

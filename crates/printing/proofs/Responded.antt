@@ -1,7 +1,7 @@
 -- What a reply says of the buffer, the list and the line, and what is printed for it.
 use Prim.Native.Nat.{ℕ, ◌≤◌}
 use mathlib.Core.Path.{◌≡◌, refl, sym, ap, subst, ◌∙◌}
-use mathlib.Core.Option.{Option, none, some}
+use Rattle.std.specs.Prelude.{Option, None, Some}
 use mathlib.Core.List.{List, [], ◌++◌, map, append-nil}
 use native.Mathlib.Omega.{arith}
 use borrow.Author.Tests.{leb-true, ltb-false}
@@ -64,17 +64,17 @@ module _ (s : State) (ms : List ℕ) (b : Bytes) (l : List ℕ) where
 
   -- a line is refused, or something is decided for its request
   by-line : (t : Bytes) (P : Result ℕ Change → Type 0) → ((e : ℕ) → P (refused e))
-      → ((q : Request) (c : Change) → request_of t ≡ some q → decide_masked s ms q (room_for q b l) ≡ done c → P (done c)) → P (decision_masked s ms (line t b l))
+      → ((q : Request) (c : Change) → request_of t ≡ Some q → decide_masked s ms q (room_for q b l) ≡ done c → P (done c)) → P (decision_masked s ms (line t b l))
   unfolding decision_masked decide_line_masked
   by-line t P kept left = go (request_of t) refl
     where
-      of-request : (q : Request) → request_of t ≡ some q → (d : Result ℕ Change) → decide_masked s ms q (room_for q b l) ≡ d → P d
+      of-request : (q : Request) → request_of t ≡ Some q → (d : Result ℕ Change) → decide_masked s ms q (room_for q b l) ≡ d → P d
       of-request q asks (refused e) h = kept e
       of-request q asks (done c) h = left q c asks h
 
       go : (o : Option Request) → request_of t ≡ o → P (decide_line_masked s ms b l o)
-      go none asks = kept 11
-      go (some q) asks = of-request q asks _ refl
+      go None asks = kept 11
+      go (Some q) asks = of-request q asks _ refl
 
 shown-length : (c : Change) (n : ℕ) → answer_of c ≡ length_is n → n ≡ length (shown c)
 unfolding answer_of shown
@@ -100,8 +100,8 @@ none_told (Accepted k at) o = absurd (o k at refl)
 
 untold : (o : Outcome) (f : Option Field) → o.told ≡ 0 → print_deliveries o f ≡ []
 unfolding print_deliveries joined
-untold o none h = refl
-untold o (some f) h = rw h
+untold o None h = refl
+untold o (Some f) h = rw h
 
 -- the document's lines, each with its end
 deliveries-as : (p : Keys) (v : Value) (l : List ℕ) → map (λ m. delivery_line p v m ++ text "\n") l ≡ map (delivery_of (pushed_text p v)) l
@@ -115,11 +115,11 @@ record Speaks (t : Bytes) (at : ℕ) (o : Outcome) : Type 0 where
   tells : print_deliveries o (request_of t >>= push_of) ≡ joined (map (delivery_of (drop at t)) (take o.told o.list))
 
 module _ (s : State) (ms : List ℕ) (b : Bytes) (l : List ℕ) (t : Bytes) (at : ℕ) where
-  asks-short : {q : Request} → request_of t ≡ some q → length t ≤ max_line
+  asks-short : {q : Request} → request_of t ≡ Some q → length t ≤ max_line
   unfolding request_of
   asks-short asks = check-some _ _ _ asks λ short _. leb-true _ _ short
 
-  accepts : (q : Request) (c : Change) → request_of t ≡ some q → decide_masked s ms q (room_for q b l) ≡ done c → answer_of c ≡ accepted → StandsAt (done c) t at
+  accepts : (q : Request) (c : Change) → request_of t ≡ Some q → decide_masked s ms q (room_for q b l) ≡ done c → answer_of c ≡ accepted → StandsAt (done c) t at
       → Speaks t at (conclude_masked s ms b l (done c))
   unfolding answer_of conclude_masked notified_masked print_deliveries joined
   accepts q (sets_login i a) asks h is stands = by_word s ms b l q _ h
@@ -159,7 +159,7 @@ module _ (before : Arrays) (t : Bytes) (given : Outputs) (r : Reply) (after : Ar
   reply-is = served.is
 
   by-reply : (P : Outcome → Type 0) → ((e : ℕ) → P (unchanged s b l e))
-      → ((q : Request) (c : Change) → request_of t ≡ some q → decide_masked s ms q (room_for q b l) ≡ done c → P (conclude_masked s ms b l (done c)))
+      → ((q : Request) (c : Change) → request_of t ≡ Some q → decide_masked s ms q (room_for q b l) ≡ done c → P (conclude_masked s ms b l (done c)))
       → P (outcome_in r (state_of after) left.buffer left.list)
   unfolding conclude_masked
   by-reply P kept decides = subst P (sym reply-is) (by-line s ms b l t (λ d. P (conclude_masked s ms b l d)) kept decides)

@@ -1,7 +1,7 @@
 -- Objects of record text by positions: what is left to read at a turn of the loop over members.
 use Prim.Native.Nat.{ℕ, zero, suc, ◌-◌, ◌≤◌, ◌<◌}
 use mathlib.Core.Path.{◌≡◌, refl, sym, ap, ◌∙◌}
-use mathlib.Core.Option.{Option, none, some}
+use Rattle.std.specs.Prelude.{Option, None, Some}
 use mathlib.Core.List.{[], ◌∷◌}
 use native.Mathlib.Omega.{arith}
 use lib.ListN.{length, drop, length-drop}
@@ -32,18 +32,18 @@ module _ (inner : Reader ℕ Node) (m : Members) (l : Bytes) where
   unfolding read_members read_member text ◌>>=◌
   members_step n = sym (bind-bind (read_key l) _ _ ∙ bind-same (read_key l) _ _ (λ t. bind-bind (token (0x3A ∷ []) t.1) _ _))
 
-  members-none : (n : ℕ) → read_member l ≡ none → read_members inner n m l ≡ none
+  members-none : (n : ℕ) → read_member l ≡ None → read_members inner n m l ≡ None
   unfolding read_members ◌>>=◌
   members-none zero e = refl
   members-none (suc n) e = members_step n ∙ rw e
 
-  module _ (k l₁ : Bytes) (e : read_member l ≡ some (k, l₁)) where
-    members-no-value : (n : ℕ) → inner l₁ ≡ none → read_members inner n m l ≡ none
+  module _ (k l₁ : Bytes) (e : read_member l ≡ Some (k, l₁)) where
+    members-no-value : (n : ℕ) → inner l₁ ≡ None → read_members inner n m l ≡ None
     unfolding read_members ◌>>=◌
     members-no-value zero f = refl
     members-no-value (suc n) f = members_step n ∙ rw (e, f)
 
-    members-next : (n : ℕ) → 0 < n → (v : Node) (l₂ : Bytes) → inner l₁ ≡ some (v, l₂)
+    members-next : (n : ℕ) → 0 < n → (v : Node) (l₂ : Bytes) → inner l₁ ≡ Some (v, l₂)
         → read_members inner n m l ≡ read_more (read_members inner (n - 1) (member m k v)) (member m k v) l₂
     unfolding ◌>>=◌
     members-next zero h v l₂ f = absurd (omega arith)
@@ -53,18 +53,18 @@ module _ (inner : Reader ℕ Node) (m : Members) (l : Bytes) where
 
 -- ── The readers leave the end of the text ──
 abbrev as_leaf : Value × Bytes → Option (Node × Bytes)
-as_leaf t = some (leaf t.0, t.1)
+as_leaf t = Some (leaf t.0, t.1)
 
 leaf-scalar : (s : Bytes) → read_leaf s ≡ (read_scalar s >>= as_leaf)
 unfolding read_leaf read_scalar ◌>>=◌
 leaf-scalar s = go (read_value s)
   where
-    go : (o : Option (Value × Bytes)) → (◌>>=◌ {B = Node × Bytes} o (λ t. some (leaf t.0, skip t.1))) ≡ ((◌>>=◌ {B = Value × Bytes} o (λ t. some (t.0, skip t.1))) >>= as_leaf)
-    go none = refl
-    go (some t) = refl
+    go : (o : Option (Value × Bytes)) → (◌>>=◌ {B = Node × Bytes} o (λ t. Some (leaf t.0, skip t.1))) ≡ ((◌>>=◌ {B = Value × Bytes} o (λ t. Some (t.0, skip t.1))) >>= as_leaf)
+    go None = refl
+    go (Some t) = refl
 
 leaves-leaf : LeavesEnd read_leaf
-leaves-leaf s t h = leaves-bind read_scalar (λ v x. some (leaf v, x)) scalar-leaves (λ v. leaves-some (leaf v)) s t (sym (leaf-scalar s) ∙ h)
+leaves-leaf s t h = leaves-bind read_scalar (λ v x. Some (leaf v, x)) scalar-leaves (λ v. leaves-some (leaf v)) s t (sym (leaf-scalar s) ∙ h)
 
 leaves-members : (inner : Reader ℕ Node) → LeavesEnd inner → (n : ℕ) (m : Members) → LeavesEnd (read_members inner n m)
 unfolding read_members read_more text
@@ -73,12 +73,12 @@ leaves-members inner p (suc n) m s t h =
     leaves-bind read_member (λ k x. inner x >>= λ u. read_more (read_members inner n (member m k u.0)) (member m k u.0) u.1) member-leaves
     (λ k. leaves-bind inner (λ v x. read_more (read_members inner n (member m k v)) (member m k v) x) p (λ v x u i.
     after-cases (token (0x2C ∷ []) x) _ _ _ i
-    (λ j e. token-then 0x7D (λ y. some (member m k v, y)) (leaves-some (member m k v)) x u e)
+    (λ j e. token-then 0x7D (λ y. Some (member m k v, y)) (leaves-some (member m k v)) x u e)
     (λ r j e. rest-on x r u.1 (token-rest 0x2C x r j) (leaves-members inner p n (member m k v) r u e)))) s t (sym (members_step inner m s n) ∙ h)
 
 pub leaves-node : (d : ℕ) → LeavesEnd (read_object d) → LeavesEnd (read_node d)
 unfolding as_node
-leaves-node d p = leaves-or read_leaf _ leaves-leaf (leaves-bind (read_object d) (λ m x. some (object m, x)) p (λ m. leaves-some (object m)))
+leaves-node d p = leaves-or read_leaf _ leaves-leaf (leaves-bind (read_object d) (λ m x. Some (object m, x)) p (λ m. leaves-some (object m)))
 
 pub leaves-object : (d : ℕ) → LeavesEnd (read_object d)
 unfolding read_object text
@@ -101,9 +101,9 @@ module _ (d : ℕ) (s : Bytes) (v : ℕ) (x : ValueAt) (answer : value_answer s 
   node-mapped i {B} g = rw (leaf-scalar (drop v s), scalar-bad s v x answer i) (go (read_object d (drop v s)))
     where
       go : (o : Option (Members × Bytes))
-          → behind s (◌>>=◌ {B = B × Bytes} o (λ t. some (g (object t.0), t.1))) ≡ behind s (◌>>=◌ {B = B × Bytes} (o >>= as_node) (λ t. some (g t.0, t.1)))
-      go none = refl
-      go (some t) = refl
+          → behind s (◌>>=◌ {B = B × Bytes} o (λ t. Some (g (object t.0), t.1))) ≡ behind s (◌>>=◌ {B = B × Bytes} (o >>= as_node) (λ t. Some (g t.0, t.1)))
+      go None = refl
+      go (Some t) = refl
 
 -- ── An object: what is left to read of it at i, behind the members before ──
 pub record Left (s : Bytes) (at depth : ℕ) (before : Members) (i : ℕ) : Type 0 where
@@ -113,7 +113,7 @@ pub record Left (s : Bytes) (at depth : ℕ) (before : Members) (i : ℕ) : Type
   pub enough : length s - i ≤ bound
   pub is : read_object depth (drop at s) ≡ read_members (read_node (depth - 1)) bound before (drop i s)
 
-object-open : (depth : ℕ) → (depth ≡ 0 → ⊥) → (s s₁ : Bytes) → token (0x7B ∷ []) s ≡ some s₁
+object-open : (depth : ℕ) → (depth ≡ 0 → ⊥) → (s s₁ : Bytes) → token (0x7B ∷ []) s ≡ Some s₁
     → read_object depth s ≡ read_members (read_node (depth - 1)) (length s₁) no_members s₁
 unfolding read_object text ◌>>=◌
 object-open zero f s s₁ h = absurd (f refl)
@@ -122,7 +122,7 @@ object-open (suc d) f s s₁ h =
     rw h (ap (λ (j : ℕ). read_members (read_node j) (length s₁) no_members s₁) q)
 
 -- no object is read where no brace stands
-pub unopened : (s : Bytes) → read_token 0x7B s ≡ none → (d : ℕ) → read_object d s ≡ none
+pub unopened : (s : Bytes) → read_token 0x7B s ≡ None → (d : ℕ) → read_object d s ≡ None
 unfolding read_object text ◌>>=◌
 unopened s h zero = refl
 unopened s h (suc d) = rw (token-none 0x7B s h)
@@ -138,19 +138,19 @@ left-start s at depth f o r = record {
 
 -- ── What an object is answered as, where g makes the answer of its members ──
 module _ {B : Type 0} (g : Members → B) (s : Bytes) (at depth : ℕ) where
-  pub object-none : depth ≡ 0 → none ≡ placed (mapped g (read_object depth)) s at
+  pub object-none : depth ≡ 0 → None ≡ placed (mapped g (read_object depth)) s at
   unfolding read_object
   object-none e = mapped-none g _ s at (rw e)
 
-  pub object-unopened : read_token 0x7B (drop at s) ≡ none → none ≡ placed (mapped g (read_object depth)) s at
+  pub object-unopened : read_token 0x7B (drop at s) ≡ None → None ≡ placed (mapped g (read_object depth)) s at
   object-unopened h = mapped-none g _ s at (unopened (drop at s) h depth)
 
 module _ (s : Bytes) (at depth : ℕ) (before : Members) (i : ℕ) (left : Left s at depth before i) where
-  pub left-no-member : {B : Type 0} (g : Members → B) → read_member (drop i s) ≡ none → none ≡ placed (mapped g (read_object depth)) s at
+  pub left-no-member : {B : Type 0} (g : Members → B) → read_member (drop i s) ≡ None → None ≡ placed (mapped g (read_object depth)) s at
   left-no-member g h = mapped-none g _ s at (left.is ∙ members-none _ _ _ _ h)
 
   module _ (name : Bytes) (v : ℕ) (key : Reads read_member s i name v) where
-    pub left-no-value : {B : Type 0} (g : Members → B) → read_node (depth - 1) (drop v s) ≡ none → none ≡ placed (mapped g (read_object depth)) s at
+    pub left-no-value : {B : Type 0} (g : Members → B) → read_node (depth - 1) (drop v s) ≡ None → None ≡ placed (mapped g (read_object depth)) s at
     left-no-value g h = mapped-none g _ s at (left.is ∙ members-no-value _ _ _ _ _ key.is _ h)
 
     module _ (a : Node) (e : ℕ) (node : Reads (read_node (depth - 1)) s v a e) where
@@ -160,12 +160,12 @@ module _ (s : Bytes) (at depth : ℕ) (before : Members) (i : ℕ) (left : Left 
           ∙ members-next _ _ _ _ _ key.is left.bound (omega (arith, left.enough, member-moves s i name v key, key.to)) a (drop e s) node.is
 
       -- behind the last member the closing brace stands, or none does
-      module _ {B : Type 0} (g : Members → B) (h : read_token 0x2C (drop e s) ≡ none) where
-        pub left-unclosed : read_token 0x7D (drop e s) ≡ none → none ≡ placed (mapped g (read_object depth)) s at
+      module _ {B : Type 0} (g : Members → B) (h : read_token 0x2C (drop e s) ≡ None) where
+        pub left-unclosed : read_token 0x7D (drop e s) ≡ None → None ≡ placed (mapped g (read_object depth)) s at
         unfolding read_more text if_after ◌>>=◌
         left-unclosed k = mapped-none g _ s at (next ∙ rw (token-none 0x2C _ h, token-none 0x7D _ k))
 
-        pub left-last : (close : ℕ) → Reads (read_token 0x7D) s e tt close → some (g (member before name a), close) ≡ placed (mapped g (read_object depth)) s at
+        pub left-last : (close : ℕ) → Reads (read_token 0x7D) s e tt close → Some (g (member before name a), close) ≡ placed (mapped g (read_object depth)) s at
         unfolding read_more text if_after ◌>>=◌
         left-last close r = mapped-is g (read_object depth) s at _ close (record {
           from = omega (arith, left.from, key.from, node.from, r.from);

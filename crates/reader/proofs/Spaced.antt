@@ -2,7 +2,7 @@
 use Rattle.std.specs.Prelude.{if◌then◌else◌}
 use Prim.Native.Nat.{ℕ, suc, ◌+◌, ◌-◌, ◌≤◌, ◌<◌}
 use mathlib.Core.Path.{◌≡◌, refl, sym, ap, ◌∙◌}
-use mathlib.Core.Option.{Option, none, some}
+use Rattle.std.specs.Prelude.{Option, None, Some}
 use mathlib.Core.Bool.{Bool, true, false}
 use mathlib.Core.List.{[], ◌∷◌}
 use native.Mathlib.Omega.{arith}
@@ -44,19 +44,19 @@ pub skip-leaves : (s : Bytes) → (n : ℕ) × (n ≤ length s) × (skip s ≡ d
 unfolding skip
 skip-leaves s = rest_of s (span is_blank s).0 (span is_blank s).1 (sym (span-joins is_blank s))
 
-leaves-skip : {A : Type 0} (a : A) → LeavesEnd (λ (x : Bytes). some (a, skip x))
+leaves-skip : {A : Type 0} (a : A) → LeavesEnd (λ (x : Bytes). Some (a, skip x))
 leaves-skip {A} a s t h =
     let w = skip-leaves s in
     (w.0, w.1, sym (ap (λ (u : A × Bytes). u.1) (some_same h)) ∙ w.2)
 
 -- ── A reader g that reads as f does, and then the blanks ──
-module _ {A : Type 0} (f g : Reader ℕ A) (spaced : (x : Bytes) → g x ≡ (f x >>= λ t. some (t.0, skip t.1))) where
+module _ {A : Type 0} (f g : Reader ℕ A) (spaced : (x : Bytes) → g x ≡ (f x >>= λ t. Some (t.0, skip t.1))) where
   module _ (s : Bytes) (at : ℕ) where
-    pub spaced-none : f (drop at s) ≡ none → none ≡ placed g s at
+    pub spaced-none : f (drop at s) ≡ None → None ≡ placed g s at
     unfolding ◌>>=◌
     spaced-none h = sym (placed-none g s at (spaced (drop at s) ∙ rw h))
 
-    pub spaced-reads : (a : A) (e : ℕ) → Reads f s at a e → (n : ℕ) → n ≡ run_end is_blank s e → some (a, n) ≡ placed g s at
+    pub spaced-reads : (a : A) (e : ℕ) → Reads f s at a e → (n : ℕ) → n ≡ run_end is_blank s e → Some (a, n) ≡ placed g s at
     unfolding ◌>>=◌
     spaced-reads a e r n is =
         let w = run-within is_blank s e n is r.to in
@@ -67,26 +67,26 @@ module _ {A : Type 0} (f g : Reader ℕ A) (spaced : (x : Bytes) → g x ≡ (f 
         }))
 
   pub spaced-leaves : LeavesEnd f → LeavesEnd g
-  spaced-leaves p s t h = leaves-bind f (λ a x. some (a, skip x)) p (λ a. leaves-skip a) s t (sym (spaced s) ∙ h)
+  spaced-leaves p s t h = leaves-bind f (λ a x. Some (a, skip x)) p (λ a. leaves-skip a) s t (sym (spaced s) ∙ h)
 
 -- the blanks behind what stands last
 abbrev with_rest : {A : Type 0} → A → Bytes → Option (A × Bytes)
-with_rest a r = some (a, r)
+with_rest a r = Some (a, r)
 
 abbrev blanks-off : {A : Type 0} → A × Bytes → Option (A × Bytes)
-blanks-off t = some (t.0, skip t.1)
+blanks-off t = Some (t.0, skip t.1)
 
-blanks-last : {A : Type 0} (a : A) (o : Option Bytes) → ((o >>= λ r. some (skip r)) >>= with_rest a) ≡ ((o >>= with_rest a) >>= blanks-off)
+blanks-last : {A : Type 0} (a : A) (o : Option Bytes) → ((o >>= λ r. Some (skip r)) >>= with_rest a) ≡ ((o >>= with_rest a) >>= blanks-off)
 unfolding ◌>>=◌
-blanks-last a none = refl
-blanks-last a (some r) = refl
+blanks-last a None = refl
+blanks-last a (Some r) = refl
 
 -- ── One byte ──
 abbrev read_byte : ℕ → Reader ℕ (Unit {0})
-read_byte b s = after (b ∷ []) s >>= λ r. some (tt, r)
+read_byte b s = after (b ∷ []) s >>= λ r. Some (tt, r)
 
 module _ (b : ℕ) where
-  byte-spaced : (s : Bytes) → read_token b s ≡ (read_byte b s >>= λ t. some (t.0, skip t.1))
+  byte-spaced : (s : Bytes) → read_token b s ≡ (read_byte b s >>= λ t. Some (t.0, skip t.1))
   unfolding read_token token
   byte-spaced s = blanks-last tt (after (b ∷ []) s)
 
@@ -96,7 +96,7 @@ module _ (b : ℕ) where
 -- ── The tokens of one byte ──
 -- what was read, where it is the given one
 abbrev only : ℕ → ℕ × Bytes → Option (Unit {0} × Bytes)
-only b t = if eqb b t.0 then some (tt, t.1) else none
+only b t = if eqb b t.0 then Some (tt, t.1) else None
 
 structural-given : (b : ℕ) → is_structural b ≡ true → (x : Bytes) → read_token b x ≡ (read_structural x >>= only b)
 unfolding read_token token after read_structural ◌>>=◌
@@ -116,15 +116,15 @@ structural-leaves (b ∷ s) t h = by_cases (is_structural b)
     (λ k. none-some (rw k at h))
 
 module _ (s : Bytes) (at : ℕ) where
-  pub structural-over : length s ≤ at → none ≡ placed read_structural s at
+  pub structural-over : length s ≤ at → None ≡ placed read_structural s at
   unfolding read_structural
   structural-over h = sym (placed-none read_structural s at (rw (over s at h)))
 
-  pub structural-not : at < length s → is_structural (get_or s at 0) ≡ false → none ≡ placed read_structural s at
+  pub structural-not : at < length s → is_structural (get_or s at 0) ≡ false → None ≡ placed read_structural s at
   unfolding read_structural
   structural-not h k = sym (placed-none read_structural s at (rw (here 0 s at h, k)))
 
-  pub structural-is : at < length s → (n : ℕ) → n ≡ run_end is_blank s (at + 1) → (b : ℕ) → is_structural b ≡ true → get_or s at 0 ≡ b → some (b, n) ≡ placed read_structural s at
+  pub structural-is : at < length s → (n : ℕ) → n ≡ run_end is_blank s (at + 1) → (b : ℕ) → is_structural b ≡ true → get_or s at 0 ≡ b → Some (b, n) ≡ placed read_structural s at
   unfolding read_structural
   structural-is h n is b k e =
       let w = run-within is_blank s (at + 1) n is (omega arith) in
@@ -135,12 +135,12 @@ module _ (s : Bytes) (at : ℕ) where
       }))
 
 -- ── A key, and a value ──
-pub key-spaced : (s : Bytes) → read_key s ≡ (read_between Name 0x22 1 max_key s >>= λ t. some (t.0, skip t.1))
+pub key-spaced : (s : Bytes) → read_key s ≡ (read_between Name 0x22 1 max_key s >>= λ t. Some (t.0, skip t.1))
 unfolding read_key read_quoted token text
 key-spaced s =
     bind-same (after (0x22 ∷ []) s) _ _ (λ s₁. let (k, r) = span name_byte s₁ in ap (λ (o : Option (Bytes × Bytes)). check (is_key k) >> o) (blanks-last k (after (0x22 ∷ []) r)) ∙ sym (check_bind (is_key k) _ _))
     ∙ sym (bind-bind (after (0x22 ∷ []) s) _ _)
-    ∙ ap (λ (o : Option (Bytes × Bytes)). o >>= λ t. some (t.0, skip t.1)) (quoted-between 0x22 s)
+    ∙ ap (λ (o : Option (Bytes × Bytes)). o >>= λ t. Some (t.0, skip t.1)) (quoted-between 0x22 s)
 
 pub key-leaves : LeavesEnd read_key
 key-leaves = spaced-leaves _ _ key-spaced (between-leaves Name 0x22 1 max_key)
@@ -152,7 +152,7 @@ module _ (s : Bytes) (at : ℕ) where
       let m : e - 1 - (at + 1) ≡ e - 2 - at = omega arith in
       rw m (spaced-reads _ _ key-spaced s at _ e q.reads n is)
 
-pub scalar-spaced : (s : Bytes) → read_scalar s ≡ (read_value s >>= λ t. some (t.0, skip t.1))
+pub scalar-spaced : (s : Bytes) → read_scalar s ≡ (read_value s >>= λ t. Some (t.0, skip t.1))
 unfolding read_scalar
 scalar-spaced s = refl
 
@@ -162,8 +162,8 @@ scalar-leaves = spaced-leaves _ _ scalar-spaced value-leaves
 -- ── For a caller: what an answer says ──
 -- the answer's token is b
 answers : ℕ → Option (ℕ × ℕ) → Bool
-answers b none = false
-answers b (some p) = eqb b p.0
+answers b None = false
+answers b (Some p) = eqb b p.0
 
 -- a token that is not the variant that the code's `let` asks for
 not-open : (x : TokenAt) → ((e : ℕ) → x ≡ Open e → ⊥) → answers 0x7B (token_answer x) ≡ false
@@ -200,19 +200,19 @@ not-comma Bad h = refl
 
 module _ (s : Bytes) (at : ℕ) (x : TokenAt) (answer : token_answer x ≡ placed read_structural s at) where
   module _ (b : ℕ) (k : is_structural b ≡ true) where
-    structural-stands : at ≤ length s → (e : ℕ) → token_answer x ≡ some (b, e) → Reads (read_token b) s at tt e
+    structural-stands : at ≤ length s → (e : ℕ) → token_answer x ≡ Some (b, e) → Reads (read_token b) s at tt e
     unfolding ◌>>=◌
     structural-stands h e i =
         let r = reads-placed read_structural s at structural-leaves h b e (sym answer ∙ i) in
         record { from = r.from; to = r.to; is = structural-given b k (drop at s) ∙ rw (r.is, eq-eqb b b refl) }
 
-    structural-other : answers b (token_answer x) ≡ false → read_token b (drop at s) ≡ none
+    structural-other : answers b (token_answer x) ≡ false → read_token b (drop at s) ≡ None
     unfolding ◌>>=◌ placed behind answers
     structural-other n = structural-given b k (drop at s) ∙ go (read_structural (drop at s)) (sym answer)
       where
-        go : (o : Option (ℕ × Bytes)) → behind s o ≡ token_answer x → (o >>= only b) ≡ none
-        go none i = refl
-        go (some t) i = rw (rw (← i) at n)
+        go : (o : Option (ℕ × Bytes)) → behind s o ≡ token_answer x → (o >>= only b) ≡ None
+        go None i = refl
+        go (Some t) i = rw (rw (← i) at n)
 
   -- a token that the code's `let` told
   module _ (h : at ≤ length s) (e : ℕ) where
@@ -233,31 +233,31 @@ module _ (s : Bytes) (at : ℕ) (x : TokenAt) (answer : token_answer x ≡ place
     comma-stands i = structural-stands 0x2C refl h e (ap token_answer i)
 
   -- a token that the code's `else` is left with
-  pub no-open : ((e : ℕ) → x ≡ Open e → ⊥) → read_token 0x7B (drop at s) ≡ none
+  pub no-open : ((e : ℕ) → x ≡ Open e → ⊥) → read_token 0x7B (drop at s) ≡ None
   unfolding is_structural
   no-open h = structural-other 0x7B refl (not-open x h)
 
-  pub no-close : ((e : ℕ) → x ≡ Close e → ⊥) → read_token 0x7D (drop at s) ≡ none
+  pub no-close : ((e : ℕ) → x ≡ Close e → ⊥) → read_token 0x7D (drop at s) ≡ None
   unfolding is_structural
   no-close h = structural-other 0x7D refl (not-close x h)
 
-  pub no-colon : ((e : ℕ) → x ≡ Colon e → ⊥) → read_token 0x3A (drop at s) ≡ none
+  pub no-colon : ((e : ℕ) → x ≡ Colon e → ⊥) → read_token 0x3A (drop at s) ≡ None
   unfolding is_structural
   no-colon h = structural-other 0x3A refl (not-colon x h)
 
-  pub no-comma : ((e : ℕ) → x ≡ Comma e → ⊥) → read_token 0x2C (drop at s) ≡ none
+  pub no-comma : ((e : ℕ) → x ≡ Comma e → ⊥) → read_token 0x2C (drop at s) ≡ None
   unfolding is_structural
   no-comma h = structural-other 0x2C refl (not-comma x h)
 
 module _ (f : Reader ℕ Bytes) (s : Bytes) (at : ℕ) (x : KeyAt) (answer : key_answer s x ≡ placed f s at) where
-  pub key-bad : x ≡ key-at.Bad → f (drop at s) ≡ none
+  pub key-bad : x ≡ key-at.Bad → f (drop at s) ≡ None
   key-bad i = none-placed f s at (told (key_answer s) answer i)
 
   pub key_reads : LeavesEnd f → at ≤ length s → (a e n : ℕ) → x ≡ key-at.At a e n → Reads f s at (take (e - a) (drop a s)) n
   key_reads leaves h a e n i = reads-placed f s at leaves h _ n (told (key_answer s) answer i)
 
 module _ (s : Bytes) (at : ℕ) (x : ValueAt) (answer : value_answer s x ≡ placed read_scalar s at) where
-  pub scalar-bad : x ≡ value-at.Bad → read_scalar (drop at s) ≡ none
+  pub scalar-bad : x ≡ value-at.Bad → read_scalar (drop at s) ≡ None
   scalar-bad i = none-placed read_scalar s at (told (value_answer s) answer i)
 
   pub scalar-reads : at ≤ length s → (v : Scalar) (e : ℕ) → x ≡ value-at.At v e → Reads read_scalar s at (value_in s v) e
@@ -265,19 +265,19 @@ module _ (s : Bytes) (at : ℕ) (x : ValueAt) (answer : value_answer s x ≡ pla
 
 -- a token as the model has it; it takes its byte
 module _ (b : ℕ) (s : Bytes) where
-  pub token-none : read_token b s ≡ none → token (b ∷ []) s ≡ none
+  pub token-none : read_token b s ≡ None → token (b ∷ []) s ≡ None
   unfolding read_token ◌>>=◌
   token-none h = go (token (b ∷ []) s) h
     where
-      go : (o : Option Bytes) → (o >>= with_rest {A = Unit {0}} tt) ≡ none → o ≡ none
-      go none h = refl
-      go (some r) h = none-some (sym h)
+      go : (o : Option Bytes) → (o >>= with_rest {A = Unit {0}} tt) ≡ None → o ≡ None
+      go None h = refl
+      go (Some r) h = none-some (sym h)
 
-  pub token-some : (r : Bytes) → read_token b s ≡ some (tt, r) → token (b ∷ []) s ≡ some r
+  pub token-some : (r : Bytes) → read_token b s ≡ Some (tt, r) → token (b ∷ []) s ≡ Some r
   unfolding read_token
-  token-some r h = bind-some _ _ _ h λ u i j. i ∙ ap (λ (t : Unit {0} × Bytes). some t.1) (some_same j)
+  token-some r h = bind-some _ _ _ h λ u i j. i ∙ ap (λ (t : Unit {0} × Bytes). Some t.1) (some_same j)
 
-  token-shortens : (r : Bytes) → token (b ∷ []) s ≡ some r → length r < length s
+  token-shortens : (r : Bytes) → token (b ∷ []) s ≡ Some r → length r < length s
   unfolding token
   token-shortens r h = bind-some _ _ _ h λ u i j.
       let w = skip-leaves u in
@@ -286,7 +286,7 @@ module _ (b : ℕ) (s : Bytes) where
 pub token-moves : (b : ℕ) (s : Bytes) (at e : ℕ) → Reads (read_token b) s at tt e → at < e
 token-moves b s at e r = omega (arith, token-shortens b _ _ (token-some b _ _ r.is), length-drop at s, length-drop e s, r.to)
 
-pub token-rest : (b : ℕ) (s r : Bytes) → token (b ∷ []) s ≡ some r → (n : ℕ) × (n ≤ length s) × (r ≡ drop n s)
+pub token-rest : (b : ℕ) (s r : Bytes) → token (b ∷ []) s ≡ Some r → (n : ℕ) × (n ≤ length s) × (r ≡ drop n s)
 unfolding read_token ◌>>=◌
 token-rest b s r i = token-leaves b s (tt, r) (rw i)
 
@@ -296,19 +296,19 @@ token-then b f p s t h = bind-some (token (b ∷ []) s) f t h λ r i j. rest-on 
 -- ── A key and its colon ──
 pub member-leaves : LeavesEnd read_member
 unfolding read_member text
-member-leaves = leaves-bind read_key (λ k x. token (0x3A ∷ []) x >>= λ y. some (k, y)) key-leaves (λ k. token-then 0x3A _ (leaves-some k))
+member-leaves = leaves-bind read_key (λ k x. token (0x3A ∷ []) x >>= λ y. Some (k, y)) key-leaves (λ k. token-then 0x3A _ (leaves-some k))
 
 module _ (s : Bytes) (at : ℕ) where
-  pub member-no-key : read_key (drop at s) ≡ none → none ≡ placed read_member s at
+  pub member-no-key : read_key (drop at s) ≡ None → None ≡ placed read_member s at
   unfolding read_member ◌>>=◌
   member-no-key h = sym (placed-none read_member s at (rw h))
 
   module _ (name : Bytes) (k : ℕ) (key : Reads read_key s at name k) where
-    pub member-no-colon : read_token 0x3A (drop k s) ≡ none → none ≡ placed read_member s at
+    pub member-no-colon : read_token 0x3A (drop k s) ≡ None → None ≡ placed read_member s at
     unfolding read_member text ◌>>=◌
     member-no-colon h = sym (placed-none read_member s at (rw (key.is, token-none 0x3A _ h)))
 
-    pub member_is : (v : ℕ) → Reads (read_token 0x3A) s k tt v → some (name, v) ≡ placed read_member s at
+    pub member_is : (v : ℕ) → Reads (read_token 0x3A) s k tt v → Some (name, v) ≡ placed read_member s at
     unfolding read_member text ◌>>=◌
     member_is v colon = sym (placed-reads read_member s at name v (record {
       from = omega (arith, key.from, colon.from);
@@ -327,7 +327,7 @@ member-moves s at name v r =
     omega (arith, token-shortens 0x3A t.1 u m, ap length w.2, length-drop w.0 (drop at s), ap (λ (p : Bytes × Bytes). length p.1) same, length-drop at s, length-drop v s, r.to)
 
 -- a member's key stands between its quotes
-pub member-quoted : (l name r : Bytes) → read_member l ≡ some (name, r) → (r₁ : Bytes) × Quoted Name 0x22 1 max_key l name r₁
+pub member-quoted : (l name r : Bytes) → read_member l ≡ Some (name, r) → (r₁ : Bytes) × Quoted Name 0x22 1 max_key l name r₁
 unfolding read_member
 member-quoted l name r h =
     bind-some (read_key l) _ _ h λ t i j.

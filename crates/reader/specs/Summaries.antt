@@ -1,6 +1,6 @@
 -- What is asked of a record's text before a field of it is stored, and what the answers say.
 use Rattle.std.specs.Prelude.{ℕ, ◌+◌, ◌*◌, ◌≤◌, Bool, List, length, drop}
-use Rattle.std.proofs.Math.Option.{Option, none, some}
+use Rattle.std.specs.Prelude.{Option, None, Some}
 use Rattle.model.specs.Base.{Bytes, any, is_some, after}
 use Rattle.model.specs.RecordText.{Members, tree_of, twice, count}
 use Rattle.model.specs.Refusals.{Result, refused, done, ◌>>=◌, ◌>>◌, refuse◌if◌, ◌or◌}
@@ -28,8 +28,8 @@ unfoldable pub summary : Members → ℕ × Bool
 summary m = (count m, twice m)
 
 abbrev pub object_answer : ObjectAt → Option ((ℕ × Bool) × ℕ)
-object_answer (object-at.At e n t) = some ((n, t), e)
-object_answer object-at.Bad = none
+object_answer (object-at.At e n t) = Some ((n, t), e)
+object_answer object-at.Bad = None
 
 -- an object has no more fields than bytes
 abbrev pub FieldsWithin : ℕ → ObjectAt → Type 0

@@ -2,7 +2,7 @@
 use Prim.Native.Nat.{Ordering}
 use Prim.Native.Nat.{ℕ, suc, ◌+◌, ◌≤◌, ◌<◌}
 use mathlib.Core.Path.{◌≡◌, refl, sym, ap, ◌∙◌}
-use mathlib.Core.Option.{none, some}
+use Rattle.std.specs.Prelude.{None, Some}
 use mathlib.Core.Bool.{true, false}
 use mathlib.Core.List.{[], ◌∷◌}
 use native.Mathlib.Omega.{arith}
@@ -21,14 +21,14 @@ record FoundAt (p : Keys) (fs : Fields) (j i : ℕ) : Type 0 where
   place : i ≡ j + d
   within : d < length fs
   path : (z : Field) → (get_or fs d z).path ≡ p
-  value : (z : Field) → value_at p fs ≡ some (get_or fs d z).value
+  value : (z : Field) → value_at p fs ≡ Some (get_or fs d z).value
   stored : (v : Value) → put (field_of p v) fs ≡ set fs d (field_of p v)
 
 record FoundBefore (p : Keys) (fs : Fields) (j i : ℕ) : Type 0 where
   d : ℕ
   place : i ≡ j + d
   within : d ≤ length fs
-  value : value_at p fs ≡ none
+  value : value_at p fs ≡ None
   stored : (v : Value) → put (field_of p v) fs ≡ insert_at d (field_of p v) fs
 
 at_before : {C : Type 0} (i j : ℕ) → At i ≡ Before j → C

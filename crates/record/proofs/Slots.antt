@@ -2,7 +2,7 @@
 use Prim.Native.Nat.{ℕ, suc, ◌+◌, ◌*◌, ◌-◌, ◌^◌, ◌≤◌, ◌<◌, min}
 use mathlib.Core.Path.{◌≡◌, refl, sym, ap, ◌∙◌}
 use mathlib.Core.Bool.{true, false}
-use mathlib.Core.Option.{Option, none, some}
+use Rattle.std.specs.Prelude.{Option, None, Some}
 use mathlib.Core.List.{[], ◌∷◌, ◌++◌, append_assoc, append-nil}
 use native.Mathlib.Nat.{add-sub_cancel_left, zero-add}
 use native.Mathlib.Omega.{arith}
@@ -57,8 +57,8 @@ unfolding value_in
 value-short s = go (read_value (text_in s)) refl
   where
     go : (o : Option (Value × Bytes)) → read_value (text_in s) ≡ o → length (value_text (value_or o)) ≤ value_room
-    go none e = spelling.value-length _ (unfold valid_value in refl)
-    go (some t) e = spelling.value-length t.0 (spelling.value-valid (text_in s) t.1 t.0 e)
+    go None e = spelling.value-length _ (unfold valid_value in refl)
+    go (Some t) e = spelling.value-length t.0 (spelling.value-valid (text_in s) t.1 t.0 e)
 
 -- so it fills its room with zeros behind it
 pub value-long : (s : Bytes) → length (encode_name (1 + value_room) (value_text (value_in s))) ≡ 1 + value_room
@@ -185,8 +185,8 @@ module _
     unfolding with_mask
     begun-is =
         let later = drop (length p) s in
-        let none : later ≡ zeros (slot_bytes - path_slot) = rw (clean, l) (drop-zeros path_slot slot_bytes) in
-        let behind = sym (drop-drop mask_bytes path_slot (p ++ later)) ∙ ap (drop mask_bytes) (drop_at p later path_slot l ∙ none) in
+        let None : later ≡ zeros (slot_bytes - path_slot) = rw (clean, l) (drop-zeros path_slot slot_bytes) in
+        let behind = sym (drop-drop mask_bytes path_slot (p ++ later)) ∙ ap (drop mask_bytes) (drop_at p later path_slot l ∙ None) in
         masked ∙ rw (copied, take_at p later path_slot l, behind, append_assoc (head p m))
 
     room-is : take (length q - (1 + length_at)) (drop (1 + length_at) q) ≡ zeros value_room

@@ -1,6 +1,6 @@
 -- What the bytes of a table of fields mean, whatever they are; and the bytes of fields.
 use Rattle.std.specs.Prelude.{ℕ, ◌+◌, ◌*◌, min, ◌≡◌, true, false, List, [], ◌++◌, get_or, take, drop}
-use Rattle.std.proofs.Math.Option.{Option, none, some}
+use Rattle.std.specs.Prelude.{Option, None, Some}
 use Rattle.layout.specs.Layout.{table, encode_name, encode_table, CanonicalTable}
 use Rattle.model.specs.Base.{Bytes}
 use Rattle.model.specs.Limits.{max_string, max_fields}
@@ -27,8 +27,8 @@ record_bytes = max_fields * slot_bytes
 -- ── Meanings ──
 -- the value at the start of a text; false where there is none
 abbrev pub value_or : Option (Value × Bytes) → Value
-value_or none = truth false
-value_or (some t) = t.0
+value_or None = truth false
+value_or (Some t) = t.0
 
 -- the text of a slot's value
 unfoldable pub text_in : Bytes → Bytes

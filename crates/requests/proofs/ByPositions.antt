@@ -3,7 +3,7 @@ use Rattle.std.specs.Prelude.{if◌then◌else◌}
 use Prim.Native.Nat.{ℕ, ◌+◌, ◌-◌, ◌≤◌, ◌<◌}
 use mathlib.Core.Path.{◌≡◌, sym, ap, ◌∙◌}
 use mathlib.Core.Bool.{Bool, ◌&&◌}
-use mathlib.Core.Option.{Option, none, some}
+use Rattle.std.specs.Prelude.{Option, None, Some}
 use mathlib.Core.List.{[], ◌∷◌, ◌++◌}
 use native.Mathlib.Omega.{arith}
 use lib.ListN.{length, take, drop}
@@ -38,13 +38,13 @@ use Rattle.requests.proofs.Cuts.{cut-none, cut-here}
 
 -- ── The word that a line begins with ──
 module _ (w s : Bytes) (r : End) (answer : Behind w s r) where
-  pub word-ends : {e : ℕ} → r ≡ end.At e → (after w s ≡ some (drop e s)) × (e ≤ length s)
+  pub word-ends : {e : ℕ} → r ≡ end.At e → (after w s ≡ Some (drop e s)) × (e ≤ length s)
   word-ends is = rw is at answer
 
-  pub word-other : r ≡ end.Bad → after w s ≡ none
+  pub word-other : r ≡ end.Bad → after w s ≡ None
   word-other is = rw is at answer
 
-pub other_word : {A : Type 0} (w s : Bytes) (f : Bytes → Option A) → after w s ≡ none → none ≡ (after w s >>= f)
+pub other_word : {A : Type 0} (w s : Bytes) (f : Bytes → Option A) → after w s ≡ None → None ≡ (after w s >>= f)
 unfolding ◌>>=◌
 other_word w s f h = rw h
 
@@ -54,10 +54,10 @@ pub record UserEnds (s : Bytes) (from m : ℕ) : Type 0 where
   pub starts : from ≤ m
   pub to : m < length s
   pub read : {u k : Bool} → is_name (take (m - from) (drop from s)) ≡ u → is_name (drop (m + 1) s) ≡ k
-      → (check (u && k) >> some (login (take (m - from) (drop from s)) (drop (m + 1) s))) ≡ read_login s
+      → (check (u && k) >> Some (login (take (m - from) (drop from s)) (drop (m + 1) s))) ≡ read_login s
 
-module _ (s : Bytes) (from : ℕ) (begins : after (text "LOGIN;") s ≡ some (drop from s)) (m : ℕ) (is : m ≡ run_end (is_not 0x3B) s from) where
-  pub user-last : m ≡ length s → none ≡ read_login s
+module _ (s : Bytes) (from : ℕ) (begins : after (text "LOGIN;") s ≡ Some (drop from s)) (m : ℕ) (is : m ≡ run_end (is_not 0x3B) s from) where
+  pub user-last : m ≡ length s → None ≡ read_login s
   unfolding read_login ◌>>=◌
   user-last h = rw (begins, cut-none 0x3B s from m is (omega arith))
 
@@ -71,7 +71,7 @@ module _ (s : Bytes) (from : ℕ) (begins : after (text "LOGIN;") s ≡ some (dr
 -- ── `PUSH;session;path;value` ──
 -- what is read of the three together
 unfoldable pub push_of : Option ℕ → Option Keys → Option Value → Option Request
-push_of n p v = n >>= λ n. p >>= λ p. v >>= λ v. some (in_session n (push p v))
+push_of n p v = n >>= λ n. p >>= λ p. v >>= λ v. Some (in_session n (push p v))
 
 -- the session ends at a and the path at b, and what is read goes by what each of the three is
 pub record PathEnds (s : Bytes) (from a b : ℕ) : Type 0 where
@@ -82,8 +82,8 @@ pub record PathEnds (s : Bytes) (from a b : ℕ) : Type 0 where
   pub read : {n : Option ℕ} {p : Option Keys} {v : Option Value} → number max_session (take (a - from) (drop from s)) ≡ n
       → keys_of (take (b - (a + 1)) (drop (a + 1) s)) ≡ p → value_of (drop (b + 1) s) ≡ v → push_of n p v ≡ read_push s
 
-module _ (s : Bytes) (from : ℕ) (begins : after (text "PUSH;") s ≡ some (drop from s)) (a : ℕ) (is : a ≡ run_end (is_not 0x3B) s from) where
-  pub session-last : a ≡ length s → none ≡ read_push s
+module _ (s : Bytes) (from : ℕ) (begins : after (text "PUSH;") s ≡ Some (drop from s)) (a : ℕ) (is : a ≡ run_end (is_not 0x3B) s from) where
+  pub session-last : a ≡ length s → None ≡ read_push s
   unfolding read_push ◌>>=◌
   session-last h = rw (begins, cut-none 0x3B s from a is (omega arith))
 
@@ -92,7 +92,7 @@ module _ (s : Bytes) (from : ℕ) (begins : after (text "PUSH;") s ≡ some (dro
     session-ends = omega (arith, run-within (is_not 0x3B) s from a is long, f)
 
     module _ (b : ℕ) (is₁ : b ≡ run_end (is_not 0x3B) s (a + 1)) where
-      pub path-last : b ≡ length s → none ≡ read_push s
+      pub path-last : b ≡ length s → None ≡ read_push s
       unfolding read_push ◌>>=◌
       path-last h =
           rw (begins, cut-here 0x3B s from a is session-ends.1, cut-none 0x3B s (a + 1) b is₁ (omega arith))
@@ -112,7 +112,7 @@ module _ (s : Bytes) (from : ℕ) (begins : after (text "PUSH;") s ≡ some (dro
           }
 
 -- path and value have one spelling each, so what is pushed stands behind the session
-pub push-stands : (s : Bytes) (from a b : ℕ) (p : Keys) (v : Value) → PathEnds s from a b → keys_of (take (b - (a + 1)) (drop (a + 1) s)) ≡ some p → value_of (drop (b + 1) s) ≡ some v
+pub push-stands : (s : Bytes) (from a b : ℕ) (p : Keys) (v : Value) → PathEnds s from a b → keys_of (take (b - (a + 1)) (drop (a + 1) s)) ≡ Some p → value_of (drop (b + 1) s) ≡ Some v
     → PushStands s p (a + 1) v
 unfolding pushed_text text between
 push-stands s from a b p v e k w = record { within = omega (arith, e.between, e.to); pushed = e.parts ∙ rw (keys-as-written _ _ k, value-as-written _ _ w) }
@@ -133,22 +133,22 @@ slot_same {r = Bad} h same = same
 -- ── A path ──
 -- what the function `read_path` answered, once it is known whether it is one
 pub path-told : (r : PathRead) {k : Bool} {o : Option Keys} → path_answer r ≡ o → r.ok ≡ k
-    → o ≡ (if k then some (path_in r.slot) else none)
+    → o ≡ (if k then Some (path_in r.slot) else None)
 path-told r h e = sym h ∙ rw e
 
 -- ── A value that is the rest of a line ──
 module _ (s : Bytes) (at : ℕ) (r : ValueAt) (answer : value_answer s r ≡ placed read_value s at) where
-  pub whole-bad : r ≡ value.Bad → value_of (drop at s) ≡ none
+  pub whole-bad : r ≡ value.Bad → value_of (drop at s) ≡ None
   unfolding value_of ◌>>=◌
   whole-bad i = rw (value-bad s at r answer i)
 
   module _ (h : at ≤ length s) (v : Scalar) (e : ℕ) (i : r ≡ value.At v e) where
-    pub whole-more : (e ≡ length s → ⊥) → value_of (drop at s) ≡ none
+    pub whole-more : (e ≡ length s → ⊥) → value_of (drop at s) ≡ None
     unfolding value_of ◌>>=◌ ◌>>◌ check ◌≐◌
     whole-more f =
         let w = value-reads s at r answer h v e i in
         rw (w.is, here 0 s e (omega (arith, w.to, f)))
 
-    pub whole_is : e ≡ length s → value_of (drop at s) ≡ some (value_in s v)
+    pub whole_is : e ≡ length s → value_of (drop at s) ≡ Some (value_in s v)
     unfolding value_of ◌>>=◌ ◌>>◌ check ◌≐◌
     whole_is f = rw ((value-reads s at r answer h v e i).is, over s e (omega arith))

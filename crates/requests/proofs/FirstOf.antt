@@ -1,7 +1,7 @@
 -- A line asks for what the first reader that reads it makes of it.
 use Prim.Native.Nat.{◌≤◌, ◌<◌}
 use mathlib.Core.Path.{◌≡◌, refl, ◌∙◌}
-use mathlib.Core.Option.{Option, none, some}
+use Rattle.std.specs.Prelude.{Option, None, Some}
 use mathlib.Core.List.{List, [], ◌∷◌}
 use borrow.Author.Tests.{le-leb, lt-leb}
 use lib.ListN.{length}
@@ -17,14 +17,14 @@ use Rattle.requests.specs.declared.Parsed.{Parsed}
 use Rattle.requests.specs.declared.Parsed.TheVariants.{Is, Bad}
 
 -- nothing behind the last
-last : {A : Type 0} (a : Option A) → a ≡ (a <|> none)
+last : {A : Type 0} (a : Option A) → a ≡ (a <|> None)
 unfolding ◌<|>◌
-last none = refl
-last (some x) = refl
+last None = refl
+last (Some x) = refl
 
 -- ── The line ──
 module _ (s : Bytes) where
-  pub too_long_lem : max_line < length s → none ≡ request_of s
+  pub too_long_lem : max_line < length s → None ≡ request_of s
   unfolding request_of check ◌>>◌
   too_long_lem h = rw (lt-leb (length s) max_line h)
 

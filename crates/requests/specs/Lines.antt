@@ -1,6 +1,6 @@
 -- What a line that was taken apart asks for, and where in the line it stands.
 use Rattle.std.specs.Prelude.{ℕ, ◌+◌, ◌-◌, ◌≤◌, ◌<◌, ◌≡◌, [], ◌∷◌, length, take, drop}
-use Rattle.std.proofs.Math.Option.{Option, none, some}
+use Rattle.std.specs.Prelude.{Option, None, Some}
 use Rattle.model.specs.Base.{Bytes, text, between, after}
 use Rattle.model.specs.Values.{Value, value_text}
 use Rattle.model.specs.Fields.{Keys}
@@ -30,8 +30,8 @@ request_in s p (Login from m) = model.login (take (m - from) (drop from s)) (dro
 request_in s p (InSession n a) = model.in_session n (ask_in s p a)
 
 abbrev pub parsed_answer : Bytes → Keys → Parsed → Option model.Request
-parsed_answer s p (Is q) = some (request_in s p q)
-parsed_answer s p Bad = none
+parsed_answer s p (Is q) = Some (request_in s p q)
+parsed_answer s p Bad = None
 
 -- ── Where it stands ──
 -- a path and a value as a line has them
@@ -59,8 +59,8 @@ ParsedStands s p Bad = Unit {0}
 -- ── The readers ──
 -- where a line goes on behind the word that it begins with
 abbrev pub Behind : Bytes → Bytes → End → Type 0
-Behind w s (end.At e) = (after w s ≡ some (drop e s)) × (e ≤ length s)
-Behind w s end.Bad = after w s ≡ none
+Behind w s (end.At e) = (after w s ≡ Some (drop e s)) × (e ≤ length s)
+Behind w s end.Bad = after w s ≡ None
 
 -- a reader of lines answers what the model's does, and says where it stands
 pub record ReadsAs (read : Bytes → Option model.Request) (s : Bytes) (p : Keys) (r : Parsed) : Type 0 where

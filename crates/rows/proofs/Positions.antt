@@ -2,11 +2,12 @@
 use Prim.Native.Nat.{ℕ, zero, suc, ◌+◌, ◌-◌, ◌≤◌, ◌<◌}
 use mathlib.Core.Path.{◌≡◌, refl, ap, ap₂, ◌∙◌}
 use mathlib.Core.Bool.{Bool, true, false, not}
-use mathlib.Core.Option.{Option, none, some}
+use Rattle.std.specs.Prelude.{Option, None, Some}
 use mathlib.Core.List.{List, [], ◌∷◌}
 use native.Mathlib.Numerals.{add-one}
 use native.Mathlib.Omega.{arith}
-use lib.ListN.{length, get_or, get_elem?, take, drop, length-drop, drop_of_length-le}
+use lib.ListN.{length, get_or, take, drop, length-drop, drop_of_length-le}
+use Rattle.std.specs.Prelude.{slice_get}
 use lib.Seq.{drop-cons, drop-drop}
 use Rattle.rows.specs.Rows.{up_to}
 use Rattle.rows.specs.Positions.{Reader, Reads, behind, placed, LeavesEnd, run, run_end}
@@ -20,16 +21,16 @@ module _ {ℓ} {A : Type ℓ} where
   pub over : (s : List A) (i : ℕ) → length s ≤ i → drop i s ≡ []
   over s i h = drop_of_length-le s h
 
-  -- the element at a position is the first of the rest there
-  pub elem-left : (s : List A) (i : ℕ) → get_elem? s i ≡ get_elem? (drop i s) 0
-  elem-left [] zero = refl
-  elem-left [] (suc i) = refl
-  elem-left (x ∷ s) zero = refl
-  elem-left (x ∷ s) (suc i) = elem-left s i
-
   -- the rest at a later position, and what stands between
   pub rest_from : (s : List A) (at e : ℕ) → at ≤ e → drop (e - at) (drop at s) ≡ drop e s
   rest_from s at e h = let q : at + (e - at) ≡ e = omega arith in rw (drop-drop, q)
+
+-- the element at a position is the first of the rest there
+pub elem-left : {A : Type 0} (s : List A) (i : ℕ) → slice_get s i ≡ slice_get (drop i s) 0
+elem-left [] zero = refl
+elem-left [] (suc i) = refl
+elem-left (x ∷ s) zero = refl
+elem-left (x ∷ s) (suc i) = elem-left s i
 
 module _ {E : Type 0} (ok : E → Bool) (s : List E) where
   -- a loop that goes on while elements pass: an element that does, one that does not, and the end of the text
@@ -64,39 +65,39 @@ module _ {E : Type 0} (ok : E → Bool) (s : List E) where
         rw n (rest_from s at e (omega arith))
 
 -- ── Readers by positions ──
-position : {A : Type 0} (a b : A) (m n : ℕ) → ◌≡◌ {A = Option (A × ℕ)} (some (a, m)) (some (b, n)) → (a ≡ b) × (m ≡ n)
+position : {A : Type 0} (a b : A) (m n : ℕ) → ◌≡◌ {A = Option (A × ℕ)} (Some (a, m)) (Some (b, n)) → (a ≡ b) × (m ≡ n)
 position {A} a b m n h =
     let p : ◌≡◌ {A = A × ℕ} (a, m) (b, n) = cc in
     (ap (λ (t : A × ℕ). t.0) p, ap (λ (t : A × ℕ). t.1) p)
 
 module _ {E A : Type 0} (f : Reader E A) (s : List E) (at : ℕ) where
-  pub placed-reads : (a : A) (e : ℕ) → Reads f s at a e → placed f s at ≡ some (a, e)
+  pub placed-reads : (a : A) (e : ℕ) → Reads f s at a e → placed f s at ≡ Some (a, e)
   unfolding placed behind
   placed-reads a e r = let n : length s - length (drop e s) ≡ e = omega (arith, length-drop e s, r.to) in rw (r.is, n)
 
-  pub placed-none : f (drop at s) ≡ none → placed f s at ≡ none
+  pub placed-none : f (drop at s) ≡ None → placed f s at ≡ None
   unfolding placed behind
   placed-none h = rw h
 
-  pub none-placed : placed f s at ≡ none → f (drop at s) ≡ none
+  pub none-placed : placed f s at ≡ None → f (drop at s) ≡ None
   unfolding placed behind
   none-placed h = go (f (drop at s)) refl h
     where
-      go : (o : Option (A × List E)) → f (drop at s) ≡ o → behind s o ≡ none → f (drop at s) ≡ none
-      go none e h = e
-      go (some t) e h = let z : ◌≡◌ {A = ℕ} 0 1 = unfold behind in cc in absurd (omega arith)
+      go : (o : Option (A × List E)) → f (drop at s) ≡ o → behind s o ≡ None → f (drop at s) ≡ None
+      go None e h = e
+      go (Some t) e h = let z : ◌≡◌ {A = ℕ} 0 1 = unfold behind in cc in absurd (omega arith)
 
   -- a position that is answered is where the reader ends
-  pub reads-placed : LeavesEnd f → at ≤ length s → (a : A) (e : ℕ) → placed f s at ≡ some (a, e) → Reads f s at a e
+  pub reads-placed : LeavesEnd f → at ≤ length s → (a : A) (e : ℕ) → placed f s at ≡ Some (a, e) → Reads f s at a e
   unfolding placed
   reads-placed leaves h a e p = go (f (drop at s)) refl p
     where
-      go : (o : Option (A × List E)) → f (drop at s) ≡ o → behind s o ≡ some (a, e) → Reads f s at a e
-      go none i p = let z : ◌≡◌ {A = ℕ} 0 1 = unfold behind in cc in absurd (omega arith)
-      go (some t) i p =
+      go : (o : Option (A × List E)) → f (drop at s) ≡ o → behind s o ≡ Some (a, e) → Reads f s at a e
+      go None i p = let z : ◌≡◌ {A = ℕ} 0 1 = unfold behind in cc in absurd (omega arith)
+      go (Some t) i p =
           let w = leaves (drop at s) t i in
           let r : t.1 ≡ drop (at + w.0) s = w.2 ∙ drop-drop w.0 at s in
           let to : at + w.0 ≤ length s = omega (arith, w.1, length-drop at s) in
           let same = position t.0 a (length s - length t.1) e (unfold behind in p) in
           let x : at + w.0 ≡ e = omega (arith, ap length r, length-drop (at + w.0) s, same.1) in
-          record { from = omega arith; to = omega arith; is = i ∙ ap₂ (λ (y : A) (z : List E). some (y, z)) same.0 (r ∙ ap (λ (n : ℕ). drop n s) x) }
+          record { from = omega arith; to = omega arith; is = i ∙ ap₂ (λ (y : A) (z : List E). Some (y, z)) same.0 (r ∙ ap (λ (n : ℕ). drop n s) x) }

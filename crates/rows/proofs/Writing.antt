@@ -75,8 +75,8 @@ module _ {ℓ} {A : Type ℓ} where
   -- a text from the end of the buffer on is not stored
   pub written-outside : (i : ℕ) (xs l : List A) → length l ≤ i → written i xs l ≡ l
   written-outside i xs l h =
-      let none : length l - i ≡ 0 = omega arith in
-      rw (written-clipped i xs l, take_all i l h, none, drop_of_length-le l {i = i + length xs} (omega arith), append-nil)
+      let None : length l - i ≡ 0 = omega arith in
+      rw (written-clipped i xs l, take_all i l h, None, drop_of_length-le l {i = i + length xs} (omega arith), append-nil)
 
   -- as much of a text as falls inside, copied into the part of the buffer from the place i on, is the text written there
   pub written-copied : (i n : ℕ) (xs l ys : List A) → n ≡ min (length xs) (length l - i)

@@ -1,7 +1,7 @@
 -- Where the masks agree with the policy, serving by them is serving as documents 01 and 02 say, and they agree again.
 use Prim.Native.Nat.{ℕ, ◌≤◌}
 use mathlib.Core.Path.{◌≡◌, refl, ap, fun_ext, ◌∙◌}
-use mathlib.Core.Option.{Option, none, some}
+use Rattle.std.specs.Prelude.{Option, None, Some}
 use mathlib.Core.List.{List, [], ◌∷◌, map-append}
 use lib.ListN.{length, set, length-set}
 use lib.Seq.{take_all}
@@ -34,7 +34,7 @@ use Rattle.server.specs.declared.answer.Reply.{Reply}
 use Rattle.server.specs.Replies.{outcome_in, Outputs, act, ServedByMasks, ServedByPolicy, LeavesDecided}
 
 -- ── Copies ──
-module _ (t : Tables) (few : length t.users ≤ max_users) (i : ℕ) (u : User) (is : user_at t.users i ≡ some u) where
+module _ (t : Tables) (few : length t.users ≤ max_users) (i : ℕ) (u : User) (is : user_at t.users i ≡ Some u) where
   shown-agrees : (fs : Fields) (ms : List ℕ) → Agreed t fs ms → shown_to i ms fs ≡ readable t.policy u fs
   unfolding shown_to readable keep reads_at reads_by
   shown-agrees [] ms a = rw a
@@ -77,8 +77,8 @@ module _ (s : State) (ms : List ℕ) (users : length s.tables.users ≤ max_user
   decision-agrees (line t b l) = go (request_of t)
     where
       go : (o : Option Request) → decide_line_masked s ms b l o ≡ decide_line s b l o
-      go none = refl
-      go (some q) = decide-agrees q (room_for q b l)
+      go None = refl
+      go (Some q) = decide-agrees q (room_for q b l)
   decision-agrees (save b) = refl
 
   mask-agrees : (p : Keys) → mask_for s ms p ≡ readers_of s.tables p

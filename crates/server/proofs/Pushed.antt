@@ -2,7 +2,7 @@
 use Prim.Native.Nat.{ℕ, ◌≤◌, ◌<◌}
 use mathlib.Core.Path.{◌≡◌, refl, sym, ◌∙◌}
 use mathlib.Core.Bool.{true, false}
-use mathlib.Core.Option.{some}
+use Rattle.std.specs.Prelude.{Some}
 use mathlib.Core.List.{List}
 use native.Mathlib.Omega.{arith}
 use borrow.Author.Tests.{lt-ltb, le-ltb, ne_eqb, leb-true}
@@ -58,7 +58,7 @@ module _ (s path : Bytes) {r : Parsed} (answer : ReadsAs model.request_of s (pat
 
   -- r says that it asks for something, which was matched with q
   module _ {asked q : Request} (is : r ≡ Is asked) (kind : asked ≡ q) where
-    pub asks : model.request_of s ≡ some (request_in s (path_in path) q)
+    pub asks : model.request_of s ≡ Some (request_in s (path_in path) q)
     asks = sym answer.asks ∙ rw (is, kind)
 
     pub asked-stands : RequestStands s (path_in path) q
@@ -74,7 +74,7 @@ module _ (s path : Bytes) {r : Parsed} (answer : ReadsAs model.request_of s (pat
     line-decided st ms b l = rw asks
 
 -- a push has keys, and a value within its limits
-pub push-asked : (s path : Bytes) {n : ℕ} {v : Value} → model.request_of s ≡ some (model.in_session n (model.push (path_in path) v))
+pub push-asked : (s path : Bytes) {n : ℕ} {v : Value} → model.request_of s ≡ Some (model.in_session n (model.push (path_in path) v))
     → (is_empty path ≡ false) × (valid_value v ≡ true)
 unfolding is_empty valid_keys path_in model.push_of
 push-asked s path {n} {v} h =

@@ -1,6 +1,6 @@
 -- Serving by what is remembered: the masks beside the fields, whatever they hold (document 02, request 2). Nothing but who may read is taken from them.
 use Rattle.std.specs.Prelude.{ℕ, List, [], ◌∷◌, length, get_or, if◌then◌else◌}
-use Rattle.std.proofs.Math.Option.{Option, none, some}
+use Rattle.std.specs.Prelude.{Option, None, Some}
 use Rattle.model.specs.Base.{Bytes}
 use Rattle.model.specs.Fields.{Keys, Fields}
 use Rattle.model.specs.Refusals.{Result, refused, done, ◌>>=◌}
@@ -37,8 +37,8 @@ decide_masked s ms (in_session n logout) room = decide s (in_session n logout) r
 
 -- "A line is first taken apart; one that cannot be is refused 11"
 unfoldable pub decide_line_masked : State → List ℕ → Bytes → List ℕ → Option Request → Result ℕ Change
-decide_line_masked s ms b l none = refused 11
-decide_line_masked s ms b l (some q) = decide_masked s ms q (room_for q b l)
+decide_line_masked s ms b l None = refused 11
+decide_line_masked s ms b l (Some q) = decide_masked s ms q (room_for q b l)
 
 -- what an act is decided to be: a save looks at no mask
 unfoldable pub decision_masked : State → List ℕ → Act → Result ℕ Change

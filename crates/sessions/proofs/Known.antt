@@ -2,7 +2,7 @@
 use Prim.Native.Nat.{ℕ, ◌+◌, ◌*◌, ◌≤◌, ◌<◌}
 use mathlib.Core.Path.{◌≡◌, refl, sym, ◌∙◌}
 use mathlib.Core.Bool.{Bool, true, false}
-use mathlib.Core.Option.{Option, none, some}
+use Rattle.std.specs.Prelude.{Option, None, Some}
 use mathlib.Core.List.{List}
 use native.Mathlib.Omega.{arith}
 use lib.ListN.{length, get_or, take, drop}
@@ -28,10 +28,10 @@ module _ (s : State) (n : ℕ) where
   no-session h = go (user_at s.tables.users (index_in n)) refl
     where
       go : (o : Option User) → user_at s.tables.users (index_in n) ≡ o → asker s n ≡ refused 14
-      go none e = rw e
-      go (some u) e = rw (e, rw e at h)
+      go None e = rw e
+      go (Some u) e = rw (e, rw e at h)
 
-  pub in-session : {u : User} → user_at s.tables.users (index_in n) ≡ some u → has_session s.tables.users s.login_states n ≡ true
+  pub in-session : {u : User} → user_at s.tables.users (index_in n) ≡ Some u → has_session s.tables.users s.login_states n ≡ true
       → asker s n ≡ done (record { index = index_in n; user = u; login = get_or s.login_states (index_in n) empty_login })
   unfolding has_session session_is asker login_at ◌>>=◌ ◌>>◌ ◌or◌ refuse◌if◌
   in-session e h = rw (e, rw e at h)
@@ -59,8 +59,8 @@ module _ (s : Bytes) (ls : List LoginState) (n : ℕ) {o : SessionAt} (answer : 
     session-counted = go (user_at (users_in s) (index_in n)) refl
       where
         go : (o : Option User) → user_at (users_in s) (index_in n) ≡ o → i < length (in_use user_row max_users s)
-        go none e = never (sym session-known.0 ∙ rw e)
-        go (some u) e =
+        go None e = never (sym session-known.0 ∙ rw e)
+        go (Some u) e =
             omega (arith, session-known.1, elem_below (users_in s) (index_in n) u e, length-table user_in user_row max_users s)
 
     pub session-below : i < max_users
@@ -69,5 +69,5 @@ module _ (s : Bytes) (ls : List LoginState) (n : ℕ) {o : SessionAt} (answer : 
     pub session-inside : users_bytes ≤ length s → i * user_row + user_row ≤ length s
     session-inside h = user-inside s refl i session-counted h
 
-    pub session-user : {row : Bytes} → row ≡ take user_row (drop (i * user_row) s) → user_at (users_in s) (index_in n) ≡ some (user_in row)
+    pub session-user : {row : Bytes} → row ≡ take user_row (drop (i * user_row) s) → user_at (users_in s) (index_in n) ≡ Some (user_in row)
     session-user at = rw (← session-known.1) (user-some s refl i session-counted at)

@@ -3,7 +3,7 @@ use Rattle.std.specs.Prelude.{if◌then◌else◌}
 use Prim.Native.Nat.{ℕ, suc, ◌+◌, ◌*◌, ◌≤◌, ◌<◌}
 use mathlib.Core.Path.{◌≡◌, refl, sym, ap, ap₂, ◌∙◌}
 use mathlib.Core.Bool.{Bool, true, false, not, ◌&&◌}
-use mathlib.Core.Option.{Option, none, some}
+use Rattle.std.specs.Prelude.{Option, None, Some}
 use mathlib.Core.List.{List, [], ◌∷◌, append_assoc}
 use native.Mathlib.Nat.{add-zero}
 use native.Mathlib.Numerals.{add-one, add-two}
@@ -11,7 +11,8 @@ use native.Mathlib.Omega.{arith}
 use borrow.Author.Tests.{eq-eqb, ne_eqb, le-leb, lt-leb}
 use mir.Val.{bool_byte}
 use lib.Dec.{eqb, leb}
-use lib.ListN.{length, get_or, get_elem?, take, drop, set}
+use lib.ListN.{length, get_or, take, drop, set}
+use Rattle.std.specs.Prelude.{slice_get}
 use lib.Seq.{sets, sets-eq, drop-drop}
 use Rattle.rows.specs.Rows.{rows, replaced, written}
 use Rattle.rows.proofs.Rows.{length-rows, row-at, rows-set, map-set, get_d_map}
@@ -89,8 +90,8 @@ changed-from h w n t e = ap back e
 
 -- ── The user that a search finds ──
 -- what is found stands at its index
-found_at : {A : Type 0} (p : A → Bool) (xs : List A) (k : ℕ) (t : ℕ × A) → first_from k p xs ≡ some t
-    → (j : ℕ) × (t.0 ≡ k + j) × (get_elem? xs j ≡ some t.1)
+found_at : {A : Type 0} (p : A → Bool) (xs : List A) (k : ℕ) (t : ℕ × A) → first_from k p xs ≡ Some t
+    → (j : ℕ) × (t.0 ≡ k + j) × (slice_get xs j ≡ Some t.1)
 unfolding first_from
 found_at p [] k t e = let z : ◌≡◌ {A = ℕ} 0 1 = cc in absurd (omega arith)
 found_at {A} p (x ∷ xs) k t e =
@@ -102,18 +103,18 @@ found_at {A} p (x ∷ xs) k t e =
 -- a user of the name n was found at i
 module _ (s n : Bytes) {o : UserAt} {i : ℕ} (at : o ≡ At i) (found : o ≡ user_answer (user_named n (users_in s))) where
   -- it is the index of a user in the table
-  found-elem : (u : User) × (user_named n (users_in s) ≡ some (i, u)) × (get_elem? (users_in s) i ≡ some u)
+  found-elem : (u : User) × (user_named n (users_in s) ≡ Some (i, u)) × (slice_get (users_in s) i ≡ Some u)
   unfolding user_named
   found-elem = go (user_named n (users_in s)) refl (sym at ∙ found)
     where
       go : (o : Option (ℕ × User)) → user_named n (users_in s) ≡ o → At i ≡ user_answer o
-          → (u : User) × (user_named n (users_in s) ≡ some (i, u)) × (get_elem? (users_in s) i ≡ some u)
-      go none e f = let z : ◌≡◌ {A = ℕ} 0 1 = cc in absurd (omega arith)
-      go (some t) e f =
+          → (u : User) × (user_named n (users_in s) ≡ Some (i, u)) × (slice_get (users_in s) i ≡ Some u)
+      go None e f = let z : ◌≡◌ {A = ℕ} 0 1 = cc in absurd (omega arith)
+      go (Some t) e f =
           let q : t.0 ≡ i = cc in
           let (j, is, el) = found_at _ (users_in s) 0 t e in
           let p : j ≡ i = omega arith in
-          (t.1, e ∙ rw (← q), ap (λ (m : ℕ). get_elem? (users_in s) m) (sym p) ∙ el)
+          (t.1, e ∙ rw (← q), ap (λ (m : ℕ). slice_get (users_in s) m) (sym p) ∙ el)
 
   -- the index is that of a user's row
   found-counted : i < length (in_use user_row max_users s)
@@ -126,12 +127,12 @@ module _ (s n : Bytes) {o : UserAt} {i : ℕ} (at : o ≡ At i) (found : o ≡ u
   found_below = omega (arith, found-counted, counted-fit user_row max_users s refl)
 
   -- the row at the index is that user's
-  found-row : user_named n (users_in s) ≡ some (i, user_in (take user_row (drop (i * user_row) s)))
+  found-row : user_named n (users_in s) ≡ Some (i, user_in (take user_row (drop (i * user_row) s)))
   unfolding user_at
   found-row =
       let (u, e, el) = found-elem in
       let row = user_in (take user_row (drop (i * user_row) s)) in
-      let at : get_elem? (users_in s) i ≡ some row = user-some s refl i found-counted refl in
+      let at : slice_get (users_in s) i ≡ Some row = user-some s refl i found-counted refl in
       let q : u ≡ row = cc in
       e ∙ rw q
 
@@ -169,8 +170,8 @@ unfolding login_decided decide_login ◌>>=◌ ◌or◌
 login-unknown s n at found ls k = go (user_named n (users_in s)) refl (sym at ∙ found)
   where
     go : (o : Option (ℕ × User)) → user_named n (users_in s) ≡ o → Unknown ≡ user_answer o → login_decided (users_in s) ls n k ≡ refused 12
-    go none e f = rw e
-    go (some t) e f = let z : ◌≡◌ {A = ℕ} 0 1 = cc in absurd (omega arith)
+    go None e f = rw e
+    go (Some t) e f = let z : ◌≡◌ {A = ℕ} 0 1 = cc in absurd (omega arith)
 
 -- ── A session's number ──
 -- the bits in which the logins stand: 2 to their power is per_user

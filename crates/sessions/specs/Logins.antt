@@ -1,6 +1,6 @@
 -- What the numbers of the login states mean, whatever they are.
 use Rattle.std.specs.Prelude.{ℕ, ◌*◌, ◌≡◌, Bool, true, false, not, List, [], ◌∷◌, map, eqb, get_or, set, if◌then◌else◌}
-use Rattle.std.proofs.Math.Option.{Option, none, some}
+use Rattle.std.specs.Prelude.{Option, None, Some}
 use Rattle.rows.specs.Rows.{rows, written}
 use Rattle.model.specs.Base.{Bytes}
 use Rattle.model.specs.Limits.{max_users}
@@ -101,8 +101,8 @@ abbrev pub parts_in : ℕ → NumberParts
 parts_in n = record { index = index_in n; logins = count_in n }
 
 unfoldable pub session_is : Option User → ℕ → LoginState → ℕ → Bool
-session_is none i a n = false
-session_is (some u) i a n = is_session i a n
+session_is None i a n = false
+session_is (Some u) i a n = is_session i a n
 
 -- whether an open session of a user has the number n
 unfoldable pub has_session : List User → List LoginState → ℕ → Bool

@@ -1,7 +1,7 @@
 -- The rows of steps, byte for byte: no byte beside what a step says.
 use Prim.Native.Nat.{ℕ}
 use mathlib.Core.Path.{◌≡◌, refl, sym, ap, ◌∙◌}
-use mathlib.Core.Option.{some}
+use Rattle.std.specs.Prelude.{Some}
 use mathlib.Core.List.{[], ◌∷◌}
 use lib.ListN.{replicate}
 use Rattle.model.specs.Base.{Bytes, joined}
@@ -45,11 +45,11 @@ one-encoded Wildcard h n = absurd h
 one-encoded (Environment Equals) h n = refl
 one-encoded (Environment In) h n = refl
 
-answered : (r : StepRead) (t : Step) (e : ℕ) → step_answer r ≡ some (t, e) → step_of r.step ≡ t
+answered : (r : StepRead) (t : Step) (e : ℕ) → step_answer r ≡ Some (t, e) → step_of r.step ≡ t
 answered r t e h = by_cases r.ok
     (λ ok. ap (λ (p : Step × ℕ). p.0) (some_same (rw ok at h)))
     (λ no. none-some (rw no at h))
 
-pub one-canonical : (r : StepRead) (k : Kind) → Named k → (n : Bytes) (e : ℕ) → step_answer r ≡ some (by_kind k (n ∷ []), e)
+pub one-canonical : (r : StepRead) (k : Kind) → Named k → (n : Bytes) (e : ℕ) → step_answer r ≡ Some (by_kind k (n ∷ []), e)
     → row_of r.step ≡ byte_of k ∷ encode_keys max_listed (n ∷ []) → CanonicalStep (row_of r.step)
 one-canonical r k named n e h is = is ∙ one-encoded k named n ∙ ap encode_step (sym (answered r (by_kind k (n ∷ [])) e h) ∙ sym (step-written r.step))

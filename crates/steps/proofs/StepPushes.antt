@@ -2,7 +2,7 @@
 use Prim.Native.Nat.{ℕ, ◌+◌, ◌*◌, ◌≤◌, ◌<◌, min}
 use mathlib.Core.Path.{◌≡◌, ◌∙◌}
 use mathlib.Core.Bool.{true, false}
-use mathlib.Core.Option.{none}
+use Rattle.std.specs.Prelude.{None}
 use mathlib.Core.List.{List, [], ◌∷◌, ◌++◌, map-append}
 use native.Mathlib.Omega.{arith}
 use lib.ListN.{length, get_or, take, drop, length-append, length-map, length-take}
@@ -42,7 +42,7 @@ key-step-turn slot i h p p₁ inv key is ns one pushed =
 
 -- ── A path of at most 121 bytes in the standard spelling ──
 module _ (s : Bytes) (r : StepsRead) (answer : steps_answer r ≡ read_path read_step s) where
-  pub steps-none : r.ok ≡ false → none ≡ steps_of s
+  pub steps-none : r.ok ≡ false → None ≡ steps_of s
   unfolding steps_of ◌>>=◌
   steps-none h = rw (← answer, h)
 
@@ -51,6 +51,6 @@ module _ (s : Bytes) (r : StepsRead) (answer : steps_answer r ≡ read_path read
     unfolding steps_of ◌>>=◌ ◌>>◌ check
     steps-fit l = let k : length (steps_text (steps_in r.slot)) ≤ max_path_text = omega arith in rw (← answer, h, le-leb _ max_path_text k)
 
-    pub steps-long : max_path_text < n → none ≡ steps_of s
+    pub steps-long : max_path_text < n → None ≡ steps_of s
     unfolding steps_of ◌>>=◌ ◌>>◌ check
     steps-long l = let k : max_path_text < length (steps_text (steps_in r.slot)) = omega arith in rw (← answer, h, lt-leb _ max_path_text k)

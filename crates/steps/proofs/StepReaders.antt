@@ -2,7 +2,7 @@
 use Prim.Native.Nat.{ℕ, zero, suc, ◌+◌, ◌-◌, ◌≤◌, ◌<◌}
 use mathlib.Core.Path.{◌≡◌, refl, sym, ap, ◌∙◌}
 use mathlib.Core.Bool.{Bool, true, false, not, ◌&&◌, and-true}
-use mathlib.Core.Option.{none, some}
+use Rattle.std.specs.Prelude.{None, Some}
 use mathlib.Core.List.{List, [], ◌∷◌, ◌++◌}
 use native.Mathlib.Omega.{arith}
 use lib.ListN.{length, get_or, take, drop, length-append, length-take, length-drop}
@@ -34,7 +34,7 @@ use Rattle.lexical.proofs.Readers.{placed-or, leaves-or, word-not, word-then, le
 -- ── Answers ──
 -- an answer that says whether f reads something
 module _ (f : Reader ℕ Step) (s : Bytes) (at : ℕ) (r : StepRead) (answer : step_answer r ≡ placed f s at) where
-  pub answer-none : r.ok ≡ false → f (drop at s) ≡ none
+  pub answer-none : r.ok ≡ false → f (drop at s) ≡ None
   answer-none h = none-placed f s at (sym (rw h at answer))
 
   pub answer-reads : LeavesEnd f → at ≤ length s → r.ok ≡ true → Reads f s at (step_of r.step) r.to
@@ -98,7 +98,7 @@ one_name n = names (n ∷ [])
 
 -- `scan` answers x
 module _ (s : Bytes) (at : ℕ) (l : at ≤ length s) (x : End) (answer : x ≡ scan_end Identifier 1 max_key s at) where
-  pub identifier-misfit : x ≡ Bad → none ≡ placed read_identifier s at
+  pub identifier-misfit : x ≡ Bad → None ≡ placed read_identifier s at
   unfolding read_identifier scanned is_key
   identifier-misfit i =
       scanned-not identifier_byte well_named one_name s at _ refl
@@ -117,11 +117,11 @@ module _ (s : Bytes) (at : ℕ) (l : at ≤ length s) (x : End) (answer : x ≡ 
         let f : starts_well (take (to - at) (drop at s)) ≡ not (is_digit (get_or s at 0)) = rw (here 0 s at (omega arith), n) in
         rw (part-named identifier_byte identifier-name s at to ends l max_key, (scan-at Identifier 1 max_key s at x answer to i).1, f)
 
-    pub identifier-digit : is_digit (get_or s at 0) ≡ true → none ≡ placed read_identifier s at
+    pub identifier-digit : is_digit (get_or s at 0) ≡ true → None ≡ placed read_identifier s at
     unfolding read_identifier scanned
     identifier-digit d = scanned-not identifier_byte well_named one_name s at to ends (by_first ∙ rw d)
 
-    pub identifier-is : is_digit (get_or s at 0) ≡ false → some (names (take max_key (take (to - at) (drop at s)) ∷ []), to) ≡ placed read_identifier s at
+    pub identifier-is : is_digit (get_or s at 0) ≡ false → Some (names (take max_key (take (to - at) (drop at s)) ∷ []), to) ≡ placed read_identifier s at
     unfolding read_identifier scanned
     identifier-is d =
         let w = scan-within Identifier 1 max_key s at x answer l to i in
@@ -134,7 +134,7 @@ module _ (o : Operator) (word : Bytes) (own : word ≡ operator_text o) (s : Byt
   unfolding read_environment scanned
   behind-word = rw own
 
-  pub environment-not : is_some (after word (drop at s)) ≡ false → none ≡ placed (read_environment o) s at
+  pub environment-not : is_some (after word (drop at s)) ≡ false → None ≡ placed (read_environment o) s at
   environment-not h = word-not word _ s at h ∙ behind-word
 
   -- behind the word `scan` answers x
@@ -146,13 +146,13 @@ module _ (o : Operator) (word : Bytes) (own : word ≡ operator_text o) (s : Byt
         let m = (after-at word s at l h).1 in
         rw (part-named plain_byte plain-name s (at + length word) to is m max_name, part-passes plain_byte plain-name s (at + length word) to is m) (and-true _)
 
-    pub environment-misfit : x ≡ Bad → none ≡ placed (read_environment o) s at
+    pub environment-misfit : x ≡ Bad → None ≡ placed (read_environment o) s at
     environment-misfit i =
         scanned-not plain_byte is_plain (environment o) s (at + length word) _ refl (plain_fits _ refl ∙ scan-bad Plain 1 max_name s (at + length word) x answer i)
         ∙ word-then word _ s at l h ∙ behind-word
 
     pub environment-is : (to : ℕ) → x ≡ At to
-        → some (environment o (take max_key (take (to - (at + length word)) (drop (at + length word) s))), to) ≡ placed (read_environment o) s at
+        → Some (environment o (take max_key (take (to - (at + length word)) (drop (at + length word) s))), to) ≡ placed (read_environment o) s at
     environment-is to i =
         let m = (after-at word s at l h).1 in
         let (is, fits) = scan-at Plain 1 max_name s (at + length word) x answer to i in
@@ -163,18 +163,18 @@ module _ (o : Operator) (word : Bytes) (own : word ≡ operator_text o) (s : Byt
 
 -- ── A wildcard, and what stands behind a dot ──
 module _ (s : Bytes) (at : ℕ) where
-  pub wildcard-not : is_some (after (0x2A ∷ []) (drop at s)) ≡ false → none ≡ placed read_wildcard s at
+  pub wildcard-not : is_some (after (0x2A ∷ []) (drop at s)) ≡ false → None ≡ placed read_wildcard s at
   unfolding read_wildcard text
-  wildcard-not h = word-not (0x2A ∷ []) (λ r. some (wildcard, r)) s at h
+  wildcard-not h = word-not (0x2A ∷ []) (λ r. Some (wildcard, r)) s at h
 
-  pub wildcard-is : at ≤ length s → is_some (after (0x2A ∷ []) (drop at s)) ≡ true → some (wildcard, at + 1) ≡ placed read_wildcard s at
+  pub wildcard-is : at ≤ length s → is_some (after (0x2A ∷ []) (drop at s)) ≡ true → Some (wildcard, at + 1) ≡ placed read_wildcard s at
   unfolding read_wildcard text
   wildcard-is l h =
       let m = (after-at (0x2A ∷ []) s at l h).1 in
-      sym (placed-reads (λ r. some (wildcard, r)) s (at + 1) wildcard (at + 1) (record { from = omega arith; to = m; is = refl }))
-      ∙ word-then (0x2A ∷ []) (λ r. some (wildcard, r)) s at l h
+      sym (placed-reads (λ r. Some (wildcard, r)) s (at + 1) wildcard (at + 1) (record { from = omega arith; to = m; is = refl }))
+      ∙ word-then (0x2A ∷ []) (λ r. Some (wildcard, r)) s at l h
 
-  pub dotted-not : is_some (after (0x2E ∷ []) (drop at s)) ≡ false → none ≡ placed read_dotted s at
+  pub dotted-not : is_some (after (0x2E ∷ []) (drop at s)) ≡ false → None ≡ placed read_dotted s at
   unfolding read_dotted text
   dotted-not h = word-not (0x2E ∷ []) (λ x. read_wildcard x <|> read_identifier x) s at h
 
@@ -191,11 +191,11 @@ either-leaves : LeavesEnd read_either
 unfolding read_either text
 either-leaves = leaves-or (read_quoted (0x27 ∷ [])) (read_quoted (0x22 ∷ [])) (quoted-leaves 0x27) (quoted-leaves 0x22)
 
-either-gives : (s b r : Bytes) → read_either s ≡ some (b, r) → (length s ≡ length b + 2 + length r) × (1 ≤ length b) × (length b ≤ max_key)
+either-gives : (s b r : Bytes) → read_either s ≡ Some (b, r) → (length s ≡ length b + 2 + length r) × (1 ≤ length b) × (length b ≤ max_key)
 unfolding read_either text
 either-gives s b r h = either-some _ _ _ h (by 0x22) (by 0x27)
   where
-    by : (q : ℕ) → read_quoted (q ∷ []) s ≡ some (b, r) → (length s ≡ length b + 2 + length r) × (1 ≤ length b) × (length b ≤ max_key)
+    by : (q : ℕ) → read_quoted (q ∷ []) s ≡ Some (b, r) → (length s ≡ length b + 2 + length r) × (1 ≤ length b) × (length b ≤ max_key)
     by q e =
         let g = between-gives Name q 1 max_key s b r (sym (quoted-between q s) ∙ e) in
         let w = within-bounds 1 max_key _ g.fits in
@@ -224,7 +224,7 @@ module _ (s : Bytes) (at : ℕ) where
 
   -- for a caller of `either_at`: what its answer says
   module _ (x : End) (answer : text_answer s at x ≡ placed read_either s at) where
-    pub either-bad : x ≡ Bad → read_either (drop at s) ≡ none
+    pub either-bad : x ≡ Bad → read_either (drop at s) ≡ None
     unfolding text_answer
     either-bad i = none-placed _ s at (sym (rw i at answer))
 
@@ -241,15 +241,15 @@ names-leave : (k : ℕ) (ns : List Bytes) → LeavesEnd (read_names k ns)
 unfolding read_names text
 names-leave zero ns = λ s t h. none-some h
 names-leave (suc k) ns =
-    leaves-bind read_either (λ n r. if_after (after (0x2C ∷ []) r) (read_names k (ns ++ n ∷ [])) (some (ns ++ n ∷ [], r))) either-leaves
-    (λ n. leaves-if-word (0x2C ∷ []) (read_names k (ns ++ n ∷ [])) (λ r. some (ns ++ n ∷ [], r)) (names-leave k (ns ++ n ∷ [])) (leaves-some (ns ++ n ∷ [])))
+    leaves-bind read_either (λ n r. if_after (after (0x2C ∷ []) r) (read_names k (ns ++ n ∷ [])) (Some (ns ++ n ∷ [], r))) either-leaves
+    (λ n. leaves-if-word (0x2C ∷ []) (read_names k (ns ++ n ∷ [])) (λ r. Some (ns ++ n ∷ [], r)) (names-leave k (ns ++ n ∷ [])) (leaves-some (ns ++ n ∷ [])))
 
-pub names-bad : (k : ℕ) (ns : List Bytes) (s : Bytes) → read_either s ≡ none → read_names k ns s ≡ none
+pub names-bad : (k : ℕ) (ns : List Bytes) (s : Bytes) → read_either s ≡ None → read_names k ns s ≡ None
 unfolding read_names ◌>>=◌
 names-bad zero ns s h = refl
 names-bad (suc k) ns s h = rw h
 
-pub names-full : (n : ℕ) (ns : List Bytes) (s : Bytes) → max_listed ≤ n → read_names (max_listed - n) ns s ≡ none
+pub names-full : (n : ℕ) (ns : List Bytes) (s : Bytes) → max_listed ≤ n → read_names (max_listed - n) ns s ≡ None
 unfolding read_names
 names-full n ns s h = let z : max_listed - n ≡ zero = omega arith in rw z
 
@@ -264,12 +264,12 @@ module _ (s : Bytes) (from e : ℕ) (stands : NameStands s from e) (ns ns₁ : L
       pushed ∙ rw m (push-whole max_key max_listed ns name (omega arith) (simp length-take (omega (arith, stands.at_most))))
 
   name-read : read_names (max_listed - n) ns (drop from s)
-      ≡ if_after (after (0x2C ∷ []) (drop e s)) (read_names (max_listed - (n + 1)) ns₁) (some (ns₁, drop e s))
+      ≡ if_after (after (0x2C ∷ []) (drop e s)) (read_names (max_listed - (n + 1)) ns₁) (Some (ns₁, drop e s))
   unfolding read_names text ◌>>=◌
   name-read = let k : max_listed - n ≡ suc (max_listed - (n + 1)) = omega arith in rw (k, stands.reads.is, name-pushed)
 
   -- no comma follows
-  pub names-last : is_some (after (0x2C ∷ []) (drop e s)) ≡ false → read_names (max_listed - n) ns (drop from s) ≡ some (ns₁, drop e s)
+  pub names-last : is_some (after (0x2C ∷ []) (drop e s)) ≡ false → read_names (max_listed - n) ns (drop from s) ≡ Some (ns₁, drop e s)
   unfolding if_after
   names-last h = name-read ∙ rw (after-no (0x2C ∷ []) (drop e s) h)
 
@@ -282,12 +282,12 @@ module _ (s : Bytes) (from e : ℕ) (stands : NameStands s from e) (ns ns₁ : L
       (a.1, rw (name-pushed, length-append) (omega arith), name-read ∙ rw a.0)
 
 module _ (s : Bytes) (at : ℕ) where
-  pub list-none : read_names max_listed [] (drop at s) ≡ none → none ≡ placed read_list s at
+  pub list-none : read_names max_listed [] (drop at s) ≡ None → None ≡ placed read_list s at
   unfolding read_list ◌>>=◌
   list-none h = sym (placed-none _ s at (rw h))
 
-  pub list_is : (ns : List Bytes) (e : ℕ) → at ≤ e → e ≤ length s → read_names max_listed [] (drop at s) ≡ some (ns, drop e s)
-      → some (names ns, e) ≡ placed read_list s at
+  pub list_is : (ns : List Bytes) (e : ℕ) → at ≤ e → e ≤ length s → read_names max_listed [] (drop at s) ≡ Some (ns, drop e s)
+      → Some (names ns, e) ≡ placed read_list s at
   unfolding read_list ◌>>=◌
   list_is ns e p q h = sym (placed-reads _ s at (names ns) e (record { from = p; to = q; is = rw h }))
 
@@ -297,29 +297,29 @@ unfolding read_selector read_wildcard read_environment read_list scanned
 selector-leaves =
     leaves-or (λ x. read_wildcard x <|> read_environment equals x <|> read_environment is_in x) read_list
     (leaves-or (λ x. read_wildcard x <|> read_environment equals x) (read_environment is_in)
-    (leaves-or read_wildcard (read_environment equals) (leaves_word (text "*") (λ r. some (wildcard, r)) (leaves-some wildcard)) (own equals)) (own is_in))
-    (leaves-bind (read_names max_listed []) (λ ns r. some (names ns, r)) (names-leave max_listed []) (λ ns. leaves-some (names ns)))
+    (leaves-or read_wildcard (read_environment equals) (leaves_word (text "*") (λ r. Some (wildcard, r)) (leaves-some wildcard)) (own equals)) (own is_in))
+    (leaves-bind (read_names max_listed []) (λ ns r. Some (names ns, r)) (names-leave max_listed []) (λ ns. leaves-some (names ns)))
   where
     own : (o : Operator) → LeavesEnd (λ x. after (operator_text o) x >>= scanned plain_byte is_plain (environment o))
     own o = leaves_word (operator_text o) _ (leaves-scanned plain_byte is_plain (environment o))
 
 module _ (s : Bytes) (at : ℕ) where
-  pub bracketed-not : is_some (after (0x5B ∷ []) (drop at s)) ≡ false → none ≡ placed (in_brackets read_selector) s at
+  pub bracketed-not : is_some (after (0x5B ∷ []) (drop at s)) ≡ false → None ≡ placed (in_brackets read_selector) s at
   bracketed-not h = sym (placed-none _ s at (brackets-unopened read_selector s at h))
 
   -- behind the opening bracket `selector_at` answers r
   module _ (o : is_some (after (0x5B ∷ []) (drop at s)) ≡ true) (r : StepRead) (answer : step_answer r ≡ placed read_selector s (at + 1)) where
-    pub bracketed-empty : r.ok ≡ false → none ≡ placed (in_brackets read_selector) s at
+    pub bracketed-empty : r.ok ≡ false → None ≡ placed (in_brackets read_selector) s at
     bracketed-empty i = sym (placed-none _ s at (brackets-empty read_selector s at o (answer-none read_selector s (at + 1) r answer i)))
 
     module _ (i : r.ok ≡ true) where
       selected : Reads read_selector s (at + 1) (step_of r.step) r.to
       selected = answer-reads read_selector s (at + 1) r answer selector-leaves (byte-stands 0x5B s at o).0 i
 
-      pub bracketed-unclosed : is_some (after (0x5D ∷ []) (drop r.to s)) ≡ false → none ≡ placed (in_brackets read_selector) s at
+      pub bracketed-unclosed : is_some (after (0x5D ∷ []) (drop r.to s)) ≡ false → None ≡ placed (in_brackets read_selector) s at
       bracketed-unclosed j = sym (placed-none _ s at (brackets-unclosed read_selector s at o _ r.to selected j))
 
-      pub bracketed-is : is_some (after (0x5D ∷ []) (drop r.to s)) ≡ true → some (step_of r.step, r.to + 1) ≡ placed (in_brackets read_selector) s at
+      pub bracketed-is : is_some (after (0x5D ∷ []) (drop r.to s)) ≡ true → Some (step_of r.step, r.to + 1) ≡ placed (in_brackets read_selector) s at
       bracketed-is j = sym (placed-reads _ s at _ (r.to + 1) (brackets-closed read_selector s at o _ r.to selected j))
 
 -- ── A step ──
@@ -327,7 +327,7 @@ module _ (s : Bytes) (at : ℕ) where
 dot-leaves : LeavesEnd (λ x. read_wildcard x <|> read_identifier x)
 unfolding read_wildcard read_identifier scanned
 dot-leaves =
-    leaves-or read_wildcard read_identifier (leaves_word (text "*") (λ r. some (wildcard, r)) (leaves-some wildcard))
+    leaves-or read_wildcard read_identifier (leaves_word (text "*") (λ r. Some (wildcard, r)) (leaves-some wildcard))
     (leaves-scanned identifier_byte well_named one_name)
 
 pub step-leaves : LeavesEnd read_step
@@ -335,7 +335,7 @@ unfolding read_step read_dotted
 step-leaves =
     leaves-or read_dotted (in_brackets read_selector) (leaves_word (text ".") _ dot-leaves) (brackets-leave read_selector selector-leaves)
 
-pub step-shortens : (s : Bytes) (t : Step × Bytes) → read_step s ≡ some t → length t.1 < length s
+pub step-shortens : (s : Bytes) (t : Step × Bytes) → read_step s ≡ Some t → length t.1 < length s
 unfolding read_step read_dotted text
 step-shortens s t h = either-some _ _ _ h
     (λ i. brackets-shorten read_selector selector-leaves s t i)
@@ -343,7 +343,7 @@ step-shortens s t h = either-some _ _ _ h
 
 -- for a caller of `step_at`: what its answer says
 module _ (s : Bytes) (at : ℕ) (r : StepRead) (answer : step_answer r ≡ placed read_step s at) where
-  pub step-none : r.ok ≡ false → read_step (drop at s) ≡ none
+  pub step-none : r.ok ≡ false → read_step (drop at s) ≡ None
   step-none h = answer-none read_step s at r answer h
 
   pub step-takes : at ≤ length s → r.ok ≡ true → Takes read_step s at (step_of r.step) r.to

@@ -20,8 +20,8 @@ use Rattle.steps.specs.Steps.{names_in, by_kind, byte_of, kind_of, step_in, step
 pub row-filled : (xs row : Bytes) → length xs ≡ length row → written 0 xs row ≡ xs
 row-filled xs row h =
     let all = take_all (length row - 0) xs (omega arith) in
-    let none = over row (0 + length xs) (omega arith) in
-    rw (written-clipped, all, none) (append-nil xs)
+    let None = over row (0 + length xs) (omega arith) in
+    rw (written-clipped, all, None) (append-nil xs)
 
 -- the byte of a kind says the kind
 kind-said : (k : Kind) → kind_of (byte_of k) ≡ k

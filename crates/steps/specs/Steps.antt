@@ -1,6 +1,6 @@
 -- What a step of the code means, the bytes of steps, and the answers of their readers.
 use Rattle.std.specs.Prelude.{ℕ, ◌+◌, ◌*◌, ◌≡◌, List, [], ◌∷◌, eqb, get_or, drop, if◌then◌else◌}
-use Rattle.std.proofs.Math.Option.{Option, none, some}
+use Rattle.std.specs.Prelude.{Option, None, Some}
 use Rattle.model.specs.Base.{Bytes}
 use Rattle.model.specs.Limits.{max_key, max_listed, max_depth}
 use Rattle.model.specs.Paths.{Step, names, wildcard, environment}
@@ -102,13 +102,13 @@ abbrev pub HoldsNames : Bytes → List Bytes → Type 0
 HoldsNames s ns = (names_in s ≡ ns) × (s ≡ encode_keys max_listed ns)
 
 abbrev pub step_answer : StepRead → Option (Step × ℕ)
-step_answer r = if r.ok then some (step_of r.step, r.to) else none
+step_answer r = if r.ok then Some (step_of r.step, r.to) else None
 
 abbrev pub StepIs : StepRead → Option (Step × ℕ) → Type 0
 StepIs r x = (step_answer r ≡ x) × CanonicalStep (row_of r.step)
 
 abbrev pub steps_answer : StepsRead → Option paths.Steps
-steps_answer r = if r.ok then some (steps_in r.slot) else none
+steps_answer r = if r.ok then Some (steps_in r.slot) else None
 
 abbrev pub StepsAre : StepsRead → Option paths.Steps → Type 0
 StepsAre r x = (steps_answer r ≡ x) × CanonicalSteps r.slot

@@ -1,6 +1,6 @@
 // A policy path: at most six steps in a slot, a byte that says how many and a row for each.
 ghost use Rattle.std.specs.Prelude.{◌≡◌, [], ◌∷◌, ◌++◌, ◌+◌, ◌≤◌, ◌<◌, ◌^◌, length, get_or, take};
-ghost use Rattle.std.proofs.Math.Option.{none};
+ghost use Rattle.std.specs.Prelude.{None};
 ghost use Rattle.rows.specs.Rows.{Wrote};
 ghost use Rattle.model.specs.Paths.{environment, operator_text, step_text, steps_text, read_step, read_path, steps_of};
 ghost use Rattle.steps.specs.Steps.{names_slot, step_row, steps_slot, spelled_step, spelled_steps, operator_of, names_in, by_kind, kind_of, byte_of, step_in, steps_in, step_of, row_of, CanonicalStep, CanonicalSteps, StepsAre};
@@ -152,7 +152,7 @@ pub fn put_steps(out: &mut [u8], at: usize, slot: &[u8]) -> usize
 }
 
 fn no_steps() -> StepsRead
-    ensures { StepsAre result none }
+    ensures { StepsAre result None }
 {
     StepsRead {
         ok: false,

@@ -1,6 +1,6 @@
 // Steps of a policy path: lists of names, wildcards and environment steps, read in every spelling.
 ghost use Rattle.std.specs.Prelude.{◌≡◌, [], ◌∷◌, ◌≤◌, length, take};
-ghost use Rattle.std.proofs.Math.Option.{none, some};
+ghost use Rattle.std.specs.Prelude.{None, Some};
 ghost use Rattle.rows.specs.Positions.{placed};
 ghost use Rattle.model.specs.Paths.{operator_text, read_either, in_brackets, read_wildcard, read_identifier, read_environment, read_dotted, read_list, read_selector, read_step};
 ghost use Rattle.lexical.specs.Classes.{text_answer};
@@ -62,7 +62,7 @@ pub fn one_name(name: &[u8]) -> [u8; NAMES]
 
 // A step that was read up to `to`.
 fn found(to: usize, kind: Kind, names: [u8; NAMES]) -> StepRead
-    ensures { (step_answer result ≡ some (by_kind kind (names_in names), to)) × (row_of result.step ≡ byte_of kind ∷ names) }
+    ensures { (step_answer result ≡ Some (by_kind kind (names_in names), to)) × (row_of result.step ≡ byte_of kind ∷ names) }
 {
     let step = Step {
         kind: kind,
@@ -77,14 +77,14 @@ fn found(to: usize, kind: Kind, names: [u8; NAMES]) -> StepRead
 
 // A step of one name that was read up to `to`.
 fn found_one(to: usize, kind: Kind, name: &[u8]) -> StepRead
-    ensures { (step_answer result ≡ some (by_kind kind (take max_key name.now ∷ []), to)) × (row_of result.step ≡ byte_of kind ∷ encode_keys max_listed (take max_key name.now ∷ [])) }
+    ensures { (step_answer result ≡ Some (by_kind kind (take max_key name.now ∷ []), to)) × (row_of result.step ≡ byte_of kind ∷ encode_keys max_listed (take max_key name.now ∷ [])) }
 {
     let names = one_name(name);
     found(to, kind, names)
 }
 
 fn no_step() -> StepRead
-    ensures { StepIs result none }
+    ensures { StepIs result None }
 {
     let step = Step {
         kind: Kind::Wildcard,

@@ -2,7 +2,7 @@
 use Prim.Native.Nat.{ℕ, ◌+◌, ◌*◌, ◌^◌, ◌≤◌, ◌<◌}
 use mathlib.Core.Path.{◌≡◌, refl, sym, ◌∙◌}
 use mathlib.Core.Bool.{true, false, not, ◌&&◌, ◌||◌, and-false, or-false, or_assoc}
-use mathlib.Core.Option.{Option, none, some}
+use Rattle.std.specs.Prelude.{Option, None, Some}
 use mathlib.Core.List.{List, [], ◌∷◌}
 use lib.Dec.{eqb}
 use lib.ListN.{length, take, drop, set}
@@ -26,20 +26,20 @@ use Rattle.tables.proofs.Policy.{rule-left, rules-over}
 -- ── A user may read a path by no line, by the first line, or by the later ones ──
 reads_none : (p : Keys) (o : Option User) → reads_by [] o p ≡ false
 unfolding reads_by may_read any
-reads_none p none = refl
-reads_none p (some u) = refl
+reads_none p None = refl
+reads_none p (Some u) = refl
 
 module _ (p : Keys) (r : Rule) where
   reads_more : (rs : List Rule) (o : Option User) → reads_by (r ∷ rs) o p ≡ (reads_by_line p r o || reads_by rs o p)
   unfolding reads_by may_read any reads_by_line gives_read
-  reads_more rs none = refl
-  reads_more rs (some u) = refl
+  reads_more rs None = refl
+  reads_more rs (Some u) = refl
 
   -- a line that does not match lets nobody read
-  line-not : (o : Option User) → ((u : User) → o ≡ some u → matches u.environment r.path p ≡ false) → reads_by_line p r o ≡ false
+  line-not : (o : Option User) → ((u : User) → o ≡ Some u → matches u.environment r.path p ≡ false) → reads_by_line p r o ≡ false
   unfolding reads_by_line gives_read
-  line-not none h = refl
-  line-not (some u) h = rw (h u refl) (and-false (is_for u r))
+  line-not None h = refl
+  line-not (Some u) h = rw (h u refl) (and-false (is_for u r))
 
 -- m rows were counted: the line in the row at i may not match
 pub lines-passed : (q : Bytes) (p : Keys) {m : ℕ} → m ≡ length (in_use rule_row max_rules q) → (i : ℕ) → i < m → {row : Bytes} → row ≡ take rule_row (drop (i * rule_row) q)

@@ -3,7 +3,7 @@ use Rattle.std.specs.Prelude.{if◌then◌else◌}
 use Prim.Native.Nat.{ℕ, suc, ◌+◌, ◌*◌, ◌-◌, ◌≤◌, ◌<◌}
 use mathlib.Core.Path.{◌≡◌}
 use mathlib.Core.Bool.{Bool, ◌&&◌, ◌||◌}
-use mathlib.Core.Option.{some}
+use Rattle.std.specs.Prelude.{Some}
 use mathlib.Core.List.{[], ◌∷◌}
 use native.Mathlib.Omega.{arith}
 use lib.ListN.{length, take, drop}
@@ -52,7 +52,7 @@ module _ (s : Bytes) {m : ℕ} (counted : m ≡ length (in_use rule_row max_rule
 
         -- it is the first that is in conflict with an earlier one, or a later line is
         pub conflict-from : conflict_from (i + 2) (take i (policy_in s)) (drop i (policy_in s))
-            ≡ (if w && any (conflicts_with (rule_in row).path) (take i (policy_in s)) then some (i + 2)
+            ≡ (if w && any (conflicts_with (rule_in row).path) (take i (policy_in s)) then Some (i + 2)
             else conflict_from (i + 1 + 2) (take (i + 1) (policy_in s)) (drop (i + 1) (policy_in s)))
         unfolding conflict_from policy_in
         conflict-from =

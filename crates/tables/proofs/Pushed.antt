@@ -58,7 +58,7 @@ module _ (w : ℕ) (name : Bytes) where
     -- its first byte says that the row is in use
     cut-full : 0 < w → 0 < length name → is_empty (cut ++ rest) ≡ false
     unfolding is_empty
-    cut-full room some =
+    cut-full room Some =
         let first = get_or-append cut rest 0 0 (omega (arith, cut-named.long)) in
         ne_eqb (get_or (cut ++ rest) 0 0) 0 (λ z. omega (arith, cut-named.first, first))
 
@@ -89,7 +89,7 @@ module _ (name value : Bytes) where
 
   pub binding-full : 0 < length name → is_empty (encode_binding line) ≡ false
   unfolding encode_binding
-  binding-full some = cut-full max_name name (cut max_key value) (omega arith) some
+  binding-full Some = cut-full max_name name (cut max_key value) (omega arith) Some
 
 -- ── A user ──
 module _ (name role key : Bytes) (quota : ℕ) where
@@ -153,7 +153,7 @@ module _ (name role key : Bytes) (quota : ℕ) where
   }
 
   pub user-full : 0 < length name → is_empty (encode_user user) ≡ false
-  user-full some = rw apart (cut-full max_name name _ (omega arith) some)
+  user-full Some = rw apart (cut-full max_name name _ (omega arith) Some)
 
 -- ── A policy line ──
 module _ (role : Bytes) (access : ℕ) (steps : Bytes) where
@@ -169,8 +169,8 @@ module _ (role : Bytes) (access : ℕ) (steps : Bytes) where
   rule-put {old} {s = s} clean ls e ne =
       let l : length old ≡ rule_row = ap length clean in
       let ne = name-encoded max_name role (take name_row s) (rw (e, take-written name_row access_at (access ∷ steps) old (omega arith), clean)) ne in
-      let none = over old (access_at + length (access ∷ steps)) (omega arith) in
-      let text : drop access_at (written access_at (access ∷ steps) old) ≡ access ∷ steps = rw (written_from access_at (access ∷ steps) old (omega arith), none) (append-nil (access ∷ steps)) in
+      let None = over old (access_at + length (access ∷ steps)) (omega arith) in
+      let text : drop access_at (written access_at (access ∷ steps) old) ≡ access ∷ steps = rw (written_from access_at (access ∷ steps) old (omega arith), None) (append-nil (access ∷ steps)) in
       rw (e, ne, text)
 
   -- so the line is read back, and the row is in use
@@ -188,4 +188,4 @@ module _ (role : Bytes) (access : ℕ) (steps : Bytes) where
   rule-canonical s a = rw (rule-read, ← a, ← counted-encoded encode_step step_in step_row max_depth steps s)
 
   pub rule-full : 0 < length role → is_empty bytes ≡ false
-  rule-full some = cut-full max_name role (access ∷ steps) (omega arith) some
+  rule-full Some = cut-full max_name role (access ∷ steps) (omega arith) Some

@@ -3,7 +3,7 @@ use Rattle.std.specs.Prelude.{if◌then◌else◌}
 use Prim.Native.Nat.{ℕ, ◌+◌, ◌*◌, ◌≤◌, ◌<◌}
 use mathlib.Core.Path.{◌≡◌, refl}
 use mathlib.Core.Bool.{Bool}
-use mathlib.Core.Option.{Option, none, some}
+use Rattle.std.specs.Prelude.{Option, None, Some}
 use mathlib.Core.List.{[], ◌∷◌}
 use native.Mathlib.Numerals.{add-one}
 use native.Mathlib.Omega.{arith}
@@ -30,7 +30,7 @@ module _ (s : Bytes) {m : ℕ} (counted : m ≡ length (in_use user_row max_user
   unfolding users_in
   users-over h = rows-over user_in user_row max_users s counted i h
 
-  pub user-none : m ≤ i → user_at (users_in s) i ≡ none
+  pub user-none : m ≤ i → user_at (users_in s) i ≡ None
   unfolding user_at
   user-none h = rw (elem-left (users_in s) i, users-over h)
 
@@ -42,7 +42,7 @@ module _ (s : Bytes) {m : ℕ} (counted : m ≡ length (in_use user_row max_user
     unfolding users_in
     user-left is = row-left user_in user_row max_users s counted i below is
 
-    pub user-some : {row : Bytes} → row ≡ take user_row (drop (i * user_row) s) → user_at (users_in s) i ≡ some (user_in row)
+    pub user-some : {row : Bytes} → row ≡ take user_row (drop (i * user_row) s) → user_at (users_in s) i ≡ Some (user_in row)
     unfolding user_at
     user-some is = rw (elem-left (users_in s) i, user-left is)
 
@@ -56,12 +56,12 @@ abbrev pub named_from : Bytes → Bytes → ℕ → Option (ℕ × User)
 named_from n s i = first_from i (λ (u : User). u.name ≐ n) (drop i (users_in s))
 
 module _ (n s : Bytes) (i : ℕ) where
-  pub named-over : length (in_use user_row max_users s) ≤ i → named_from n s i ≡ none
+  pub named-over : length (in_use user_row max_users s) ≤ i → named_from n s i ≡ None
   unfolding first_from
   named-over h = rw (users-over s refl i h)
 
   module _ (below : i < max_users) (passed : i ≤ length (in_use user_row max_users s)) where
-    pub named-stop : get_or s (i * user_row) 0 ≡ 0 → named_from n s i ≡ none
+    pub named-stop : get_or s (i * user_row) 0 ≡ 0 → named_from n s i ≡ None
     named-stop e = named-over (used-last user_row max_users s i below passed refl (byte-empty user_row max_users s i (omega arith) e))
 
     -- the row is in use
@@ -71,7 +71,7 @@ module _ (n s : Bytes) (i : ℕ) where
 
       -- its name was compared with n: it is the one, or the search goes on
       pub named-next : {name : Bytes} {r : Bool} → name ≡ name_in (take name_row (drop (i * user_row) s)) → r ≡ (name ≐ n)
-          → named_from n s i ≡ (if r then some (i, user_in (take user_row (drop (i * user_row) s))) else named_from n s (i + 1))
+          → named_from n s i ≡ (if r then Some (i, user_in (take user_row (drop (i * user_row) s))) else named_from n s (i + 1))
       unfolding first_from user_in
       named-next e t =
           rw (user-left s refl i named_more refl, take-take name_row user_row (drop (i * user_row) s) (omega arith), ← e, ← t, add-one i)

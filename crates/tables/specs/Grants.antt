@@ -1,6 +1,6 @@
 -- The right that one line gives, whom a line may admit, and the line of a conflict.
 use Rattle.std.specs.Prelude.{ℕ, ◌<◌, ◌^◌, ◌≡◌, Bool, true, false, ◌&&◌, List, [], length, get_or}
-use Rattle.std.proofs.Math.Option.{Option, none, some}
+use Rattle.std.specs.Prelude.{Option, None, Some}
 use Rattle.model.specs.Base.{Bytes}
 use Rattle.model.specs.Limits.{max_depth, max_users}
 use Rattle.model.specs.Fields.{Keys}
@@ -16,13 +16,13 @@ gives_read p r u = is_for u r && matches u.environment r.path p
 
 -- there is a user, who may read the path p by the line r
 unfoldable pub reads_by_line : Keys → Rule → Option User → Bool
-reads_by_line p r none = false
-reads_by_line p r (some u) = gives_read p r u
+reads_by_line p r None = false
+reads_by_line p r (Some u) = gives_read p r u
 
 -- there is a user, one of whose environment lines has the value k
 unfoldable pub holds_value : Bytes → Option User → Bool
-holds_value k none = false
-holds_value k (some u) = has_value u.environment k
+holds_value k None = false
+holds_value k (Some u) = has_value u.environment k
 
 -- a number for each key of the path p: the mask of those who hold it, or, where that was not found out, a number that is no mask
 pub record Found (us : List User) (p : Keys) (found : List ℕ) : Type 0 where
@@ -32,7 +32,7 @@ pub record Found (us : List User) (p : Keys) (found : List ℕ) : Type 0 where
 -- a mask of users that leaves out nobody for whom the steps match the path
 pub record Covers (us : List User) (ts : Steps) (p : Keys) (mask : ℕ) : Type 0 where
   pub users : (k : ℕ) → bit_at mask k ≡ true → k < length us
-  pub all : (k : ℕ) (u : User) → user_at us k ≡ some u → bit_at mask k ≡ false → matches u.environment ts p ≡ false
+  pub all : (k : ℕ) (u : User) → user_at us k ≡ Some u → bit_at mask k ≡ false → matches u.environment ts p ≡ false
 
 -- the user u may write the path p by the line r
 unfoldable pub gives_write : User → Keys → Rule → Bool
@@ -40,5 +40,5 @@ gives_write u p r = is_for u r && is_write r && matches u.environment r.path p
 
 -- a line's number, or 0 where there is none
 abbrev pub line_number : Option ℕ → ℕ
-line_number none = 0
-line_number (some n) = n
+line_number None = 0
+line_number (Some n) = n

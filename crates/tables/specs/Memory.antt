@@ -1,6 +1,6 @@
 -- What the bytes of the tables mean, whatever they are; and the bytes of tables.
 use Rattle.std.specs.Prelude.{ℕ, ◌+◌, ◌*◌, ◌/◌, ◌%◌, ◌≡◌, List, [], ◌∷◌, ◌++◌, eqb, length, get_or, take, drop, if◌then◌else◌}
-use Rattle.std.proofs.Math.Option.{Option, none, some}
+use Rattle.std.specs.Prelude.{Option, None, Some}
 use Rattle.layout.specs.Layout.{in_use, table, name_row, name_in, encode_name, encode_table, Canonical, CanonicalName, CanonicalTable}
 use Rattle.model.specs.Base.{Bytes}
 use Rattle.model.specs.Limits.{max_users, max_rules}
@@ -94,8 +94,8 @@ tables_in s = record { users = users_in s; policy = policy_in (drop users_bytes 
 
 -- the index of a user
 abbrev pub user_answer : Option (ℕ × User) → UserAt
-user_answer none = Unknown
-user_answer (some t) = At t.0
+user_answer None = Unknown
+user_answer (Some t) = At t.0
 
 -- ── Every byte ──
 -- a quota: how many beside whole 256, and how many 256

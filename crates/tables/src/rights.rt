@@ -1,6 +1,6 @@
 // Who may read and who may write a path.
 ghost use Rattle.std.specs.Prelude.{◌≡◌, true, ◌||◌, ℕ, ◌≤◌, ◌<◌, length, drop};
-ghost use Rattle.std.proofs.Math.Option.{Option};
+ghost use Rattle.std.specs.Prelude.{Option};
 ghost use Rattle.model.specs.Tables.{User, user_at};
 ghost use Rattle.model.specs.Rights.{may_write};
 ghost use Rattle.model.specs.Serving.{reads_by};

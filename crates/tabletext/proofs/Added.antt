@@ -1,7 +1,7 @@
 -- What a line adds to a table, or the number of its refusal, from what its tests found.
 use Prim.Native.Nat.{ℕ, suc, ◌≤◌, ◌<◌}
 use mathlib.Core.Path.{◌≡◌, refl, sym, ◌∙◌}
-use mathlib.Core.Option.{Option, none, some}
+use Rattle.std.specs.Prelude.{Option, None, Some}
 use mathlib.Core.Bool.{Bool, true, false, not, ◌&&◌}
 use mathlib.Core.List.{List, [], ◌∷◌, ◌++◌}
 use native.Mathlib.Omega.{arith}
@@ -73,17 +73,17 @@ module _ (val : Bytes → Bytes) (us : List User) where
     user-every h = rw (names, h)
 
     module _ (one : (val (text "role") ≐ every_role) ≡ false) where
-      pub user-bad : number max_quota (val (text "allowance")) ≡ none → users_table.row val us ≡ refused 2
+      pub user-bad : number max_quota (val (text "allowance")) ≡ None → users_table.row val us ≡ refused 2
       unfolding users_table ◌>>◌ ◌>>=◌ refuse◌if◌ ◌or◌
       user-bad h = rw (names, one, h)
 
-      module _ {quota : ℕ} (q : number max_quota (val (text "allowance")) ≡ some quota) where
-        pub user-doubled : {t : ℕ × User} → user_named (val (text "user")) us ≡ some t → users_table.row val us ≡ refused 6
+      module _ {quota : ℕ} (q : number max_quota (val (text "allowance")) ≡ Some quota) where
+        pub user-doubled : {t : ℕ × User} → user_named (val (text "user")) us ≡ Some t → users_table.row val us ≡ refused 6
         unfolding users_table ◌>>◌ ◌>>=◌ refuse◌if◌ ◌or◌ user_named is_some
         user-doubled h = rw (names, one, q, any-first _ 0 us, h)
 
         -- there are m users
-        module _ (new : user_named (val (text "user")) us ≡ none) {m : ℕ} (counted : m ≡ length us) where
+        module _ (new : user_named (val (text "user")) us ≡ None) {m : ℕ} (counted : m ≡ length us) where
           pub user-full : max_users ≤ m → users_table.row val us ≡ refused 4
           unfolding users_table ◌>>◌ ◌>>=◌ refuse◌if◌ ◌or◌ user_named is_some
           user-full h = rw (names, one, q, any-first _ 0 us, new, ← counted, le-leb max_users m h)
@@ -115,11 +115,11 @@ module _ (val : Bytes → Bytes) (us : List User) where
   binding-unnamed h = rw h
 
   module _ (names : binding_names val ≡ true) where
-    pub binding-lost : user_named (val (text "user")) us ≡ none → environments_table.row val us ≡ refused 7
+    pub binding-lost : user_named (val (text "user")) us ≡ None → environments_table.row val us ≡ refused 7
     unfolding environments_table ◌>>◌ ◌>>=◌ refuse◌if◌ ◌or◌
     binding-lost h = rw (names, h)
 
-    module _ {i : ℕ} {u : User} (found : user_named (val (text "user")) us ≡ some (i, u)) where
+    module _ {i : ℕ} {u : User} (found : user_named (val (text "user")) us ≡ Some (i, u)) where
       pub binding-doubled : any (same_binding (new_binding val)) u.environment ≡ true → environments_table.row val us ≡ refused 6
       unfolding environments_table ◌>>◌ ◌>>=◌ refuse◌if◌ ◌or◌
       binding-doubled h = rw (names, found, h)
@@ -143,27 +143,27 @@ module _ (val : Bytes → Bytes) (us : List User) where
 -- ── Policy ──
 -- what an answer says of an access
 module _ {m n : Bytes} (is : m ≡ n) {r : AccessRead} (h : r ≡ access_answer (access_of m)) where
-  pub access-unknown : r ≡ Bad → access_of n ≡ none
+  pub access-unknown : r ≡ Bad → access_of n ≡ None
   access-unknown e = rw (← is) (go (access_of m) h)
     where
-      go : (o : Option Access) → r ≡ access_answer o → o ≡ none
-      go none h = refl
-      go (some a) h = let z : ◌≡◌ {A = ℕ} 0 1 = cc in absurd (omega arith)
+      go : (o : Option Access) → r ≡ access_answer o → o ≡ None
+      go None h = refl
+      go (Some a) h = let z : ◌≡◌ {A = ℕ} 0 1 = cc in absurd (omega arith)
 
-  pub access-known : {b : ℕ} → r ≡ Is b → (access_of n ≡ some (access_in b)) × (b ≡ access_byte (access_in b))
+  pub access-known : {b : ℕ} → r ≡ Is b → (access_of n ≡ Some (access_in b)) × (b ≡ access_byte (access_in b))
   access-known {b} e = rw (← is) (go (access_of m) h)
     where
-      go : (o : Option Access) → r ≡ access_answer o → (o ≡ some (access_in b)) × (b ≡ access_byte (access_in b))
-      go none h = let z : ◌≡◌ {A = ℕ} 0 1 = cc in absurd (omega arith)
-      go (some READ) h = let z : 0 ≡ b = cc in rw (← z) (refl, refl)
-      go (some WRITE) h = let z : 1 ≡ b = cc in rw (← z) (refl, refl)
+      go : (o : Option Access) → r ≡ access_answer o → (o ≡ Some (access_in b)) × (b ≡ access_byte (access_in b))
+      go None h = let z : ◌≡◌ {A = ℕ} 0 1 = cc in absurd (omega arith)
+      go (Some READ) h = let z : 0 ≡ b = cc in rw (← z) (refl, refl)
+      go (Some WRITE) h = let z : 1 ≡ b = cc in rw (← z) (refl, refl)
 
 -- and of a path
 module _ (r : StepsRead) {m n : Bytes} (is : m ≡ n) (h : steps_answer r ≡ steps_of m) where
-  pub path-unread : not r.ok ≡ true → steps_of n ≡ none
+  pub path-unread : not r.ok ≡ true → steps_of n ≡ None
   path-unread e = rw (← is, ← h, not-true r.ok e)
 
-  pub path-read : not r.ok ≡ false → steps_of n ≡ some (steps_in r.slot)
+  pub path-read : not r.ok ≡ false → steps_of n ≡ Some (steps_in r.slot)
   path-read e = rw (← is, ← h, not-false r.ok e)
 
 pub rules-counted : (s : Bytes) {m : ℕ} → m ≡ length (in_use rule_row max_rules s) → m ≡ length (policy_in s)
@@ -176,17 +176,17 @@ module _ (val : Bytes → Bytes) (rs : List Rule) where
   rule-unnamed h = rw h
 
   module _ (role : is_name (val (text "role")) ≡ true) where
-    pub rule-bad : access_of (val (text "access")) ≡ none → policy_table.row val rs ≡ refused 2
+    pub rule-bad : access_of (val (text "access")) ≡ None → policy_table.row val rs ≡ refused 2
     unfolding policy_table ◌>>◌ ◌>>=◌ refuse◌if◌ ◌or◌
     rule-bad h = rw (role, h)
 
-    module _ {a : Access} (access : access_of (val (text "access")) ≡ some a) where
-      pub rule-unread : steps_of (val (text "path")) ≡ none → policy_table.row val rs ≡ refused 3
+    module _ {a : Access} (access : access_of (val (text "access")) ≡ Some a) where
+      pub rule-unread : steps_of (val (text "path")) ≡ None → policy_table.row val rs ≡ refused 3
       unfolding policy_table ◌>>◌ ◌>>=◌ refuse◌if◌ ◌or◌
       rule-unread h = rw (role, access, h)
 
       -- there are m lines
-      module _ {p : Steps} (path : steps_of (val (text "path")) ≡ some p) {m : ℕ} (counted : m ≡ length rs) where
+      module _ {p : Steps} (path : steps_of (val (text "path")) ≡ Some p) {m : ℕ} (counted : m ≡ length rs) where
         pub rule-full : max_rules ≤ m → policy_table.row val rs ≡ refused 4
         unfolding policy_table ◌>>◌ ◌>>=◌ refuse◌if◌ ◌or◌
         rule-full h = rw (role, access, path, ← counted, le-leb max_rules m h)

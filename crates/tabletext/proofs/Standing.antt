@@ -2,11 +2,12 @@
 use Prim.Native.Nat.{ℕ, zero, suc, ◌+◌, ◌*◌, ◌-◌, ◌≤◌, ◌<◌}
 use mathlib.Core.Path.{◌≡◌, refl, sym, ap, ◌∙◌}
 use mathlib.Core.Bool.{Bool, false}
-use mathlib.Core.Option.{Option, none, some}
+use Rattle.std.specs.Prelude.{Option, None, Some}
 use mathlib.Core.List.{List, [], ◌∷◌, ◌++◌, append_assoc}
 use native.Mathlib.Nat.{add-sub_cancel_left, le_of_suc-le-suc}
 use native.Mathlib.Omega.{arith}
-use lib.ListN.{length, get_or, get_elem?, take, drop, set, length-append, length-drop, take-append-drop, get_or-append}
+use lib.ListN.{length, get_or, take, drop, set, length-append, length-drop, take-append-drop, get_or-append}
+use Rattle.std.specs.Prelude.{slice_get}
 use lib.Seq.{take-add, take_all, take-take, take-append-le, drop-drop, drop_at, drop-append-le, length-take-le}
 use Rattle.rows.specs.Rows.{rows, up_to, replaced}
 use Rattle.rows.proofs.Rows.{drop-take, row-at}
@@ -29,19 +30,19 @@ use Rattle.tables.proofs.Users.{user-some}
 -- ── What the answer of a search says ──
 -- the user of the name n was looked for: there is none, or there is one at i
 module _ (us : List User) {m n : Bytes} (is : m ≡ n) {r : UserAt} (h : r ≡ user_answer (user_named m us)) where
-  pub user-unknown : r ≡ Unknown → user_named n us ≡ none
+  pub user-unknown : r ≡ Unknown → user_named n us ≡ None
   user-unknown e = rw (← is) (go (user_named m us) h)
     where
-      go : (o : Option (ℕ × User)) → r ≡ user_answer o → o ≡ none
-      go none h = refl
-      go (some t) h = let z : ◌≡◌ {A = ℕ} 0 1 = cc in absurd (omega arith)
+      go : (o : Option (ℕ × User)) → r ≡ user_answer o → o ≡ None
+      go None h = refl
+      go (Some t) h = let z : ◌≡◌ {A = ℕ} 0 1 = cc in absurd (omega arith)
 
-  pub user-known : {i : ℕ} → r ≡ At i → (u : User) × (user_named n us ≡ some (i, u))
+  pub user-known : {i : ℕ} → r ≡ At i → (u : User) × (user_named n us ≡ Some (i, u))
   user-known {i} e = rw (← is) (go (user_named m us) h)
     where
-      go : (o : Option (ℕ × User)) → r ≡ user_answer o → (u : User) × (o ≡ some (i, u))
-      go none h = let z : ◌≡◌ {A = ℕ} 0 1 = cc in absurd (omega arith)
-      go (some t) h = (t.1, let z : t.0 ≡ i = cc in rw z)
+      go : (o : Option (ℕ × User)) → r ≡ user_answer o → (u : User) × (o ≡ Some (i, u))
+      go None h = let z : ◌≡◌ {A = ℕ} 0 1 = cc in absurd (omega arith)
+      go (Some t) h = (t.1, let z : t.0 ≡ i = cc in rw z)
 
 -- ── The row of a user: what stands before the lines, and the lines ──
 module _ (h : Bytes) (long : length h ≡ lines_at) where
@@ -102,14 +103,14 @@ module _ (s : Bytes) (i : ℕ) where
 
 -- ── Where the user stands ──
 -- the first element that passes is one of the list
-first-at : {A : Type 0} (p : A → Bool) (j : ℕ) (xs : List A) {i : ℕ} {x : A} → first_from j p xs ≡ some (i, x)
-    → (k : ℕ) × (i ≡ j + k) × (get_elem? xs k ≡ some x)
+first-at : {A : Type 0} (p : A → Bool) (j : ℕ) (xs : List A) {i : ℕ} {x : A} → first_from j p xs ≡ Some (i, x)
+    → (k : ℕ) × (i ≡ j + k) × (slice_get xs k ≡ Some x)
 unfolding first_from
 first-at p j [] h = none-some h
 first-at {A} p j (y ∷ xs) {i} {x} h = by_cases (p y)
     (λ e.
     let q : ◌≡◌ {A = ℕ × A} (j, y) (i, x) = cc (rw e at h) in
-    (0, omega (arith, ap (λ (t : ℕ × A). t.0) q), ap (λ (t : ℕ × A). some t.1) q))
+    (0, omega (arith, ap (λ (t : ℕ × A). t.0) q), ap (λ (t : ℕ × A). Some t.1) q))
     (λ e. let (k, n, g) = first-at p (suc j) xs (rw e at h) in (suc k, omega arith, g))
 
 -- no element before the first stop is one
@@ -128,17 +129,17 @@ all-at P (x ∷ xs) (suc i) z b h = all-at P xs i z (omega arith) h.1
 -- the user of the name n stands at i
 pub record Stands (s n : Bytes) (i : ℕ) : Type 0 where
   pub user : User
-  pub named : user_named n (users_in s) ≡ some (i, user)
+  pub named : user_named n (users_in s) ≡ Some (i, user)
   pub below : i < length (users_in s)
   pub inside : i * user_row + user_row ≤ users_bytes
   pub is : user ≡ user_in (take user_row (drop (i * user_row) s))
 
-pub stands : (s : Bytes) {n : Bytes} {i : ℕ} {u : User} → user_named n (users_in s) ≡ some (i, u) → Stands s n i
+pub stands : (s : Bytes) {n : Bytes} {i : ℕ} {u : User} → user_named n (users_in s) ≡ Some (i, u) → Stands s n i
 unfolding users_in user_named user_at
 stands s {i = i} {u = u} h =
     let (k, e, g) = first-at _ 0 (users_in s) h in
     let same : k ≡ i = omega arith in
-    let at : get_elem? (users_in s) i ≡ some u = rw (← same) g in
+    let at : slice_get (users_in s) i ≡ Some u = rw (← same) g in
     let below = elem_below (users_in s) i u at in
     let counted = length-table user_in user_row max_users s in
     record {

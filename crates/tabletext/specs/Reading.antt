@@ -1,6 +1,6 @@
 -- The three tables as tables of one memory, and what the answers say.
 use Rattle.std.specs.Prelude.{ℕ, ◌≡◌, List, [], ◌∷◌, if◌then◌else◌}
-use Rattle.std.proofs.Math.Option.{Option, none, some}
+use Rattle.std.specs.Prelude.{Option, None, Some}
 use Rattle.model.specs.Base.{Bytes}
 use Rattle.model.specs.Refusals.{Result, refused, done, ◌>>=◌}
 use Rattle.model.specs.Table.{Table, Line, ended, broken, lines, split, under, is_head, read_row, read_table}
@@ -16,8 +16,8 @@ use Rattle.tabletext.specs.declared.read.TableRead.{TableRead}
 use Rattle.tabletext.specs.declared.read.TableRead.TheVariants as table-read
 
 abbrev pub access_answer : Option Access → AccessRead
-access_answer none = access-read.Bad
-access_answer (some a) = access-read.Is (access_byte a)
+access_answer None = access-read.Bad
+access_answer (Some a) = access-read.Is (access_byte a)
 
 abbrev pub row_answer : {A : Type 0} → Result ℕ A → RowRead
 row_answer (refused e) = row_read.Refused e

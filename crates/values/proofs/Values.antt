@@ -1,7 +1,7 @@
 -- Values by positions: a number by its digits, and a value by the reader of its first byte's kind.
 use Prim.Native.Nat.{ℕ, zero, suc, ◌+◌, ◌-◌, ◌≤◌, ◌<◌}
 use mathlib.Core.Path.{◌≡◌, refl, sym, ap, ◌∙◌}
-use mathlib.Core.Option.{Option, none, some}
+use Rattle.std.specs.Prelude.{Option, None, Some}
 use mathlib.Core.Bool.{true, false, ◌&&◌, and-false, true≢false}
 use mathlib.Core.List.{[], ◌∷◌}
 use native.Mathlib.Omega.{arith}
@@ -66,11 +66,11 @@ digits_to s at to = take (to - at) (drop at s)
 module _ (s : Bytes) (at : ℕ) where
   -- one of 0 and more
   module _ (to : ℕ) (is : to ≡ run_end is_digit s at) where
-    pub positive-bad : number 2147483647 (digits_to s at to) ≡ none → none ≡ placed read_pos s at
+    pub positive-bad : number 2147483647 (digits_to s at to) ≡ None → None ≡ placed read_pos s at
     unfolding read_pos check ◌>>◌
     positive-bad m = sym (placed-none read_pos s at (rw (span-at is_digit s at to is, number-none 2147483647 _ m)))
 
-    pub positive-is : at ≤ length s → (n : ℕ) → number 2147483647 (digits_to s at to) ≡ some n → some (whole (to_z w32 n), to) ≡ placed read_pos s at
+    pub positive-is : at ≤ length s → (n : ℕ) → number 2147483647 (digits_to s at to) ≡ Some n → Some (whole (to_z w32 n), to) ≡ placed read_pos s at
     unfolding read_pos check ◌>>◌
     positive-is h n m =
         let w = run-within is_digit s at to is h in
@@ -82,30 +82,30 @@ module _ (s : Bytes) (at : ℕ) where
         })))
 
   -- one below 0: its digits stand behind the sign
-  pub negative-unsigned : is_some (after (0x2D ∷ []) (drop at s)) ≡ false → none ≡ placed read_neg s at
+  pub negative-unsigned : is_some (after (0x2D ∷ []) (drop at s)) ≡ false → None ≡ placed read_neg s at
   unfolding read_neg text ◌>>=◌
   negative-unsigned m = sym (placed-none read_neg s at (rw (after-no (0x2D ∷ []) (drop at s) m)))
 
   module _ (o : is_some (after (0x2D ∷ []) (drop at s)) ≡ true) (to : ℕ) (is : to ≡ run_end is_digit s (at + 1)) where
     signed : let d = digits_to s (at + 1) to in
-        read_neg (drop at s) ≡ (check (is_decimal d && within 1 2147483648 (worth 0 d)) >> some (whole (negsuc (worth 0 d - 1)), drop to s))
+        read_neg (drop at s) ≡ (check (is_decimal d && within 1 2147483648 (worth 0 d)) >> Some (whole (negsuc (worth 0 d - 1)), drop to s))
     unfolding read_neg text ◌>>=◌
     signed = rw ((byte-stands 0x2D s at o).1, span-at is_digit s (at + 1) to is)
 
-    pub negative-bad : number 2147483648 (digits_to s (at + 1) to) ≡ none → none ≡ placed read_neg s at
+    pub negative-bad : number 2147483648 (digits_to s (at + 1) to) ≡ None → None ≡ placed read_neg s at
     unfolding check within ◌>>◌
     negative-bad m = sym (placed-none read_neg s at (signed ∙ by_cases (leb 1 (worth 0 (digits_to s (at + 1) to)))
         (λ i. rw (i, number-none 2147483648 _ m))
         (λ i. rw (i, and-false))))
 
-    pub negative-zero : (n : ℕ) → n ≡ 0 → number 2147483648 (digits_to s (at + 1) to) ≡ some n → none ≡ placed read_neg s at
+    pub negative-zero : (n : ℕ) → n ≡ 0 → number 2147483648 (digits_to s (at + 1) to) ≡ Some n → None ≡ placed read_neg s at
     unfolding check within ◌>>◌
     negative-zero n z m =
         let (d, v, l) = number-some 2147483648 _ n m in
         sym (placed-none read_neg s at (signed ∙ rw (d, v, z)))
 
-    pub negative-is : (n : ℕ) (z : ℤ) → (n ≡ 0 → ⊥) → z ≡ negsuc (n - 1) → number 2147483648 (digits_to s (at + 1) to) ≡ some n
-        → some (whole z, to) ≡ placed read_neg s at
+    pub negative-is : (n : ℕ) (z : ℤ) → (n ≡ 0 → ⊥) → z ≡ negsuc (n - 1) → number 2147483648 (digits_to s (at + 1) to) ≡ Some n
+        → Some (whole z, to) ≡ placed read_neg s at
     unfolding check ◌>>◌
     negative-is n z f i m =
         let w = run-within is_digit s (at + 1) to is (omega (arith, (byte-stands 0x2D s at o).0)) in
@@ -117,10 +117,10 @@ module _ (s : Bytes) (at : ℕ) where
         })))
 
 -- ── A value: what the reader of its kind reads ──
-or-none : {A : Type 0} (o : Option A) → (o <|> none) ≡ o
+or-none : {A : Type 0} (o : Option A) → (o <|> None) ≡ o
 unfolding ◌<|>◌
-or-none none = refl
-or-none (some a) = refl
+or-none None = refl
+or-none (Some a) = refl
 
 -- a byte that is another one
 other_byte : (q b : ℕ) → eqb b q ≡ false → eqb q b ≡ false
@@ -146,30 +146,30 @@ value-by-start start.Other b s h =
     rw (other_byte 0x74 b t, other_byte 0x66 b f, other_byte 0x22 b q, d, other_byte 0x2D b m)
 
 module _ (s : Bytes) (at : ℕ) where
-  pub word-is : at ≤ length s → (w : Bytes) (v : Value) → is_some (after w (drop at s)) ≡ true → some (v, at + length w) ≡ placed (read_word w v) s at
+  pub word-is : at ≤ length s → (w : Bytes) (v : Value) → is_some (after w (drop at s)) ≡ true → Some (v, at + length w) ≡ placed (read_word w v) s at
   unfolding read_word ◌>>=◌
   word-is h w v y =
       let (e, k) = after-at w s at h y in
       sym (placed-reads (read_word w v) s at v (at + length w) (record { from = omega arith; to = k; is = rw e }))
 
-  pub word-not : (w : Bytes) (v : Value) → is_some (after w (drop at s)) ≡ false → none ≡ placed (read_word w v) s at
+  pub word-not : (w : Bytes) (v : Value) → is_some (after w (drop at s)) ≡ false → None ≡ placed (read_word w v) s at
   unfolding read_word ◌>>=◌
   word-not w v n = sym (placed-none (read_word w v) s at (rw (after-no w (drop at s) n)))
 
-  string-placed : placed read_string s at ≡ (placed (read_between Text 0x22 0 32) s at >>= λ t. some (string t.0, t.1))
+  string-placed : placed read_string s at ≡ (placed (read_between Text 0x22 0 32) s at >>= λ t. Some (string t.0, t.1))
   unfolding placed behind ◌>>=◌
   string-placed = rw (string-between (drop at s)) (go (read_between Text 0x22 0 32 (drop at s)))
     where
-      go : (o : Option (Bytes × Bytes)) → behind s (o >>= λ t. some (string t.0, t.1)) ≡ (behind s o >>= λ t. some (string t.0, t.1))
-      go none = refl
-      go (some t) = refl
+      go : (o : Option (Bytes × Bytes)) → behind s (o >>= λ t. Some (string t.0, t.1)) ≡ (behind s o >>= λ t. Some (string t.0, t.1))
+      go None = refl
+      go (Some t) = refl
 
   module _ (x : End) (answer : text_answer s at x ≡ placed (read_between Text 0x22 0 32) s at) where
-    pub string-not : x ≡ end.Bad → none ≡ placed read_string s at
+    pub string-not : x ≡ end.Bad → None ≡ placed read_string s at
     unfolding text_answer ◌>>=◌
     string-not i = sym (string-placed ∙ rw (told (text_answer s at) answer i))
 
-    pub string-is : (e : ℕ) → x ≡ end.At e → some (string (take (e - 1 - (at + 1)) (drop (at + 1) s)), e) ≡ placed read_string s at
+    pub string-is : (e : ℕ) → x ≡ end.At e → Some (string (take (e - 1 - (at + 1)) (drop (at + 1) s)), e) ≡ placed read_string s at
     unfolding text_answer ◌>>=◌
     string-is e i =
         let n : e - 1 - (at + 1) ≡ e - 2 - at = omega arith in
@@ -180,7 +180,7 @@ module _ (s : Bytes) (at : ℕ) where
     string-inside h e i = let b = between-at Text 0x22 0 32 s at x answer h e i in (omega (arith, b.at_least), omega (arith, b.reads.to))
 
   -- ── What the function `value_at` answers ──
-  pub value-over : length s ≤ at → none ≡ placed read_value s at
+  pub value-over : length s ≤ at → None ≡ placed read_value s at
   unfolding Opened
   value-over h = sym (placed-none read_value s at (rw (over s at h)))
 
@@ -194,7 +194,7 @@ pub value-leaves : LeavesEnd read_value
 value-leaves s t h = rest_of s (value_text t.0) t.1 (value-spells s t h).1
 
 module _ (s : Bytes) (at : ℕ) (r : ValueAt) (answer : value_answer s r ≡ placed read_value s at) where
-  pub value-bad : r ≡ Bad → read_value (drop at s) ≡ none
+  pub value-bad : r ≡ Bad → read_value (drop at s) ≡ None
   value-bad i = none-placed read_value s at (told (value_answer s) answer i)
 
   pub value-reads : at ≤ length s → (v : Scalar) (e : ℕ) → r ≡ At v e → Reads read_value s at (value_in s v) e

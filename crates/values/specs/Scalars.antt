@@ -1,6 +1,6 @@
 -- What a value of the code means, given the text that its string is a part of.
 use Rattle.std.specs.Prelude.{ℕ, ◌-◌, ◌≤◌, ◌≡◌, true, false, length, take, drop}
-use Rattle.std.proofs.Math.Option.{Option, none, some}
+use Rattle.std.specs.Prelude.{Option, None, Some}
 use Rattle.rows.specs.Positions.{Reader, placed}
 use Rattle.model.specs.Base.{Bytes}
 use Rattle.model.specs.Values.{Value, truth, string, whole}
@@ -16,8 +16,8 @@ value_in s (Text a e) = string (take (e - a) (drop a s))
 value_in s (Whole z) = whole z
 
 abbrev pub value_answer : Bytes → ValueAt → Option (Value × ℕ)
-value_answer s (value-at.At v e) = some (value_in s v, e)
-value_answer s value-at.Bad = none
+value_answer s (value-at.At v e) = Some (value_in s v, e)
+value_answer s value-at.Bad = None
 
 -- a string's part lies in the text
 abbrev pub InText : Scalar → Bytes → Type 0

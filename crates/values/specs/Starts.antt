@@ -1,6 +1,6 @@
 -- What a value is, by its first byte.
 use Rattle.std.specs.Prelude.{ℕ, Bool, true, false, not, ◌||◌, eqb}
-use Rattle.std.proofs.Math.Option.{Option, none, some}
+use Rattle.std.specs.Prelude.{Option, None, Some}
 use Rattle.model.specs.Base.{Bytes, text, ◌>>=◌, after, is_digit}
 use Rattle.model.specs.Values.{Value, truth, read_string, read_pos, read_neg}
 use Rattle.values.specs.declared.value.Start.{Start}
@@ -17,7 +17,7 @@ begins Other b = not (eqb b 0x74 || eqb b 0x66 || eqb b 0x22 || is_digit b || eq
 
 -- a word that is a value
 unfoldable pub read_word : Bytes → Value → Bytes → Option (Value × Bytes)
-read_word w v s = after w s >>= λ r. some (v, r)
+read_word w v s = after w s >>= λ r. Some (v, r)
 
 -- the one reader that can read a value of the kind
 unfoldable pub read_as : Start → Bytes → Option (Value × Bytes)
@@ -26,4 +26,4 @@ read_as False = read_word (text "false") (truth false)
 read_as Text = read_string
 read_as Positive = read_pos
 read_as Negative = read_neg
-read_as Other = λ s. none
+read_as Other = λ s. None

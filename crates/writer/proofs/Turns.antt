@@ -76,8 +76,8 @@ module _ (s : Bytes) (i : ℕ) {k : Bytes} (is : k ≡ name_in (take key_row (dr
       → descend (drop i (path_in s)) ≡ text "\"" ++ (k ++ (text "\"" ++ (text ":" ++ descend (drop (i + 1) (path_in s)))))
   unfolding path_in
   descend-last o =
-      let none : descend [] ≡ [] = unfold descend in refl in
-      rw (counted_step name_in key_row max_depth s i h, counted-over name_in key_row max_depth s (i + 1) o, ← is, none) (descend-one k)
+      let None : descend [] ≡ [] = unfold descend in refl in
+      rw (counted_step name_in key_row max_depth s i h, counted-over name_in key_row max_depth s (i + 1) o, ← is, None) (descend-one k)
 
 pub descend-over : (s : Bytes) (i : ℕ) → min (get_or s 0 0) max_depth ≤ i → descend (drop i (path_in s)) ≡ []
 unfolding path_in descend

@@ -127,8 +127,8 @@ load_object-got-requires t c =
 pub returns-in_default-got : goal.returns-in_default-got
 returns-in_default-got t c =
     let p = (goal.at.returns-in_default-got t c).Joined-leaf in
-    let none = mapped-bad _ (read_node _) _ _ (told (load_answer _) (loads t p) c.in_default-got.is) in
-    record { result_after = left-no-value _ _ _ _ _ c.loop-from.invariant.1 _ _ (key t p).reads _ none; keeps = stays t p }
+    let None = mapped-bad _ (read_node _) _ _ (told (load_answer _) (loads t p) c.in_default-got.is) in
+    record { result_after = left-no-value _ _ _ _ _ c.loop-from.invariant.1 _ _ (key t p).reads _ None; keeps = stays t p }
 
 pub token_at-token-requires : goal.token_at-token-requires
 token_at-token-requires t c = (node-stands t (goal.at.token_at-token-requires t c).Joined-leaf _ c.in-At-got.is).1.to

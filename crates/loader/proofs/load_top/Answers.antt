@@ -28,9 +28,9 @@ token_at-requires-2 c = (opened c).to
 
 pub returns-in-Close : goal.returns-in-Close
 returns-in-Close c =
-    let none = emptied c.args.table.now ∙ none-loaded [] [] in
+    let None = emptied c.args.table.now ∙ none-loaded [] [] in
     let closed = close-stands _ _ _ c.token_at-2.ensures (opened (goal.at.returns-in-Close c).In-Open).to _ c.in-Close.is in
-    record { result_after = rw none (top-empty _ _ _ _ (opened (goal.at.returns-in-Close c).In-Open) _ closed); canonical_fields = emptied-zeros _ }
+    record { result_after = rw None (top-empty _ _ _ _ (opened (goal.at.returns-in-Close c).In-Open) _ closed); canonical_fields = emptied-zeros _ }
 
 pub load_object-requires : goal.load_object-requires
 unfolding path_in counted
@@ -39,8 +39,8 @@ load_object-requires c = search rules
 pub returns : goal.returns
 unfolding path_in counted
 returns c =
-    let none = emptied c.args.table.now in
+    let None = emptied c.args.table.now in
     let not-closed = no-close _ _ c.token_at-2.result c.token_at-2.ensures c.in_default-token_at.not-Close in
     let fields = c.load_object.ensures.result_after in
     let keeps = c.load_object.ensures.keeps in
-    record { result_after = rw none at fields ∙ top-object _ _ _ _ (opened (goal.at.returns c).In-Open) not-closed; canonical_fields = λ zeros. keeps (canonical-uncounted (CanonicalName key_row) key_row max_depth) (emptied-zeros _ zeros) }
+    record { result_after = rw None at fields ∙ top-object _ _ _ _ (opened (goal.at.returns c).In-Open) not-closed; canonical_fields = λ zeros. keeps (canonical-uncounted (CanonicalName key_row) key_row max_depth) (emptied-zeros _ zeros) }

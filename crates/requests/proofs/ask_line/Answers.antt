@@ -1,6 +1,6 @@
 use Prim.Native.Nat.{◌≤◌}
 use mathlib.Core.Path.{◌≡◌}
-use mathlib.Core.Option.{some}
+use Rattle.std.specs.Prelude.{Some}
 use native.Mathlib.Omega.{arith}
 use lib.ListN.{length, drop}
 use Rattle.rows.proofs.Parts.{tail-part}
@@ -20,13 +20,13 @@ use Rattle.requests.proofs.ask_line.Goals as goal
 begins : (c : In-At)
     → let args = c.args in
     let from = c.in-At.from in
-    (after args.word.now args.line.now ≡ some (drop from args.line.now)) × (from ≤ length args.line.now)
+    (after args.word.now args.line.now ≡ Some (drop from args.line.now)) × (from ≤ length args.line.now)
 begins c = word-ends _ _ _ c.behind.ensures c.in-At.is
 
 -- and what is read goes by the number
 reads : (c : After-number) {v : Natural} (a : Ask) → c.number.result ≡ v
     → let args = c.args in
-    (number_answer v >>= λ n. some (in_session n a)) ≡ read_ask args.word.now a args.line.now
+    (number_answer v >>= λ n. Some (in_session n a)) ≡ read_ask args.word.now a args.line.now
 unfolding read_ask session_of ◌>>=◌
 reads c a is = rw ((word-ends _ _ _ c.behind.ensures c.in-At.is).0, told number_answer (rw tail-part at c.number.ensures) is)
 

@@ -1,6 +1,6 @@
 use Prim.Native.Nat.{◌≤◌}
 use mathlib.Core.Path.{◌≡◌, refl, sym, ◌∙◌}
-use mathlib.Core.Option.{some}
+use Rattle.std.specs.Prelude.{Some}
 use native.Mathlib.Omega.{arith}
 use lib.ListN.{length, drop}
 use Rattle.rows.proofs.Parts.{tail-part}
@@ -16,7 +16,7 @@ use Rattle.requests.proofs.login_line.Goals as goal
 begins : (c : In-At)
     → let line = c.args.line.now in
     let from = c.in-At.from in
-    (after (text "LOGIN;") line ≡ some (drop from line)) × (from ≤ length line)
+    (after (text "LOGIN;") line ≡ Some (drop from line)) × (from ≤ length line)
 unfolding text
 begins c = word-ends _ _ _ c.behind.ensures c.in-At.is
 

@@ -1,6 +1,6 @@
 use Prim.Native.Nat.{◌+◌, ◌-◌, ◌≤◌}
 use mathlib.Core.Path.{◌≡◌, refl}
-use mathlib.Core.Option.{Option, some}
+use Rattle.std.specs.Prelude.{Option, Some}
 use native.Mathlib.Omega.{arith}
 use borrow.Author.Tests.{not-true, not-false}
 use lib.ListN.{length, take, drop}
@@ -24,7 +24,7 @@ use Rattle.requests.proofs.push_line.Goals as goal
 begins : (c : In-At)
     → let line = c.args.line.now in
     let from = c.in-At.from in
-    (after (text "PUSH;") line ≡ some (drop from line)) × (from ≤ length line)
+    (after (text "PUSH;") line ≡ Some (drop from line)) × (from ≤ length line)
 unfolding text
 begins c = word-ends _ _ _ c.behind.ensures c.in-At.is
 
@@ -46,14 +46,14 @@ ends c =
 -- the session is a number
 session : (c : In-Is)
     → let from = c.in-At.from in
-    number max_session (take (c.until-a.result - from) (drop from c.args.line.now)) ≡ some c.in-Is.session
+    number max_session (take (c.until-a.result - from) (drop from c.args.line.now)) ≡ Some c.in-Is.session
 session c = told number_answer c.number.ensures c.in-Is.is
 
 -- and the path is one: what is read goes by the value
 by_value : (c : Else-not-read) {v : Option Value}
     → let line = c.args.line.now in
     value_of (drop (c.until-b.result + 1) line) ≡ v
-    → push_of (some c.in-Is.session) (some (path_in c.read_path-read.result.slot)) v ≡ read_push line
+    → push_of (Some c.in-Is.session) (Some (path_in c.read_path-read.result.slot)) v ≡ read_push line
 unfolding text
 by_value c v =
     let path = path-told c.read_path-read.result c.read_path-read.ensures.0 (not-false _ c.if-not-read.false) in

@@ -1,6 +1,6 @@
 use Prim.Native.Nat.{ℕ, ◌+◌, ◌-◌}
 use mathlib.Core.Path.{◌≡◌, refl, sym, ap, ◌∙◌}
-use mathlib.Core.Option.{some}
+use Rattle.std.specs.Prelude.{Some}
 use mathlib.Core.Bool.{Bool, ◌||◌}
 use native.Mathlib.Omega.{arith}
 use lib.ListN.{take, drop, set}
@@ -171,7 +171,7 @@ returns-in_default-token t c =
     let n = node-stands t p _ _ _ c.in-At-got.is in
     let token = c.token_at-token in
     let close = close-stands _ _ _ token.ensures n.1.to _ c.in-Close.is in record {
-      result_value = ap (λ (x : ℕ × Bool). some (x, c.in-Close.close)) (sym n.2.sums)
+      result_value = ap (λ (x : ℕ × Bool). Some (x, c.in-Close.close)) (sym n.2.sums)
           ∙ left-last _ _ _ _ _ c.loop-from.invariant.1 _ _ (key t p).reads _ _ n.1 _
           (no-comma _ _ token.result token.ensures c.in_default-token.not-Comma) _ close;
       fields_within = omega (arith, n.2.within, close.from);

@@ -10,8 +10,8 @@ use Rattle.record.proofs.table.store.Goals as goal
 pub returns-then-is_empty : goal.returns-then-is_empty
 unfolding stored_slot
 returns-then-is_empty c =
-    let none = sym c.is_empty.ensures ∙ c.if-is_empty.true in
-    record { table_after = none-stored _ _ none; keeps = λ is h. h; table_after_2 = rw none }
+    let None = sym c.is_empty.ensures ∙ c.if-is_empty.true in
+    record { table_after = none-stored _ _ None; keeps = λ is h. h; table_after_2 = rw None }
 
 pub store_at-requires : goal.store_at-requires
 store_at-requires c =

@@ -2,7 +2,7 @@ use Rattle.std.specs.Prelude.{if◌then◌else◌}
 use Prim.Native.Nat.{◌+◌}
 use mathlib.Core.Path.{◌≡◌, refl, ◌∙◌}
 use mathlib.Core.Bool.{◌&&◌}
-use mathlib.Core.Option.{some}
+use Rattle.std.specs.Prelude.{Some}
 use mathlib.Core.List.{[]}
 use native.Mathlib.Omega.{arith}
 use lib.ListN.{take, drop}
@@ -24,7 +24,7 @@ turn : (c : After-is_write)
     let p = policy_in c.args.policy.now in
     let row = c.row_at-rule.result.now in
     conflict_from 2 [] p
-    ≡ (if c.is_write.result && any (conflicts_with (rule_in row).path) (take i p) then some (i + 2)
+    ≡ (if c.is_write.result && any (conflicts_with (rule_in row).path) (take i p) then Some (i + 2)
     else conflict_from (i + 1 + 2) (take (i + 1) p) (drop (i + 1) p))
 turn c =
     let l = c.loop-i in

@@ -1,6 +1,6 @@
 use mathlib.Core.Path.{◌≡◌}
 use mathlib.Core.Bool.{true}
-use mathlib.Core.Option.{some}
+use Rattle.std.specs.Prelude.{Some}
 use native.Mathlib.Omega.{arith}
 use borrow.Author.Rules.{rules}
 use Rattle.model.specs.Base.{Bytes, text}
@@ -27,11 +27,11 @@ role : (c : Else-not-is_name) → is_name (val c.args.head.now c.args.line.now (
 unfolding text
 role c = rw (← c.value_under-role.ensures) (passed c.is_name.ensures c.if-not-is_name.false)
 
-access : (c : In-Is) → let b = c.in-Is.b in (access_of (val c.args.head.now c.args.line.now (text "access")) ≡ some (access_in b)) × (b ≡ access_byte (access_in b))
+access : (c : In-Is) → let b = c.in-Is.b in (access_of (val c.args.head.now c.args.line.now (text "access")) ≡ Some (access_in b)) × (b ≡ access_byte (access_in b))
 unfolding text
 access c = access-known c.value_under.ensures c.access.ensures c.in-Is.is
 
-path : (c : Else-not-path) → steps_of (val c.args.head.now c.args.line.now (text "path")) ≡ some (steps_in c.read_steps-path.result.slot)
+path : (c : Else-not-path) → steps_of (val c.args.head.now c.args.line.now (text "path")) ≡ Some (steps_in c.read_steps-path.result.slot)
 unfolding text
 path c = path-read c.read_steps-path.result c.value_under-2.ensures c.read_steps-path.ensures.0 c.if-not-path.false
 

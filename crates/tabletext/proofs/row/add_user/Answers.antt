@@ -1,6 +1,6 @@
 use mathlib.Core.Path.{◌≡◌, sym, ◌∙◌}
 use mathlib.Core.Bool.{true, false}
-use mathlib.Core.Option.{none, some}
+use Rattle.std.specs.Prelude.{None, Some}
 use native.Mathlib.Omega.{arith}
 use Rattle.model.specs.Base.{Bytes, text, ◌≐◌, number}
 use Rattle.model.specs.Limits.{max_quota}
@@ -45,11 +45,11 @@ one-role : (c : Else-same) → (val c.args.head.now c.args.line.now (text "role"
 unfolding text every_role
 one-role c = rw (← c.value_under-role.ensures) (sym c.same.ensures ∙ c.if-same.false)
 
-quota : (c : In-Is) → number max_quota (val c.args.head.now c.args.line.now (text "allowance")) ≡ some c.in-Is.quota
+quota : (c : In-Is) → number max_quota (val c.args.head.now c.args.line.now (text "allowance")) ≡ Some c.in-Is.quota
 unfolding text
 quota c = rw (← c.value_under.ensures) (told number_answer c.number.ensures c.in-Is.is)
 
-new : (c : In_default-find_user) → user_named (val c.args.head.now c.args.line.now (text "user")) (users_in c.args.users.now) ≡ none
+new : (c : In_default-find_user) → user_named (val c.args.head.now c.args.line.now (text "user")) (users_in c.args.users.now) ≡ None
 unfolding text
 new c = user-unknown _ c.value_under-name.ensures c.find_user.ensures c.in_default-find_user.is
 

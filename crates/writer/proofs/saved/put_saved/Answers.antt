@@ -39,10 +39,10 @@ loop-shown-init c =
 pub returns-then-next-eq-SLOTS : goal.returns-then-next-eq-SLOTS
 unfolding text shown_in
 returns-then-next-eq-SLOTS c =
-    let none = none-next _ _ _ _ (omega arith) c.next_shown-next.ensures c.if-next-eq-SLOTS.true in
+    let None = none-next _ _ _ _ (omega arith) c.next_shown-next.ensures c.if-next-eq-SLOTS.true in
     let last = c.slot_at in
     let braces = behind-none last.result.now _ c.count.ensures in
-    let end = remains-end _ _ _ _ _ _ _ _ (rw (none, ← last.ensures.0, braces) at c.loop-shown.invariant.4) c.put_braces.ensures in
+    let end = remains-end _ _ _ _ _ _ _ _ (rw (None, ← last.ensures.0, braces) at c.loop-shown.invariant.4) c.put_braces.ensures in
     let slot = c.slot_at-first.ensures.0 in
     let held = wrote-both _ _ _ _ _ _ _ _ c.put_held-to.ensures.wrote (rw (← slot) at end) in
     let opened = wrote-both _ _ _ _ _ _ _ _ c.put_descent-to.ensures.wrote held in
