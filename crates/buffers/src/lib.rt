@@ -1,11 +1,10 @@
 // Writers: each stores what falls inside the buffer from `at` on, and answers where the text ends; and a slice copied or wiped.
+// The position stands beside the buffer: with a struct of both, writing takes more instructions (DECISIONS 138).
 #![tactic(auto)]
 
 ghost use Rattle.std.specs.Prelude.{◌≡◌, [], ◌∷◌, ◌++◌, ◌+◌, ◌≤◌, ◌<◌, ◌^◌, length, drop, replicate};
 ghost use Rattle.rows.specs.Rows.{Wrote};
 ghost use Rattle.model.specs.Base.{decimal};
-
-use lexical::bounds::least;
 
 pub fn put_byte(out: &mut [u8], at: usize, b: u8) -> usize
     requires { at + 1 < 2 ^ 64 }
@@ -27,7 +26,7 @@ pub fn put(out: &mut [u8], at: usize, bytes: &[u8]) -> usize
     if out.len() <= at {
         return end;
     }
-    let n = least(bytes.len(), out.len() - at);
+    let n = bytes.len().min(out.len() - at);
     copy(&mut out[at..], &bytes[..n]);
     end
 }
@@ -55,15 +54,13 @@ pub fn put_decimal(out: &mut [u8], at: usize, n: usize) -> usize
     put_byte(out, to, last)
 }
 
-// The bytes of `src` at the start of `dst`.
+// The bytes of `src` at the start of `dst`: by a loop, since `copy_from_slice` is slower for texts as short as names (DECISIONS 143).
 pub fn copy(dst: &mut [u8], src: &[u8])
     requires { length src.now ≤ length dst.old }
     ensures { dst.new ≡ src.now ++ drop (length src.now) dst.old }
 {
-    let mut i: usize = 0;
-    while i < src.len() {
+    for i in 0..src.len() {
         dst[i] = src[i];
-        i += 1;
     }
 }
 
@@ -71,9 +68,5 @@ pub fn copy(dst: &mut [u8], src: &[u8])
 pub fn wipe(s: &mut [u8])
     ensures { s.new ≡ replicate (length s.old) 0 }
 {
-    let mut i = 0;
-    while i < s.len() {
-        s[i] = 0;
-        i += 1;
-    }
+    s.fill(0);
 }

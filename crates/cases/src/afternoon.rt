@@ -22,6 +22,7 @@ pub fn answer_input(
     let mut list = [0u32; LIST];
     let mut out = [0u8; OUTPUT];
     let mut at: usize = 0;
+    // A cursor, which goes from line to line: how far, `until` says.
     while at < input.len() {
         let end = until(input, at, b'\n');
         let n = respond(

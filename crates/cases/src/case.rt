@@ -2,14 +2,14 @@
 ghost use Rattle.std.specs.Prelude.{◌≤◌, ◌<◌, ◌^◌, length};
 
 use crate::unpack::unpack;
-use opening::answer::Opening;
+use opening::answer::Fault;
 use server::open::{LOGINS, RECORD, TABLES, open};
 
 // Where the next text's pieces stand, and what the opening came to.
 #[derive(Clone, Copy)]
 pub struct Opened {
     pub to: usize,
-    pub done: Opening,
+    pub done: Result<(), Fault>,
 }
 
 // The texts that stand at `at`, each into its buffer, where the text of the case before is left, and all opened.
@@ -40,8 +40,5 @@ pub fn open_case(
         &policy[..p.length],
         &text[..t.length],
     );
-    Opened {
-        to: t.to,
-        done: done,
-    }
+    Opened { to: t.to, done }
 }

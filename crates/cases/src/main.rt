@@ -15,10 +15,8 @@ use crate::outcome::{print, print_refusal};
 use crate::rooms::print_rooms;
 use crate::unpack::{TEXT, unpack};
 use server::open::{LOGINS, RECORD, TABLES};
-use std::fs::File;
 use std::io;
-use std::io::Read;
-use std::rt::Files;
+use textfile::read_file;
 
 // A file of packed cases.
 const PACK: usize = 262144;
@@ -35,6 +33,7 @@ fn run_openings(rt: &impl Print, pack: &[u8]) -> io::Result<()>
     let mut logins = [0u16; LOGINS];
     let mut fields = [0u8; RECORD];
     let mut at: usize = 0;
+    // A cursor: where the next case stands, the one before says.
     while at < pack.len() {
         let opened = open_case(
             pack,
@@ -67,6 +66,7 @@ fn run_afternoons(rt: &impl Print, pack: &[u8]) -> io::Result<()>
     let mut logins = [0u16; LOGINS];
     let mut fields = [0u8; RECORD];
     let mut at: usize = 0;
+    // A cursor: where the next case stands, the one before says.
     while at < pack.len() {
         let opened = open_case(
             pack,
@@ -90,34 +90,10 @@ fn run_afternoons(rt: &impl Print, pack: &[u8]) -> io::Result<()>
     print_rooms(rt, &tables, &mut logins, &mut fields)
 }
 
-// Reads until the pack is full, the file ends or a read fails; how many bytes came.
-fn read_full(file: &mut impl Read, pack: &mut [u8]) -> usize
-    ensures { result ≤ length pack.new }
-{
-    let mut done: usize = 0;
-    while done < pack.len() {
-        let n = file.read(&mut pack[done..]).unwrap_or(0);
-        if n == 0 {
-            break;
-        }
-        done += n;
-    }
-    done
-}
-
-fn read_pack(rt: &impl Files, name: &str, pack: &mut [u8]) -> usize
-    ensures { result ≤ length pack.new }
-{
-    match File::open(rt, name) {
-        Ok(mut file) => read_full(&mut file, pack),
-        Err(_) => 0,
-    }
-}
-
 fn main(rt: HostRuntime) -> io::Result<()> {
     let mut pack = [0u8; PACK];
-    let n = read_pack(&rt, "openings", &mut pack);
+    let n = read_file(&rt, "openings", &mut pack);
     run_openings(&rt, &pack[..n])?;
-    let m = read_pack(&rt, "afternoons", &mut pack);
+    let m = read_file(&rt, "afternoons", &mut pack);
     run_afternoons(&rt, &pack[..m])
 }

@@ -1,5 +1,6 @@
 // The copy and the saved text that the worked afternoon leaves, each asked for with just enough room and with one byte less.
 use printing::LIST;
+use refusals::Refusal;
 use server::answer::Reply;
 use server::open::{LOGINS, RECORD, TABLES};
 use server::request::request;
@@ -15,23 +16,28 @@ fn number(rt: &impl Print, n: usize) -> io::Result<()> {
 }
 
 // `name room: answer` on a line, and whether the buffer was written.
-fn print_reply(rt: &impl Print, name: &[u8], room: usize, reply: Reply) -> io::Result<bool> {
+fn print_reply(
+    rt: &impl Print,
+    name: &[u8],
+    room: usize,
+    reply: Result<Reply, Refusal>,
+) -> io::Result<bool> {
     text(rt, name)?;
     number(rt, room)?;
     match reply {
-        Reply::Length(n) => {
+        Ok(Reply::Length(n)) => {
             text(rt, b": OK;")?;
             number(rt, n)?;
             text(rt, b"\n")?;
             Ok(true)
         }
-        Reply::Refused(e) => {
+        Err(refusal) => {
             text(rt, b": NO;")?;
-            number(rt, e)?;
+            number(rt, refusal.number())?;
             text(rt, b"\n")?;
             Ok(false)
         }
-        Reply::Session(_) | Reply::Accepted(_, _) => {
+        Ok(Reply::Session(_)) | Ok(Reply::Accepted(_, _)) => {
             text(rt, b": neither\n")?;
             Ok(false)
         }

@@ -47,15 +47,12 @@ fn put_rules(out: &mut [u8], at: usize, user: &[u8], policy: &[u8]) -> usize
     ensures wrote { Wrote at (joined (map (rule_line (user_in user.now)) (keep (is_for (user_in user.now)) (policy_in policy.now)))) out.old result out.new }
     ensures upper_bound { result ≤ at + rules_text }
 {
-    let n = row_count(policy, RULE, RULES);
     let mut to = at;
-    let mut i: usize = 0;
-    while i < n {
+    for i in 0..row_count(policy, RULE, RULES) {
         let rule = row_at(policy, RULE, i);
         if is_for(rule, user) {
             to = put_rule_line(out, to, user, rule);
         }
-        i += 1;
     }
     to
 }
@@ -68,14 +65,12 @@ fn put_bindings(out: &mut [u8], at: usize, lines: &[u8]) -> usize
 {
     let n = row_count(lines, BINDING, BINDINGS);
     let mut to = at;
-    let mut i: usize = 0;
-    while i < n {
+    for i in 0..n {
         let row = i * BINDING;
         to = put(out, to, name_from(lines, row, NAME_ROW));
         to = put_byte(out, to, b';');
         to = put(out, to, name_from(lines, row + NAME_ROW, KEY_ROW));
         to = put_byte(out, to, b'\n');
-        i += 1;
     }
     to
 }

@@ -33,8 +33,7 @@ pub fn put_receivers(list: &mut [u32], logins: &[u16; LOGINS], i: usize, mask: u
     ensures { Listed logins.now i mask list.old result list.new }
 {
     let mut told: usize = 0;
-    let mut j: usize = 0;
-    while j < MAX_USERS {
+    for j in 0..MAX_USERS {
         if none_from(mask, j) {
             return told;
         }
@@ -42,7 +41,6 @@ pub fn put_receivers(list: &mut [u32], logins: &[u16; LOGINS], i: usize, mask: u
             list[told] = number(j, state_at(logins, j));
             told += 1;
         }
-        j += 1;
     }
     told
 }
@@ -69,10 +67,8 @@ pub fn put_deliveries(out: &mut [u8], at: usize, list: &[u32], told: usize, push
     ensures upper_bound { result ≤ at + deliveries_text }
 {
     let mut to = at;
-    let mut k: usize = 0;
-    while k < told {
-        to = put_delivery(out, to, list[k], pushed);
-        k += 1;
+    for &n in &list[..told] {
+        to = put_delivery(out, to, n, pushed);
     }
     to
 }

@@ -14,7 +14,7 @@ ghost use Rattle.exports.specs.Numbers.{kind_of, number_of, OpensAs, ServesByMas
 
 use copies::COPY;
 use lexical::limits::LIST_ROOM;
-use opening::answer::Opening;
+use refusals::Refusal;
 use server::answer::Reply;
 use server::open::{LOGINS, RECORD, TABLES, open};
 use server::request::request;
@@ -57,25 +57,27 @@ pub extern "C" fn jesovanga_list() -> usize
     LIST_ROOM
 }
 
-fn kind_of(reply: Reply) -> u32
+// The kinds are numbers for C.
+fn kind_of(reply: Result<Reply, Refusal>) -> u32
     ensures { result ≡ kind_of (answer_in reply) }
 {
     match reply {
-        Reply::Refused(_) => 0,
-        Reply::Session(_) => 1,
-        Reply::Length(_) => 2,
-        Reply::Accepted(_, _) => 3,
+        Err(_) => 0,
+        Ok(Reply::Session(_)) => 1,
+        Ok(Reply::Length(_)) => 2,
+        Ok(Reply::Accepted(_, _)) => 3,
     }
 }
 
-fn number_of(reply: Reply) -> usize
+// A number for C, whatever is answered.
+fn number_of(reply: Result<Reply, Refusal>) -> usize
     ensures { result ≡ number_of (answer_in reply) (told_in reply) }
 {
     match reply {
-        Reply::Refused(e) => e,
-        Reply::Session(n) => n as usize,
-        Reply::Length(n) => n,
-        Reply::Accepted(told, _) => told,
+        Err(refusal) => refusal.number(),
+        Ok(Reply::Session(n)) => n as usize,
+        Ok(Reply::Length(n)) => n,
+        Ok(Reply::Accepted(told, _)) => told,
     }
 }
 
@@ -99,15 +101,15 @@ pub extern "C" fn jesovanga_open(
         (arrays tables.new logins.new fields.new) }
 {
     match open(tables, logins, fields, users, environments, policy, text) {
-        Opening::Done => {
+        Ok(()) => {
             *source = 0;
             *line = 0;
             0
         }
-        Opening::Refused(number, t, l) => {
-            *source = t;
-            *line = l;
-            number
+        Err(fault) => {
+            *source = fault.text;
+            *line = fault.line;
+            fault.refusal.number()
         }
     }
 }

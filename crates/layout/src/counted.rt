@@ -2,15 +2,15 @@
 ghost use Rattle.std.specs.Prelude.{◌≡◌, [], ◌∷◌, ◌++◌, ◌+◌, ◌*◌, ◌≤◌, ◌<◌, length, take, drop};
 ghost use Rattle.layout.specs.Layout.{slot_count, counted_rows, TightCounted, Keeps};
 
+use crate::table;
 use buffers::copy;
-use lexical::bounds::least;
 
 // How many rows a slot says it has, at most `most`.
 pub fn count(slot: &[u8], most: usize) -> usize
     requires { 0 < length slot.now }
     ensures { result ≡ slot_count most slot.now }
 {
-    least(slot[0] as usize, most)
+    (slot[0] as usize).min(most)
 }
 
 // The i-th row.
@@ -18,9 +18,7 @@ pub fn row_at(slot: &[u8], size: usize, i: usize) -> &[u8]
     requires { i * size + 1 + size ≤ length slot.now }
     ensures { (result.now ≡ take size (drop (i * size + 1) slot.now)) × (length result.now ≡ size) }
 {
-    let start = i * size + 1;
-    let end = start + size;
-    &slot[start..end]
+    table::row_at(&slot[1..], size, i)
 }
 
 // One row more, where there is room for it among `most`.

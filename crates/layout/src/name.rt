@@ -4,7 +4,6 @@ ghost use Rattle.rows.specs.Rows.{written};
 ghost use Rattle.layout.specs.Layout.{name_in};
 
 use buffers::put;
-use lexical::bounds::least;
 use lexical::limits::{MAX_KEY, MAX_NAME};
 
 // Rows of a name and of a key: how long it is, and room for the longest.
@@ -17,7 +16,7 @@ pub fn name(row: &[u8]) -> &[u8]
     requires { 0 < length row.now }
     ensures { result.now ≡ name_in row.now }
 {
-    let end = 1 + least(row[0] as usize, row.len() - 1);
+    let end = 1 + (row[0] as usize).min(row.len() - 1);
     &row[1..end]
 }
 
@@ -35,7 +34,7 @@ pub fn put_name(row: &mut [u8], name: &[u8])
     requires { (0 < length row.old) × (length row.old ≤ 256) }
     ensures { row.new ≡ written 0 (min (length name.now) (length row.old - 1) ∷ take (length row.old - 1) name.now) row.old }
 {
-    let n = least(name.len(), row.len() - 1);
+    let n = name.len().min(row.len() - 1);
     row[0] = n as u8;
     put(row, 1, &name[..n]);
 }

@@ -3,7 +3,6 @@ ghost use Rattle.std.specs.Prelude.{◌≡◌, false, [], ◌∷◌, ◌++◌, �
 ghost use Rattle.layout.specs.Layout.{is_empty, in_use, Holds, over_row, moved_end, Tight, Keeps};
 
 use buffers::{copy, put_byte, wipe};
-use lexical::bounds::least;
 
 // Whether a row is empty.
 pub fn is_empty(row: &[u8]) -> bool
@@ -28,14 +27,12 @@ fn count_from(t: &[u8], size: usize, most: usize, from: usize) -> usize
     requires { Holds size most t.now × (from ≤ length (in_use size most t.now)) }
     ensures { result ≡ length (in_use size most t.now) }
 {
-    let mut i = from;
-    while i < most {
+    for i in from..most {
         if t[i * size] == 0 {
             return i;
         }
-        i += 1;
     }
-    i
+    most
 }
 
 // How many rows are in use.
@@ -77,7 +74,7 @@ pub fn moved_end(t: &[u8], size: usize, most: usize, from: usize) -> usize
     requires { Holds size most t.now × (from ≤ length (in_use size most t.now)) }
     ensures { result ≡ moved_end size most t.now }
 {
-    least(count_from(t, size, most, from) + 2, most) * size
+    (count_from(t, size, most, from) + 2).min(most) * size
 }
 
 // A table with zeros behind its rows, copied: only the rows in use are read.

@@ -1,16 +1,16 @@
 // The functions of `lexical`, `values` and `buffers`.
 use crate::show;
-use crate::table::{Shown, each};
+use crate::table::each;
 use buffers::{put, put_byte, put_decimal};
 use lexical::class::{
     Class, between, is_blank, is_digit, is_identifier_byte, is_key, is_name, is_name_byte,
     is_plain, is_plain_byte, is_text_byte, passes, run,
 };
 use lexical::limits::MAX_KEY;
-use lexical::number::{Natural, number};
+use lexical::number::number;
 use lexical::slice::{compare, same, starts};
 use std::io;
-use values::value::{ValueAt, put_value, value_at};
+use values::value::{put_value, value_at};
 use values::whole::put_whole;
 
 // The buffer that is written into, and the longest text of a value that is read.
@@ -31,7 +31,7 @@ fn class_of(rt: &impl Print, b: u8) -> io::Result<()> {
     show::text(rt, b"\n")
 }
 
-pub fn names(rt: &impl Print, s: &[u8]) -> io::Result<()> {
+fn names(rt: &impl Print, s: &[u8]) -> io::Result<()> {
     show::asked(rt, b"is_name", s)?;
     show::flag(rt, is_name(s))?;
     show::asked(rt, b"is_key", s)?;
@@ -41,20 +41,15 @@ pub fn names(rt: &impl Print, s: &[u8]) -> io::Result<()> {
     show::asked(rt, b"run of digits", s)?;
     show::count(rt, run(s, 0, Class::Digit) as u64)?;
     show::asked(rt, b"between", s)?;
-    show::end(rt, between(s, 0, b'\'', Class::Name, 1, MAX_KEY))
+    let to = between(s, 0, b'\'', Class::Name, 1, MAX_KEY);
+    show::found(rt, to.map(|to| to as u64))
 }
 
-pub fn numbers(rt: &impl Print, s: &[u8]) -> io::Result<()> {
+fn numbers(rt: &impl Print, s: &[u8]) -> io::Result<()> {
     show::asked(rt, b"number to 256", s)?;
-    match number(s, 256) {
-        Natural::Is(n) => show::count(rt, n)?,
-        Natural::Bad => show::bad(rt)?,
-    }
+    show::found(rt, number(s, 256))?;
     show::asked(rt, b"number to 4294967295", s)?;
-    match number(s, 4294967295) {
-        Natural::Is(n) => show::count(rt, n),
-        Natural::Bad => show::bad(rt),
-    }
+    show::found(rt, number(s, 4294967295))
 }
 
 fn pair(rt: &impl Print, a: &[u8], b: &[u8]) -> io::Result<()> {
@@ -68,12 +63,12 @@ fn pair(rt: &impl Print, a: &[u8], b: &[u8]) -> io::Result<()> {
 }
 
 // A value that is read, and written into a buffer that may be too short for it.
-pub fn value(rt: &impl Print, s: &[u8]) -> io::Result<()> {
+fn value(rt: &impl Print, s: &[u8]) -> io::Result<()> {
     if LONGEST < s.len() {
         return Ok(());
     }
     show::asked(rt, b"value_at", s)?;
-    let ValueAt::At(v, to) = value_at(s, 0) else {
+    let Some((v, to)) = value_at(s, 0) else {
         return show::bad(rt);
     };
     show::count(rt, to as u64)?;
@@ -134,7 +129,6 @@ pub fn table(rt: &impl Print) -> io::Result<()> {
     classes(rt)?;
     each(
         rt,
-        Shown::Names,
         b"
 ann
 29
@@ -146,10 +140,10 @@ br 50
 sixteen bytes ok
 seventeen bytes..
 ",
+        names,
     )?;
     each(
         rt,
-        Shown::Numbers,
         b"
 0
 00
@@ -159,11 +153,11 @@ seventeen bytes..
 4294967296
 1x
 ",
+        numbers,
     )?;
     pairs(rt)?;
     each(
         rt,
-        Shown::Value,
         b"true
 false,
 \"\"
@@ -179,6 +173,7 @@ false,
 -2147483649
 null
 ",
+        value,
     )?;
     decimal(rt, 0)?;
     writers(rt, -2147483648)?;

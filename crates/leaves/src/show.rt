@@ -1,6 +1,5 @@
 // What came out, one answer to a line.
-use lexical::class::End;
-use lexical::slice::Order;
+use std::cmp::Ordering;
 use std::io;
 
 pub fn text(rt: &impl Print, s: &[u8]) -> io::Result<()> {
@@ -51,18 +50,19 @@ pub fn count(rt: &impl Print, n: u64) -> io::Result<()> {
     println!(rt; "{n}")
 }
 
-pub fn end(rt: &impl Print, e: End) -> io::Result<()> {
-    match e {
-        End::At(at) => count(rt, at as u64),
-        End::Bad => bad(rt),
+// A number that was read, or a position where a reader ended, if any.
+pub fn found(rt: &impl Print, n: Option<u64>) -> io::Result<()> {
+    match n {
+        Some(n) => count(rt, n),
+        None => bad(rt),
     }
 }
 
-pub fn order(rt: &impl Print, o: Order) -> io::Result<()> {
+pub fn order(rt: &impl Print, o: Ordering) -> io::Result<()> {
     match o {
-        Order::Less => text(rt, b"less\n"),
-        Order::Equal => text(rt, b"equal\n"),
-        Order::Greater => text(rt, b"greater\n"),
+        Ordering::Less => text(rt, b"less\n"),
+        Ordering::Equal => text(rt, b"equal\n"),
+        Ordering::Greater => text(rt, b"greater\n"),
     }
 }
 

@@ -1,6 +1,6 @@
 // The functions of `layout`, `paths`, `steps` and `matching`.
 use crate::show;
-use crate::table::{Shown, each};
+use crate::table::each;
 use buffers::put;
 use layout::counted::count;
 use layout::name::{KEY_ROW, NAME_ROW, name, name_from, put_name};
@@ -79,13 +79,11 @@ fn path_text(rt: &impl Print, slot: &[u8; PATH]) -> io::Result<()> {
     show::buffer(rt, &out, to)
 }
 
-pub fn path(rt: &impl Print, s: &[u8]) -> io::Result<()> {
+fn path(rt: &impl Print, s: &[u8]) -> io::Result<()> {
     show::asked(rt, b"read_path", s)?;
-    let read = read_path(s);
-    if !read.ok {
+    let Some(mut slot) = read_path(s) else {
         return show::bad(rt);
-    }
-    let mut slot = read.slot;
+    };
     path_text(rt, &slot)?;
     longer(&mut slot);
     path_text(rt, &slot)
@@ -98,13 +96,11 @@ fn steps_text(rt: &impl Print, slot: &[u8; STEPS]) -> io::Result<()> {
     show::count(rt, count(slot, MAX_DEPTH) as u64)
 }
 
-pub fn policy(rt: &impl Print, s: &[u8]) -> io::Result<()> {
+fn policy(rt: &impl Print, s: &[u8]) -> io::Result<()> {
     show::asked(rt, b"read_steps", s)?;
-    let read = read_steps(s);
-    if !read.ok {
+    let Some(slot) = read_steps(s) else {
         return show::bad(rt);
-    }
-    let slot = read.slot;
+    };
     steps_text(rt, &slot)
 }
 
@@ -114,26 +110,21 @@ fn step_alone(rt: &impl Print, found: Step) -> io::Result<()> {
     steps_text(rt, &slot)
 }
 
-pub fn step(rt: &impl Print, s: &[u8]) -> io::Result<()> {
+fn step(rt: &impl Print, s: &[u8]) -> io::Result<()> {
     show::asked(rt, b"step_at", s)?;
-    let read = step_at(s, 0);
-    if !read.ok {
+    let Some((found, to)) = step_at(s, 0) else {
         return show::bad(rt);
-    }
-    show::count(rt, read.to as u64)?;
-    let found = read.step;
+    };
+    show::count(rt, to as u64)?;
     step_alone(rt, found)
-}
-
-fn order(rt: &impl Print, a: &[u8; PATH], b: &[u8; PATH]) -> io::Result<()> {
-    show::order(rt, compare_paths(a, b))
 }
 
 fn order_of(rt: &impl Print, a: &[u8], b: &[u8]) -> io::Result<()> {
     show::asked_both(rt, b"compare_paths", a, b)?;
-    let x = read_path(a).slot;
-    let y = read_path(b).slot;
-    order(rt, &x, &y)
+    let (Some(x), Some(y)) = (read_path(a), read_path(b)) else {
+        return show::bad(rt);
+    };
+    show::order(rt, compare_paths(&x, &y))
 }
 
 // A user's two lines, n 29 and n 30: before each name and value stands how long it is.
@@ -146,40 +137,23 @@ fn two_lines() -> [u8; ENVIRONMENT] {
     lines
 }
 
-fn matched(
-    rt: &impl Print,
-    lines: &[u8; ENVIRONMENT],
-    steps: &[u8; STEPS],
-    slot: &[u8; PATH],
-) -> io::Result<()> {
-    show::flag(rt, matches(lines, steps, slot))
-}
-
 fn match_of(rt: &impl Print, p: &[u8], k: &[u8]) -> io::Result<()> {
     show::asked_both(rt, b"matches", p, k)?;
     let lines = two_lines();
-    let steps = read_steps(p).slot;
-    let slot = read_path(k).slot;
-    matched(rt, &lines, &steps, &slot)
-}
-
-fn conflicts(rt: &impl Print, a: &[u8; STEPS], b: &[u8; STEPS]) -> io::Result<()> {
-    show::flag(rt, conflict(a, b))
-}
-
-fn conflicts_with_field(rt: &impl Print, a: &[u8; STEPS], slot: &[u8; PATH]) -> io::Result<()> {
-    let steps = steps_of(slot);
-    conflicts(rt, a, &steps)
+    let (Some(steps), Some(slot)) = (read_steps(p), read_path(k)) else {
+        return show::bad(rt);
+    };
+    show::flag(rt, matches(&lines, &steps, &slot))
 }
 
 fn conflict_of(rt: &impl Print, p: &[u8], q: &[u8], k: &[u8]) -> io::Result<()> {
     show::asked_both(rt, b"conflict", p, q)?;
-    let a = read_steps(p).slot;
-    let b = read_steps(q).slot;
-    conflicts(rt, &a, &b)?;
+    let (Some(a), Some(b), Some(slot)) = (read_steps(p), read_steps(q), read_path(k)) else {
+        return show::bad(rt);
+    };
+    show::flag(rt, conflict(&a, &b))?;
     show::asked(rt, b"and the field", k)?;
-    let slot = read_path(k).slot;
-    conflicts_with_field(rt, &a, &slot)
+    show::flag(rt, conflict(&a, &steps_of(&slot)))
 }
 
 fn orders(rt: &impl Print) -> io::Result<()> {
@@ -220,13 +194,13 @@ fn conflicts_by_steps(rt: &impl Print) -> io::Result<()> {
 fn long_policies(rt: &impl Print) -> io::Result<()> {
     each(
         rt,
-        Shown::Policy,
         b"$.a.b.c.d.e.f
 $.a.b.c.d.e.f.g
 $['sixteen bytes ok','sixteen bytes ok','sixteen bytes ok','sixteen bytes ok']['sixteen bytes ok','sixteen bytes ok']
 $['sixteen bytes ok','sixteen bytes ok','sixteen bytes ok','sixteen bytes ok'].sixteen_bytes_ok.fourteen_bytes.x
 $['sixteen bytes ok','sixteen bytes ok','sixteen bytes ok','sixteen bytes ok'].sixteen_bytes_ok.fourteen_bytes.xy
 ",
+        policy,
     )
 }
 
@@ -235,7 +209,6 @@ pub fn table(rt: &impl Print) -> io::Result<()> {
     kinds(rt)?;
     each(
         rt,
-        Shown::Path,
         b"$['a']
 $['sixteen bytes ok']['b']
 $['seventeen bytes..']
@@ -247,10 +220,10 @@ $.a
 $[\"a\"]
 $['a']\x20
 ",
+        path,
     )?;
     each(
         rt,
-        Shown::Policy,
         b"$.a
 $.29
 $._29
@@ -264,11 +237,11 @@ $[=~loco].speed
 $[in~loco]
 $[=~lo co]
 ",
+        policy,
     )?;
     long_policies(rt)?;
     each(
         rt,
-        Shown::Step,
         b".name['x']
 .seventeen_bytes__
 [*]
@@ -276,6 +249,7 @@ $[=~lo co]
 [in~loco]
 ['a' ]
 ",
+        step,
     )?;
     orders(rt)?;
     matches_by_environment(rt)?;

@@ -2,7 +2,7 @@
 use Prim.Native.Nat.{ℕ, ◌+◌, ◌-◌, ◌≤◌}
 use mathlib.Core.Path.{◌≡◌, refl, sym, ap, ◌∙◌}
 use mathlib.Core.Bool.{true, false, and-true}
-use Rattle.std.specs.Prelude.{None, Some}
+use Rattle.std.specs.Prelude.{Option, None, Some}
 use mathlib.Core.List.{[], ◌∷◌, ◌++◌, append_assoc}
 use native.Mathlib.Omega.{arith}
 use lib.ListN.{length, take, drop, length-append, length-drop}
@@ -18,8 +18,6 @@ use Rattle.model.proofs.Lists.{by_cases}
 use Rattle.model.proofs.Reading.{within-yes, within-bounds, bind-some, check-some, some_same, after-some, after-span, span-passes}
 use Rattle.lexical.specs.declared.class.Class.{Class}
 use Rattle.lexical.specs.declared.class.Class.TheVariants.{Name, Text}
-use Rattle.lexical.specs.declared.class.End.{End}
-use Rattle.lexical.specs.declared.class.End.TheVariants.{At, Bad}
 use Rattle.lexical.specs.Classes.{in_class, scan_end, read_between, text_answer}
 use Rattle.lexical.proofs.Runs.{span-at, byte-stands, rest_of, bind-same, bind-bind, check_bind, check-none}
 use Rattle.lexical.proofs.Slices.{after-no}
@@ -28,29 +26,29 @@ use Rattle.model.specs.Limits.{max_key}
 -- ── Bytes of a class: what the function `scan` answers ──
 module _ (class : Class) (least most : ℕ) (s : Bytes) (at : ℕ) where
   module _ (to : ℕ) (is : to ≡ run_end (in_class class) s at) where
-    pub scan-misfit : within least most (to - at) ≡ false → Bad ≡ scan_end class least most s at
+    pub scan-misfit : within least most (to - at) ≡ false → None ≡ scan_end class least most s at
     unfolding scan_end
     scan-misfit m = rw (← is, m)
 
-    pub scan-fits : least ≤ to - at → to - at ≤ most → At to ≡ scan_end class least most s at
+    pub scan-fits : least ≤ to - at → to - at ≤ most → Some to ≡ scan_end class least most s at
     unfolding scan_end
     scan-fits l m = rw (← is, within-yes least most (to - at) l m)
 
   -- for a caller of it
-  module _ (x : End) (answer : x ≡ scan_end class least most s at) where
-    pub scan-bad : x ≡ Bad → within least most (run_end (in_class class) s at - at) ≡ false
+  module _ (x : Option ℕ) (answer : x ≡ scan_end class least most s at) where
+    pub scan-bad : x ≡ None → within least most (run_end (in_class class) s at - at) ≡ false
     unfolding scan_end
     scan-bad i = by_cases (within least most (run_end (in_class class) s at - at))
-        (λ e. let a : x ≡ At (run_end (in_class class) s at) = answer ∙ rw e in let z : ◌≡◌ {A = ℕ} 0 1 = cc in absurd (omega arith))
+        (λ e. let a : x ≡ Some (run_end (in_class class) s at) = answer ∙ rw e in let z : ◌≡◌ {A = ℕ} 0 1 = cc in absurd (omega arith))
         (λ e. e)
 
-    pub scan-at : (to : ℕ) → x ≡ At to → (to ≡ run_end (in_class class) s at) × (within least most (to - at) ≡ true)
+    pub scan-at : (to : ℕ) → x ≡ Some to → (to ≡ run_end (in_class class) s at) × (within least most (to - at) ≡ true)
     unfolding scan_end
     scan-at to i = by_cases (within least most (run_end (in_class class) s at - at))
-        (λ e. let a : x ≡ At (run_end (in_class class) s at) = answer ∙ rw e in let is : to ≡ run_end (in_class class) s at = cc in (is, rw is e))
-        (λ e. let a : x ≡ Bad = answer ∙ rw e in let z : ◌≡◌ {A = ℕ} 0 1 = cc in absurd (omega arith))
+        (λ e. let a : x ≡ Some (run_end (in_class class) s at) = answer ∙ rw e in let is : to ≡ run_end (in_class class) s at = cc in (is, rw is e))
+        (λ e. let a : x ≡ None = answer ∙ rw e in let z : ◌≡◌ {A = ℕ} 0 1 = cc in absurd (omega arith))
 
-    pub scan-within : at ≤ length s → (to : ℕ) → x ≡ At to → (at + least ≤ to) × (to ≤ at + most) × (to ≤ length s)
+    pub scan-within : at ≤ length s → (to : ℕ) → x ≡ Some to → (at + least ≤ to) × (to ≤ at + most) × (to ≤ length s)
     scan-within h to i =
         let (is, fits) = scan-at to i in
         let w = run-within (in_class class) s at to is h in
@@ -60,12 +58,12 @@ module _ (class : Class) (least most : ℕ) (s : Bytes) (at : ℕ) where
 module _ (class : Class) (quote least most : ℕ) where
   -- ── By positions: what the function `between` answers ──
   module _ (s : Bytes) (at : ℕ) where
-    pub between-unopened : is_some (after (quote ∷ []) (drop at s)) ≡ false → text_answer s at Bad ≡ placed (read_between class quote least most) s at
+    pub between-unopened : is_some (after (quote ∷ []) (drop at s)) ≡ false → text_answer s at None ≡ placed (read_between class quote least most) s at
     unfolding read_between text_answer ◌>>=◌
     between-unopened h = sym (placed-none _ s at (rw (after-no (quote ∷ []) (drop at s) h)))
 
     -- the opening quote stands there, and behind it `scan` answers x
-    module _ (o : is_some (after (quote ∷ []) (drop at s)) ≡ true) (x : End) (answer : x ≡ scan_end class least most s (at + 1)) where
+    module _ (o : is_some (after (quote ∷ []) (drop at s)) ≡ true) (x : Option ℕ) (answer : x ≡ scan_end class least most s (at + 1)) where
       opened : (to : ℕ) → to ≡ run_end (in_class class) s (at + 1) → read_between class quote least most (drop at s) ≡
           (check (within least most (to - (at + 1))) >> (after (quote ∷ []) (drop to s) >>= λ r. Some (take (to - (at + 1)) (drop (at + 1) s), r)))
       unfolding read_between ◌>>=◌
@@ -75,18 +73,18 @@ module _ (class : Class) (quote least most : ℕ) where
           let n : length (take (to - (at + 1)) (drop (at + 1) s)) ≡ to - (at + 1) = length-take-le _ _ (rw length-drop (omega arith)) in
           rw (e, span-at (in_class class) s (at + 1) to is, n)
 
-      pub between-misfit : x ≡ Bad → text_answer s at Bad ≡ placed (read_between class quote least most) s at
+      pub between-misfit : x ≡ None → text_answer s at None ≡ placed (read_between class quote least most) s at
       unfolding text_answer check ◌>>◌
       between-misfit i = sym (placed-none _ s at (opened _ refl ∙ rw (scan-bad class least most s (at + 1) x answer i)))
 
-      module _ (to : ℕ) (i : x ≡ At to) where
-        pub between-unclosed : is_some (after (quote ∷ []) (drop to s)) ≡ false → text_answer s at Bad ≡ placed (read_between class quote least most) s at
+      module _ (to : ℕ) (i : x ≡ Some to) where
+        pub between-unclosed : is_some (after (quote ∷ []) (drop to s)) ≡ false → text_answer s at None ≡ placed (read_between class quote least most) s at
         unfolding text_answer ◌>>=◌
         between-unclosed n =
             let (is, fits) = scan-at class least most s (at + 1) x answer to i in
             sym (placed-none _ s at (opened to is ∙ rw (after-no (quote ∷ []) (drop to s) n) (check-none _)))
 
-        pub between-closed : is_some (after (quote ∷ []) (drop to s)) ≡ true → text_answer s at (At (to + 1)) ≡ placed (read_between class quote least most) s at
+        pub between-closed : is_some (after (quote ∷ []) (drop to s)) ≡ true → text_answer s at (Some (to + 1)) ≡ placed (read_between class quote least most) s at
         unfolding text_answer check ◌>>◌ ◌>>=◌
         between-closed c =
             let (is, fits) = scan-at class least most s (at + 1) x answer to i in
@@ -130,12 +128,12 @@ module _ (class : Class) (quote least most : ℕ) where
     pub passes : all (in_class class) (take (e - 2 - at) (drop (at + 1) s)) ≡ true
     pub reads : Reads (read_between class quote least most) s at (take (e - 2 - at) (drop (at + 1) s)) e
 
-  module _ (s : Bytes) (at : ℕ) (x : End) (answer : text_answer s at x ≡ placed (read_between class quote least most) s at) where
-    pub between-bad : x ≡ Bad → read_between class quote least most (drop at s) ≡ None
+  module _ (s : Bytes) (at : ℕ) (x : Option ℕ) (answer : text_answer s at x ≡ placed (read_between class quote least most) s at) where
+    pub between-bad : x ≡ None → read_between class quote least most (drop at s) ≡ None
     unfolding text_answer
     between-bad i = none-placed _ s at (sym (rw i at answer))
 
-    pub between-at : at ≤ length s → (e : ℕ) → x ≡ At e → Stands s at e
+    pub between-at : at ≤ length s → (e : ℕ) → x ≡ Some e → Stands s at e
     unfolding text_answer
     between-at h e i =
         let r = reads-placed _ s at between-leaves h _ e (sym (rw i at answer)) in

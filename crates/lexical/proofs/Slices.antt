@@ -1,14 +1,14 @@
 -- Comparing texts from a position on: after two equal bytes what is left is the same comparison of what stands behind them.
-use Prim.Native.Nat.{ℕ, ◌+◌, ◌-◌, ◌≤◌, ◌<◌, compare, Ordering}
+use Prim.Native.Nat.{ℕ, ◌+◌, ◌-◌, ◌≤◌, ◌<◌, min, compare, Ordering}
 use mathlib.Core.Path.{◌≡◌, refl, sym, ap, ◌∙◌}
 use Rattle.std.specs.Prelude.{Option, None, Some}
-use mathlib.Core.Bool.{Bool, true, false}
+use mathlib.Core.Bool.{true, false}
 use mathlib.Core.List.{List}
-use native.Mathlib.Nat.{add_assoc}
 use native.Mathlib.Omega.{arith}
 use lib.Dec.{is_le, compare_is_eq}
 use lib.ListN.{length, get_or, drop, length-append, length-drop}
 use lib.Seq.{drop-append_seam, drop-drop}
+use native.Mathlib.Nat.{add_assoc}
 use borrow.Author.Tests.{eq-eqb, ne_eqb, eqb-true, leb-true, leb-false}
 use Rattle.rows.proofs.Positions.{here, over}
 use Rattle.model.specs.Base.{Bytes, ◌≐◌, after, is_some}
@@ -17,8 +17,10 @@ use Rattle.model.proofs.Lists.{by_cases, never, bytes_eq, bytes-refl}
 use Rattle.model.proofs.Order.{by_three, compare-orders}
 use Rattle.model.proofs.Reading.{after-some}
 use Rattle.lexical.specs.Orders.{order_of, is_greater}
-use Rattle.lexical.specs.declared.slice.Order.{Order}
-use Rattle.lexical.specs.declared.slice.Order.TheVariants.{Less, Equal, Greater}
+use Rattle.std.specs.declared.cmp.Ordering as answer
+use Rattle.std.specs.declared.cmp.Ordering.TheVariants.{Less, Equal, Greater}
+use Rattle.std.specs.Ordering.{MatchOrdering, nat_cmp, is_gt}
+use Rattle.std.specs.Cmp.{ranks}
 
 -- ── Whether two texts are the same ──
 module _ (a b : Bytes) where
@@ -76,36 +78,47 @@ module _ (x y : ℕ) where
       (λ e. absurd (omega (arith, leb-true x y (ap is_le e))))
       (λ e. e)
 
+-- two numbers that differ decide, whatever follows
+pub different-first : (x y : ℕ) → (x ≡ y → ⊥) → (r : Ordering) → and_then (compare x y) r ≡ compare x y
+unfolding and_then
+different-first x y h r = go (compare x y) refl
+  where
+    go : (o : Ordering) → compare x y ≡ o → and_then o r ≡ o
+    go Ordering.lt e = refl
+    go Ordering.eq e = absurd (h (eqb-true x y (ap compare_is_eq e)))
+    go Ordering.gt e = refl
+
 module _ (a b : Bytes) (i : ℕ) (p : i < length a) (q : i < length b) where
   pub order-step : get_or a i 0 ≡ get_or b i 0 → lex compare (drop i a) (drop i b) ≡ lex compare (drop (i + 1) a) (drop (i + 1) b)
   unfolding and_then
   order-step h = lex-step compare 0 a b i p q ∙ rw (compare_same (get_or a i 0) (get_or b i 0) h)
 
-  pub order-less : get_or a i 0 < get_or b i 0 → lex compare (drop i a) (drop i b) ≡ Ordering.lt
-  unfolding and_then
-  order-less h = lex-step compare 0 a b i p q ∙ rw (compare-less (get_or a i 0) (get_or b i 0) h)
+  pub order-differs : (get_or a i 0 ≡ get_or b i 0 → ⊥) → lex compare (drop i a) (drop i b) ≡ compare (get_or a i 0) (get_or b i 0)
+  order-differs h = lex-step compare 0 a b i p q ∙ different-first _ _ h _
 
-  pub order-more : get_or b i 0 < get_or a i 0 → lex compare (drop i a) (drop i b) ≡ Ordering.gt
-  unfolding and_then
-  order-more h = lex-step compare 0 a b i p q ∙ rw (compare-more (get_or a i 0) (get_or b i 0) h)
-
--- an answer as the order that it tells
-abbrev pub order_in : Order → Ordering
-order_in Less = Ordering.lt
-order_in Equal = Ordering.eq
-order_in Greater = Ordering.gt
-
-pub order-told : (o : Ordering) {r v : Order} → r ≡ order_of o → r ≡ v → o ≡ order_in v
-order-told o h e = told o ∙ ap order_in (sym h ∙ e)
+-- where one ends, the lengths decide
+pub order-ends : (a b : Bytes) (i : ℕ) → i ≡ min (length a) (length b) → lex compare (drop i a) (drop i b) ≡ compare (length a) (length b)
+order-ends a b i e = go (nat_cmp (length a) (length b)) (ranks (length a) (length b))
   where
-    told : (o : Ordering) → o ≡ order_in (order_of o)
-    told Ordering.lt = refl
-    told Ordering.eq = refl
-    told Ordering.gt = refl
+    go : (o : answer.Ordering) → MatchOrdering o (length a < length b) (length a ≡ length b) (length b < length a) → lex compare (drop i a) (drop i b) ≡ compare (length a) (length b)
+    go Less h = lex-shorter compare 0 a b i (omega arith) (omega arith) ∙ sym (compare-less _ _ h)
+    go Equal h = lex-end compare 0 a b i (omega arith) (omega arith) ∙ sym (compare_same _ _ h)
+    go Greater h = lex-longer compare 0 a b i (omega arith) (omega arith) ∙ sym (compare-more _ _ h)
 
--- so what it tells of whether the first is behind is so
-pub behind-told : (o : Ordering) {r v : Order} → r ≡ order_of o → r ≡ v → {b : Bool} → is_greater (order_in v) ≡ b → b ≡ is_greater o
-behind-told o h e b = sym b ∙ ap is_greater (sym (order-told o h e))
+-- the library's order of two numbers, as the model's
+pub cmp-order : (x y : ℕ) → nat_cmp x y ≡ order_of (compare x y)
+cmp-order x y = go (nat_cmp x y) (ranks x y)
+  where
+    go : (o : answer.Ordering) → MatchOrdering o (x < y) (x ≡ y) (y < x) → o ≡ order_of (compare x y)
+    go Less h = ap order_of (sym (compare-less x y h))
+    go Equal h = ap order_of (sym (compare_same x y h))
+    go Greater h = ap order_of (sym (compare-more x y h))
+
+pub greater-told : (o : Ordering) → is_gt (order_of o) ≡ is_greater o
+unfolding by_order
+greater-told Ordering.lt = refl
+greater-told Ordering.eq = refl
+greater-told Ordering.gt = refl
 
 pub behind-order : (o : Ordering) → is_greater o ≡ true → o ≡ Ordering.gt
 unfolding by_order

@@ -1,6 +1,6 @@
 -- The byte classes by their names, and what stands between quotes.
 use Rattle.std.specs.Prelude.{ℕ, ◌+◌, ◌-◌, [], ◌∷◌, Bool, not, eqb, length, take, drop, if◌then◌else◌}
-use Rattle.std.specs.Prelude.{Option, None, Some}
+use Rattle.std.specs.Prelude.{Option, None, Some, option_map}
 use Rattle.rows.specs.Positions.{run_end}
 use Rattle.model.specs.Base.{Bytes, ◌>>=◌, ◌>>◌, check, after, span, within, is_digit}
 use Rattle.model.specs.Names.{name_byte, plain_byte}
@@ -9,8 +9,6 @@ use Rattle.model.specs.Paths.{identifier_byte}
 use Rattle.model.specs.RecordText.{is_blank}
 use Rattle.lexical.specs.declared.class.Class.{Class}
 use Rattle.lexical.specs.declared.class.Class.TheVariants.{Name, Plain, Text, Digit, Identifier, Blank}
-use Rattle.lexical.specs.declared.class.End.{End}
-use Rattle.lexical.specs.declared.class.End.TheVariants.{At, Bad}
 
 abbrev pub in_class : Class → ℕ → Bool
 in_class Name = name_byte
@@ -25,10 +23,10 @@ unfoldable pub is_not : ℕ → ℕ → Bool
 is_not b x = not (eqb x b)
 
 -- from `least` to `most` bytes of a class, from `at` on: where they end
-unfoldable pub scan_end : Class → ℕ → ℕ → Bytes → ℕ → End
+unfoldable pub scan_end : Class → ℕ → ℕ → Bytes → ℕ → Option ℕ
 scan_end class least most s at =
     let to = run_end (in_class class) s at in
-    if within least most (to - at) then At to else Bad
+    if within least most (to - at) then Some to else None
 
 -- from `least` to `most` bytes of a class between two quotes
 unfoldable pub read_between : Class → ℕ → ℕ → ℕ → Bytes → Option (Bytes × Bytes)
@@ -40,6 +38,5 @@ read_between class quote least most s = do
   Some (b, r₁)
 
 -- an answer of a text in quotes that begin at `at`
-unfoldable pub text_answer : Bytes → ℕ → End → Option (Bytes × ℕ)
-text_answer s at (At e) = Some (take (e - 2 - at) (drop (at + 1) s), e)
-text_answer s at Bad = None
+unfoldable pub text_answer : Bytes → ℕ → Option ℕ → Option (Bytes × ℕ)
+text_answer s at r = option_map (λ e. (take (e - 2 - at) (drop (at + 1) s), e)) r

@@ -3,10 +3,10 @@ use Prim.Native.Nat.{ℕ, zero, suc, ◌+◌, ◌*◌, ◌^◌, ◌<◌, Orderin
 use Rattle.std.specs.Prelude.{Bool, true, false, ◌&&◌, ltb, leb, length, get_or, drop, if◌then◌else◌}
 use Rattle.model.specs.Base.{Bytes}
 use Rattle.model.specs.Fields.{by_order}
-use Rattle.lexical.specs.declared.slice.Order.{Order}
-use Rattle.lexical.specs.declared.slice.Order.TheVariants.{Less, Equal, Greater}
+use Rattle.std.specs.declared.cmp.Ordering as answer
+use Rattle.std.specs.declared.cmp.Ordering.TheVariants.{Less, Equal, Greater}
 
-abbrev pub order_of : Ordering → Order
+abbrev pub order_of : Ordering → answer.Ordering
 order_of Ordering.lt = Less
 order_of Ordering.eq = Equal
 order_of Ordering.gt = Greater

@@ -11,6 +11,7 @@ ghost use Rattle.lexical.specs.Classes.{in_class, scan_end, read_between, text_a
 use crate::limits::{MAX_KEY, MAX_NAME};
 use crate::slice::is_at;
 
+// A class is a value, so that contracts can name it (`in_class`); document 01 has them decided by match with ranges.
 #[derive(Clone, Copy)]
 pub enum Class {
     Name,
@@ -21,13 +22,7 @@ pub enum Class {
     Blank,
 }
 
-// Where a reader ends, or that it reads nothing.
-#[derive(Clone, Copy)]
-pub enum End {
-    At(usize),
-    Bad,
-}
-
+#[tactic(auto, unfolding(model::specs::Names::name_byte, model::specs::Base::within))]
 pub fn is_name_byte(b: u8) -> bool
     ensures { result ≡ name_byte b }
 {
@@ -38,6 +33,7 @@ pub fn is_name_byte(b: u8) -> bool
     }
 }
 
+#[tactic(auto, unfolding(model::specs::Names::plain_byte, model::specs::Names::is_letter, model::specs::Base::is_digit, model::specs::Base::within))]
 pub fn is_plain_byte(b: u8) -> bool
     ensures { result ≡ plain_byte b }
 {
@@ -48,6 +44,7 @@ pub fn is_plain_byte(b: u8) -> bool
     }
 }
 
+#[tactic(auto, unfolding(model::specs::Values::string_byte, model::specs::Base::within))]
 pub fn is_text_byte(b: u8) -> bool
     ensures { result ≡ string_byte b }
 {
@@ -58,6 +55,7 @@ pub fn is_text_byte(b: u8) -> bool
     }
 }
 
+#[tactic(auto, unfolding(model::specs::Base::is_digit, model::specs::Base::within))]
 pub fn is_digit(b: u8) -> bool
     ensures { result ≡ is_digit b }
 {
@@ -67,6 +65,7 @@ pub fn is_digit(b: u8) -> bool
     }
 }
 
+#[tactic(auto, unfolding(model::specs::Paths::identifier_byte, model::specs::Names::is_letter, model::specs::Base::is_digit, model::specs::Base::within))]
 pub fn is_identifier_byte(b: u8) -> bool
     ensures { result ≡ identifier_byte b }
 {
@@ -77,6 +76,7 @@ pub fn is_identifier_byte(b: u8) -> bool
     }
 }
 
+#[tactic(auto, unfolding(model::specs::RecordText::is_blank))]
 pub fn is_blank(b: u8) -> bool
     ensures { result ≡ is_blank b }
 {
@@ -104,30 +104,27 @@ pub fn run(s: &[u8], at: usize, class: Class) -> usize
     requires { at ≤ length s.now }
     ensures { result ≡ run_end (in_class class) s.now at }
 {
-    let mut i = at;
-    while i < s.len() {
-        if passes(class, s[i]) {
-            i += 1;
-        } else {
+    for i in at..s.len() {
+        if !passes(class, s[i]) {
             return i;
         }
     }
-    i
+    s.len()
 }
 
 // From `least` to `most` bytes of a class, from `at` on: where they end.
-pub fn scan(s: &[u8], at: usize, class: Class, least: usize, most: usize) -> End
+pub fn scan(s: &[u8], at: usize, class: Class, least: usize, most: usize) -> Option<usize>
     requires { at ≤ length s.now }
     ensures { result ≡ scan_end class least most s.now at }
 {
     let to = run(s, at, class);
     if to - at < least {
-        return End::Bad;
+        return None;
     }
     if most < to - at {
-        return End::Bad;
+        return None;
     }
-    End::At(to)
+    Some(to)
 }
 
 // Whether a text is a name of at most `most` bytes.
@@ -143,12 +140,14 @@ fn is_name_of(s: &[u8], most: usize) -> bool
     run(s, 0, Class::Name) == s.len()
 }
 
+#[tactic(auto, unfolding(model::specs::Names::is_name))]
 pub fn is_name(s: &[u8]) -> bool
     ensures { result ≡ is_name s.now }
 {
     is_name_of(s, MAX_NAME)
 }
 
+#[tactic(auto, unfolding(model::specs::Names::is_key))]
 pub fn is_key(s: &[u8]) -> bool
     ensures { result ≡ is_key s.now }
 {
@@ -165,18 +164,23 @@ pub fn is_plain(s: &[u8]) -> bool
 }
 
 // From `least` to `most` bytes of a class between two quotes: where the closing one ends.
-pub fn between(s: &[u8], at: usize, quote: u8, class: Class, least: usize, most: usize) -> End
+pub fn between(
+    s: &[u8],
+    at: usize,
+    quote: u8,
+    class: Class,
+    least: usize,
+    most: usize,
+) -> Option<usize>
     requires { at ≤ length s.now }
     ensures { text_answer s.now at result ≡ placed (read_between class quote least most) s.now at }
 {
     if !is_at(s, at, quote) {
-        return End::Bad;
+        return None;
     }
-    let End::At(to) = scan(s, at + 1, class, least, most) else {
-        return End::Bad;
-    };
+    let to = scan(s, at + 1, class, least, most)?;
     if !is_at(s, to, quote) {
-        return End::Bad;
+        return None;
     }
-    End::At(to + 1)
+    Some(to + 1)
 }

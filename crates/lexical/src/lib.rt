@@ -1,7 +1,6 @@
 // Bytes of lines and texts: classes, comparing and numbers.
 #![tactic(auto)]
 
-pub mod bounds;
 pub mod class;
 pub mod limits;
 pub mod number;

@@ -1,4 +1,4 @@
-// Comparing slices.
+// Comparing slices. The library's `==`, `cmp` and `>` were tried in place of these, and take more instructions (DECISIONS 142): names begin alike and differ at their ends.
 ghost use Rattle.std.specs.Prelude.{◌≡◌, true, [], ◌∷◌, length, drop};
 ghost use Prim.Native.Nat.{◌+◌, ◌≤◌, compare};
 ghost use Rattle.rows.specs.Positions.{run_end};
@@ -7,28 +7,17 @@ ghost use Rattle.model.specs.Fields.{lex, order_key};
 ghost use Rattle.lexical.specs.Classes.{is_not};
 ghost use Rattle.lexical.specs.Orders.{order_of, is_greater, word_bytes, big_endian, AreBytes, first_word, begins_before};
 
-use crate::bounds::least;
+use std::cmp::Ordering;
 
 // Bytes that are compared at once, as one number.
 const WORD: usize = 8;
 
-#[derive(Clone, Copy)]
-pub enum Order {
-    Less,
-    Equal,
-    Greater,
-}
-
-// The first bytes, a word of them, as one number, in which the first counts most: sums of products, which the compiler turns into one load.
+// The first bytes, a word of them, as one number, in which the first counts most.
 fn word(a: &[u8]) -> u64
     requires { word_bytes ≤ length a.now }
     ensures { result ≡ big_endian word_bytes a.now }
 {
-    let p = 72057594037927936 * (a[0] as u64) + 281474976710656 * (a[1] as u64);
-    let q = 1099511627776 * (a[2] as u64) + 4294967296 * (a[3] as u64);
-    let r = 16777216 * (a[4] as u64) + 65536 * (a[5] as u64);
-    let s = 256 * (a[6] as u64) + (a[7] as u64);
-    (p + q) + (r + s)
+    u64::from_be_bytes([a[0], a[1], a[2], a[3], a[4], a[5], a[6], a[7]])
 }
 
 // Whether two slices are the same, byte by byte: short enough to stand in a loop. Names often begin alike, so the last bytes are compared first.
@@ -38,9 +27,7 @@ pub fn same_bytes(a: &[u8], b: &[u8]) -> bool
     if a.len() != b.len() {
         return false;
     }
-    let mut i = a.len();
-    while 0 < i {
-        i -= 1;
+    for i in (0..a.len()).rev() {
         if a[i] != b[i] {
             return false;
         }
@@ -78,46 +65,29 @@ pub fn same(a: &[u8], b: &[u8]) -> bool
 }
 
 // The order of what stands from a position on, byte by byte.
-fn compare_from(a: &[u8], b: &[u8], from: usize) -> Order
+fn compare_from(a: &[u8], b: &[u8], from: usize) -> Ordering
     requires { (from ≤ length a.now) × (from ≤ length b.now) }
     ensures { result ≡ order_of (lex compare (drop from a.now) (drop from b.now)) }
 {
-    let n = least(a.len(), b.len());
-    let mut i = from;
-    while i < n {
-        let x = a[i];
-        let y = b[i];
-        if x != y {
-            if x < y {
-                return Order::Less;
-            }
-            return Order::Greater;
+    for i in from..a.len().min(b.len()) {
+        if a[i] != b[i] {
+            return a[i].cmp(&b[i]);
         }
-        i += 1;
     }
-    if i < b.len() {
-        return Order::Less;
-    }
-    if i < a.len() {
-        return Order::Greater;
-    }
-    Order::Equal
+    a.len().cmp(&b.len())
 }
 
 // By byte value, a shorter slice before a longer one that it begins. Where both have a word, the first ones are compared as two numbers.
-pub fn compare(a: &[u8], b: &[u8]) -> Order
+pub fn compare(a: &[u8], b: &[u8]) -> Ordering
     ensures { result ≡ order_of (order_key a.now b.now) }
 {
-    if least(a.len(), b.len()) < WORD {
+    if a.len().min(b.len()) < WORD {
         return compare_from(a, b, 0);
     }
     let x = word(a);
     let y = word(b);
-    if x < y {
-        return Order::Less;
-    }
-    if y < x {
-        return Order::Greater;
+    if x != y {
+        return x.cmp(&y);
     }
     compare_from(a, b, WORD)
 }
@@ -127,11 +97,7 @@ fn is_behind_from(a: &[u8], b: &[u8], from: usize) -> bool
     requires { (from ≤ length a.now) × (from ≤ length b.now) }
     ensures { result ≡ is_greater (lex compare (drop from a.now) (drop from b.now)) }
 {
-    match compare_from(a, b, from) {
-        Order::Less => false,
-        Order::Equal => false,
-        Order::Greater => true,
-    }
+    compare_from(a, b, from).is_gt()
 }
 
 // Whether a stands behind b in this order: `compare` for a search, short enough to stand in its loop.
@@ -139,7 +105,7 @@ fn is_behind_from(a: &[u8], b: &[u8], from: usize) -> bool
 pub fn is_behind(a: &[u8], b: &[u8]) -> bool
     ensures { result ≡ is_greater (order_key a.now b.now) }
 {
-    let n = least(a.len(), b.len());
+    let n = a.len().min(b.len());
     if n < WORD {
         return is_behind_from(a, b, 0);
     }
@@ -148,7 +114,7 @@ pub fn is_behind(a: &[u8], b: &[u8]) -> bool
     if x != y {
         return y < x;
     }
-    let second = least(n - WORD, WORD);
+    let second = (n - WORD).min(WORD);
     let v = word(&a[second..]);
     let w = word(&b[second..]);
     if v != w {
@@ -157,7 +123,7 @@ pub fn is_behind(a: &[u8], b: &[u8]) -> bool
     is_behind_from(a, b, second + WORD)
 }
 
-// The first word of a slice, for a search that compares many with it; 0 where it is shorter. That these are bytes is promised too: `begins_before` rests on it.
+// The first word of a slice, for a search that compares many with it; 0 where it is shorter, which nothing passes. That these are bytes is promised too: `begins_before` rests on it.
 pub fn first_word(a: &[u8]) -> u64
     ensures { (result ≡ first_word a.now) × AreBytes a.now }
 {
@@ -178,7 +144,7 @@ pub fn begins_before(b: &[u8], x: u64) -> bool
     word(b) < x
 }
 
-// Whether the word w stands at the position.
+// Whether the word w stands at the position: by a loop, since the library's `starts_with` is slower for words of a few bytes (DECISIONS 143).
 pub fn starts(s: &[u8], at: usize, w: &[u8]) -> bool
     requires { at ≤ length s.now }
     ensures { result ≡ is_some (after w.now (drop at s.now)) }
@@ -186,12 +152,10 @@ pub fn starts(s: &[u8], at: usize, w: &[u8]) -> bool
     if s.len() - at < w.len() {
         return false;
     }
-    let mut i = 0;
-    while i < w.len() {
+    for i in 0..w.len() {
         if s[at + i] != w[i] {
             return false;
         }
-        i += 1;
     }
     true
 }
@@ -200,10 +164,7 @@ pub fn starts(s: &[u8], at: usize, w: &[u8]) -> bool
 pub fn is_at(s: &[u8], at: usize, b: u8) -> bool
     ensures { result ≡ is_some (after (b ∷ []) (drop at s.now)) }
 {
-    if s.len() <= at {
-        return false;
-    }
-    s[at] == b
+    at < s.len() && s[at] == b
 }
 
 // Where the byte b next stands, from `at` on, or where the text ends.
@@ -211,12 +172,10 @@ pub fn until(s: &[u8], at: usize, b: u8) -> usize
     requires { at ≤ length s.now }
     ensures { result ≡ run_end (is_not b) s.now at }
 {
-    let mut i = at;
-    while i < s.len() {
+    for i in at..s.len() {
         if s[i] == b {
             return i;
         }
-        i += 1;
     }
-    i
+    s.len()
 }

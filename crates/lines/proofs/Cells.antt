@@ -1,110 +1,45 @@
--- The values of a line by positions, and a name looked up among a head's.
-use Prim.Native.Nat.{ℕ, suc, ◌+◌, ◌-◌, ◌≤◌, ◌<◌}
-use mathlib.Core.Path.{◌≡◌, refl, ap₂, ◌∙◌}
-use mathlib.Core.Bool.{true, false}
-use mathlib.Core.List.{List, [], ◌∷◌}
-use native.Mathlib.Omega.{arith}
-use lib.Dec.{eqb}
-use lib.ListN.{length, get_or, take, drop}
-use borrow.Author.Tests.{eq-eqb, ne_eqb}
-use Rattle.rows.specs.Rows.{up_to}
-use Rattle.rows.specs.Positions.{run, run_end}
-use Rattle.rows.proofs.Positions.{here, over, run-part, run-rest}
+-- The values of a line as `split` of a slice yields them, and a name looked up among a head's.
+use Rattle.std.proofs.Common.{◌≡◌, ℕ, Bool, false, List, [], ◌∷◌, eqb, refl, ap, ◌∙◌, Option, Some, None, Bor}
+use denote.Param.Members.{Mut}
+use Rattle.std.specs.Option.{UnwrapsOrElse, unwrap_or, option_map}
+use Rattle.std.specs.Fn.{CalledAt}
+use Rattle.std.specs.List.{slice_split, onto_first, list_any, find, zip}
+use Rattle.std.specs.Slice.Iter as slice
+use Rattle.std.proofs.lemmas.Iterator.{YieldsList}
+use Rattle.std.proofs.lemmas.Iterator.Splits.{YieldsList-from_slice_split}
 use Rattle.model.specs.Base.{Bytes, any, among, ◌≐◌}
 use Rattle.model.specs.Table.{on_first, split, under}
 use Rattle.model.proofs.Lists.{by_cases}
-use Rattle.lexical.specs.Classes.{is_not}
 
 -- ── Values ──
--- the values behind a value: there are none at the line's end, and else what the `;` is followed by
-further : Bytes → List Bytes
-further [] = []
-further (x ∷ s) = split s
-
-split-run : (s : Bytes) → split s ≡ run (is_not 0x3B) s ∷ further (drop (length (run (is_not 0x3B) s)) s)
-unfolding split on_first up_to is_not further
-split-run [] = refl
-split-run (x ∷ s) = by_cases (eqb x 0x3B) (λ e. rw e) (λ e. rw (e, split-run s))
-
--- the first value from the position `at` on ends at e: at the line's end, or before it
-module _ (s : Bytes) (at e : ℕ) (is : e ≡ run_end (is_not 0x3B) s at) where
-  split_at : split (drop at s) ≡ take (e - at) (drop at s) ∷ further (drop e s)
-  split_at =
-      split-run (drop at s)
-      ∙ ap₂ (λ (a r : Bytes). a ∷ further r) (run-part (is_not 0x3B) s at e is) (run-rest (is_not 0x3B) s at e is)
-
-  pub split-last : length s ≤ e → split (drop at s) ≡ take (e - at) (drop at s) ∷ []
-  unfolding further
-  split-last h = split_at ∙ rw (over s e h)
-
-  pub split-more : e < length s → split (drop at s) ≡ take (e - at) (drop at s) ∷ split (drop (e + 1) s)
-  unfolding further
-  split-more h = split_at ∙ rw (here 0 s e h)
-
-  -- it is the value at 0; a later one is among those behind it, or is none
-  pub value-first : get_or (split (drop at s)) 0 [] ≡ take (e - at) (drop at s)
-  value-first = rw split_at
-
-  module _ (k j : ℕ) (later : k < j) where
-    pub value_none : length s ≤ e → get_or (split (drop at s)) (j - k) [] ≡ []
-    value_none h = let n : j - k ≡ suc (j - (k + 1)) = omega arith in rw (split-last h, n)
-
-    pub value-next : e < length s → get_or (split (drop at s)) (j - k) [] ≡ get_or (split (drop (e + 1) s)) (j - (k + 1)) []
-    value-next h = let n : j - k ≡ suc (j - (k + 1)) = omega arith in rw (split-more h, n)
-
--- ── How many ──
-length-first : (x : ℕ) (s : Bytes) → length (on_first x (split s)) ≡ length (split s)
+on_first-is : (x : ℕ) (l : List Bytes) → onto_first x l ≡ on_first x l
 unfolding on_first
-length-first x s = rw (split-run s)
+on_first-is x [] = refl
+on_first-is x (f ∷ fs) = refl
 
-module _ (s : Bytes) (i : ℕ) where
-  pub count-more : i < length s → get_or s i 0 ≡ 0x3B → length (split (drop i s)) ≡ 1 + length (split (drop (i + 1) s))
-  unfolding split
-  count-more h e = rw (here 0 s i h, eq-eqb (get_or s i 0) 0x3B e) (omega arith)
+pub split-is : (s : Bytes) → slice_split (λ b. eqb b 0x3B) s ≡ split s
+unfolding split
+split-is [] = refl
+split-is (x ∷ s) = by_cases (eqb x 0x3B) (λ e. rw (e, split-is s)) (λ e. rw (e, split-is s, on_first-is))
 
-  pub count_same : i < length s → (get_or s i 0 ≡ 0x3B → ⊥) → length (split (drop i s)) ≡ length (split (drop (i + 1) s))
-  unfolding split
-  count_same h f = rw (here 0 s i h, ne_eqb (get_or s i 0) 0x3B f) (length-first (get_or s i 0) (drop (i + 1) s))
+-- the items of a `split` at each `;`
+pub values-of : {F : Type 0} {s : _} (g : Mut F (Bor ℕ × Unit {0}) Bool) {f : F} (line : Bytes) → slice.split_rest s ≡ line → slice.split_done s ≡ false → slice.split_callee s ≡ f → ((x : ℕ) (b : Bool) (q : F) → CalledAt g f x b q → (q ≡ f) × (b ≡ eqb x 0x3B)) → YieldsList (slice.split_steps g) (λ x. x.now) s (split line)
+values-of g line rest done closure calls = rw (← split-is line) (YieldsList-from_slice_split g (λ b. eqb b 0x3B) line rest done closure calls)
 
-  pub count-over : length s ≤ i → length (split (drop i s)) ≡ 1
-  unfolding split
-  count-over h = rw (over s i h)
+-- what an answer that may be missing shows, or nothing
+pub or-none : (o : Option (Bor Bytes)) (r : Bor Bytes) (p : Option Bytes) → UnwrapsOrElse o (λ x. x.now ≡ []) r → option_map (λ x. x.now) o ≡ p → r.now ≡ unwrap_or p []
+or-none None r p h e = h ∙ ap (λ q. unwrap_or q []) e
+or-none (Some x) r p h e = ap (λ y. y.now) h ∙ ap (λ q. unwrap_or q []) e
 
--- ── A name among a head's columns, of which the first from the position `at` on ends at e ──
-module _ (n s : Bytes) (at e : ℕ) (is : e ≡ run_end (is_not 0x3B) s at) where
-  pub among-here : (n ≐ take (e - at) (drop at s)) ≡ true → among n (split (drop at s)) ≡ true
-  unfolding among any
-  among-here h = rw (split_at s at e is, h)
+-- ── A name among a head's columns ──
+pub among-is : (n : Bytes) (l : List Bytes) → list_any (λ m. n ≐ m) l ≡ among n l
+unfolding among any
+among-is n [] = refl
+among-is n (m ∷ l) = rw (among-is n l)
 
-  module _ (other : (n ≐ take (e - at) (drop at s)) ≡ false) where
-    pub among-last : length s ≤ e → among n (split (drop at s)) ≡ false
-    unfolding among any
-    among-last h = rw (split-last s at e is h, other)
-
-    pub among-more : e < length s → among n (split (drop at s)) ≡ among n (split (drop (e + 1) s))
-    unfolding among any
-    among-more h = rw (split-more s at e is h, other)
-
--- ── The value under a name, the same way: the line's value from the position `from` on ends at k ──
-under_none : (hs : List Bytes) (n : Bytes) → under hs [] n ≡ []
+-- ── The value under a name ──
+pub under-is : (hs vs : List Bytes) (n : Bytes) → unwrap_or (option_map (λ (p : Bytes × Bytes). p.1) (find (λ p. p.0 ≐ n) (zip hs vs))) [] ≡ under hs vs n
 unfolding under
-under_none [] n = refl
-under_none (h ∷ hs) n = refl
-
-module _ (n s : Bytes) (at e : ℕ) (is : e ≡ run_end (is_not 0x3B) s at) (t : Bytes) (from k : ℕ) (is₁ : k ≡ run_end (is_not 0x3B) t from) where
-  pub under-here : (take (e - at) (drop at s) ≐ n) ≡ true → under (split (drop at s)) (split (drop from t)) n ≡ take (k - from) (drop from t)
-  unfolding under
-  under-here h = rw (split_at s at e is, split_at t from k is₁, h)
-
-  module _ (other : (take (e - at) (drop at s) ≐ n) ≡ false) where
-    pub under_last : length s ≤ e → under (split (drop at s)) (split (drop from t)) n ≡ []
-    unfolding under
-    under_last h = rw (split-last s at e is h, split_at t from k is₁, other)
-
-    pub under-short : length t ≤ k → under (split (drop at s)) (split (drop from t)) n ≡ []
-    unfolding under
-    under-short h = rw (split_at s at e is, split-last t from k is₁ h, other) (under_none (further (drop e s)) n)
-
-    pub under_more : e < length s → k < length t → under (split (drop at s)) (split (drop from t)) n ≡ under (split (drop (e + 1) s)) (split (drop (k + 1) t)) n
-    unfolding under
-    under_more h l = rw (split-more s at e is h, split-more t from k is₁ l, other)
+under-is [] vs n = refl
+under-is (h ∷ hs) [] n = refl
+under-is (h ∷ hs) (v ∷ vs) n = by_cases (h ≐ n) (λ e. rw e) (λ e. rw (e, under-is hs vs n))

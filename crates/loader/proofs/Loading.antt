@@ -2,7 +2,7 @@
 use Prim.Native.Nat.{ℕ, ◌+◌, ◌-◌, ◌≤◌, ◌<◌}
 use mathlib.Core.Path.{◌≡◌, refl, sym, ap, ◌∙◌}
 use mathlib.Core.Bool.{true, false}
-use Rattle.std.specs.Prelude.{Option, None, Some}
+use Rattle.std.specs.Prelude.{Option, None, Some, option_map}
 use mathlib.Core.List.{[], ◌∷◌, ◌++◌}
 use native.Mathlib.Omega.{arith}
 use borrow.Author.Tests.{ne_eqb, le-leb, lt-leb}
@@ -21,11 +21,7 @@ use Rattle.model.proofs.Lists.{by_cases, none-some, refused-done, done-same, if-
 use Rattle.model.proofs.Reading.{bind-some, check-some, some_same}
 use Rattle.model.proofs.Spelling.{key-named, value-valid}
 use Rattle.model.proofs.TreeValid.{key-read}
-use Rattle.lexical.specs.declared.class.End.{End}
-use Rattle.lexical.specs.declared.class.End.TheVariants.{At, Bad}
 use Rattle.values.specs.declared.value.Scalar.{Scalar}
-use Rattle.values.specs.declared.value.ValueAt.{ValueAt}
-use Rattle.values.specs.declared.value.ValueAt.TheVariants as value-at
 use Rattle.values.specs.Scalars.{value_in, value_answer}
 use Rattle.paths.specs.Layout.{path_in}
 use Rattle.layout.proofs.Counts.{length-counted}
@@ -36,10 +32,8 @@ use Rattle.record.specs.Search.{stored_at}
 use Rattle.record.proofs.Slots.{held-valid}
 use Rattle.record.proofs.Canonical.{none-canonical}
 use Rattle.reader.specs.Tokens.{read_scalar, read_member, mapped, read_top}
-use Rattle.loader.specs.Loaded.{loaded, load_answer, fields_of}
-use Rattle.reader.specs.Summaries.{reading_of, read_answer}
-use Rattle.reader.specs.declared.grammar.RecordRead.{RecordRead}
-use Rattle.reader.specs.declared.grammar.RecordRead.TheVariants as record-read
+use Rattle.loader.specs.Loaded.{loaded, fields_of}
+use Rattle.reader.specs.Summaries.{reading_of}
 use Rattle.reader.proofs.Spaced.{skip_at, scalar-reads}
 use Rattle.reader.proofs.Mapped.{mapped-is}
 use Rattle.reader.proofs.Objects.{read_node, node-leaf, node-mapped}
@@ -61,7 +55,7 @@ scalar-valid s r v h =
     rw e at (value-valid s t.1 t.0 value)
 
 -- a value that was read at v
-pub leaf-valid : (s : Bytes) (v : ℕ) (x : ValueAt) → value_answer s x ≡ placed read_scalar s v → v ≤ length s → (w : Scalar) (e : ℕ) → x ≡ value-at.At w e
+pub leaf-valid : (s : Bytes) (v : ℕ) (x : Option (Scalar × ℕ)) → value_answer s x ≡ placed read_scalar s v → v ≤ length s → (w : Scalar) (e : ℕ) → x ≡ Some (w, e)
     → valid_value (value_in s w) ≡ true
 leaf-valid s v x answer h w e i = scalar-valid _ _ _ (scalar-reads s v x answer h w e i).is
 
@@ -92,13 +86,13 @@ module _ {p : Keys} {k slot : Bytes} (child : Child p k slot) where
     unfolding stored_at store_node
     leaf-stored v h = rw (has_key, child.is, held-valid v h)
 
-    module _ (d : ℕ) (s : Bytes) (v : ℕ) (x : ValueAt) (answer : value_answer s x ≡ placed read_scalar s v) where
-      pub leaf-loaded : v ≤ length s → (w : Scalar) (e : ℕ) → x ≡ value-at.At w e
+    module _ (d : ℕ) (s : Bytes) (v : ℕ) (x : Option (Scalar × ℕ)) (answer : value_answer s x ≡ placed read_scalar s v) where
+      pub leaf-loaded : v ≤ length s → (w : Scalar) (e : ℕ) → x ≡ Some (w, e)
           → Some (stored_at slot (value_in s w) fs, e) ≡ placed (mapped (node_loaded (p ++ k ∷ []) fs) (read_node d)) s v
       leaf-loaded h w e i =
           rw (leaf-stored (value_in s w) (leaf-valid s v x answer h w e i)) (mapped-is _ (read_node d) s v _ e (node-leaf d s v x answer h w e i))
 
-      pub object-loaded : x ≡ value-at.Bad
+      pub object-loaded : x ≡ None
           → placed (mapped (loaded (path_in slot) fs) (read_object d)) s v ≡ placed (mapped (node_loaded (p ++ k ∷ []) fs) (read_node d)) s v
       unfolding loaded store_node
       object-loaded i = rw child.is (node-mapped d s v x answer i (node_loaded (p ++ k ∷ []) fs))
@@ -134,24 +128,19 @@ tree-top s m h =
     check-some _ _ m h₁ λ rest h₂.
     (t.1, read ∙ ap (λ (o : Members). Some (o, t.1)) (some_same h₂))
 
-loaded-same : (fs gs : Fields) (e : ℕ) (x : End) → load_answer fs x ≡ Some (gs, e) → fs ≡ gs
-loaded-same fs gs e (At n) h = ap (λ (t : Fields × ℕ). t.0) (some_same h)
-loaded-same fs gs e Bad h = none-some h
+loaded-same : (fs gs : Fields) (e : ℕ) (x : Option ℕ) → option_map {U = Fields × ℕ} (λ n. (fs, n)) x ≡ Some (gs, e) → fs ≡ gs
+loaded-same fs gs e (Some n) h = ap (λ (t : Fields × ℕ). t.0) (some_same h)
+loaded-same fs gs e None h = none-some h
 
 module _ (s : Bytes) where
   -- a text that is refused has no fields for a table
-  unread : (e : ℕ) → refused e ≡ reading_of s → fields_of s ≡ None
+  pub unread : (e : ℕ) → refused e ≡ reading_of s → fields_of s ≡ None
   unfolding fields_of reading_of Opened check ◌>>=◌ ◌>>◌
   unread e h = go (tree_of s) refl
     where
       go : (o : Option Members) → tree_of s ≡ o → fields_of s ≡ None
       go None i = rw i
       go (Some m) i = by_cases (twice m) (λ t. rw (i, t)) (λ t. let d : reading_of s ≡ done (count m) = rw (i, t) in refused-done (h ∙ d))
-
-  pub refused-fields : (r : RecordRead) → read_answer r ≡ reading_of s → ((n : ℕ) → r ≡ record-read.Fields n → ⊥) → fields_of s ≡ None
-  refused-fields record-read.NotRecord h o = unread 8 h
-  refused-fields record-read.KeyTwice h o = unread 6 h
-  refused-fields (record-read.Fields n) h o = absurd (o n refl)
 
   -- one with n fields
   module _ (n : ℕ) (h : reading_of s ≡ done n) where
@@ -166,8 +155,8 @@ module _ (s : Bytes) where
     unfolding fields_of check ◌>>=◌ ◌>>◌
     many-fields k = let (m, t, once, c) = tree in rw (t, once, c, lt-leb n max_fields k)
 
-    pub few-fields : n ≤ max_fields → (at : ℕ) → at ≡ run_end is_blank s 0 → (fs : Fields) (x : End)
-        → load_answer fs x ≡ placed (mapped (loaded [] []) read_top) s at → fields_of s ≡ Some fs
+    pub few-fields : n ≤ max_fields → (at : ℕ) → at ≡ run_end is_blank s 0 → (fs : Fields) (x : Option ℕ)
+        → option_map {U = Fields × ℕ} (λ e. (fs, e)) x ≡ placed (mapped (loaded [] []) read_top) s at → fields_of s ≡ Some fs
     unfolding fields_of check placed behind mapped loaded ◌>>=◌ ◌>>◌
     few-fields k at is fs x answer =
         let (m, t, once, c) = tree in

@@ -1,22 +1,15 @@
 -- The fields of a record's text, and the table after reading it.
-use Rattle.std.specs.Prelude.{ℕ, ◌≡◌, not, ◌&&◌, [], leb}
+use Rattle.std.specs.Prelude.{◌≡◌, not, ◌&&◌, [], leb}
 use Rattle.std.specs.Prelude.{Option, None, Some}
 use Rattle.model.specs.Base.{Bytes, ◌>>=◌, ◌>>◌, check}
 use Rattle.model.specs.Limits.{max_fields}
 use Rattle.model.specs.Fields.{Keys, Fields}
 use Rattle.model.specs.RecordText.{Members, tree_of, twice, count, store_members}
 use Rattle.record.specs.Slots.{fields_in}
-use Rattle.lexical.specs.declared.class.End.{End}
-use Rattle.lexical.specs.declared.class.End.TheVariants as end
 
 -- the fields of an object at the path p, put into fs
 unfoldable pub loaded : Keys → Fields → Members → Fields
 loaded p fs m = store_members p m fs
-
--- the fields that a table then holds, and where the reader ends
-abbrev pub load_answer : Fields → End → Option (Fields × ℕ)
-load_answer fs (end.At e) = Some (fs, e)
-load_answer fs end.Bad = None
 
 -- the fields of a text that is accepted, where a table has room for them
 unfoldable pub fields_of : Bytes → Option Fields

@@ -78,7 +78,7 @@ pub fn difference(a: u32, b: u32) -> u32
     a & (a ^ b)
 }
 
-// A byte more at the end where it counts least.
+// A byte more at the end where it counts least: by a shift, as document 02 has masks; the edits `shifted_by_seven` and `seven_bits` are of shifts, which `from_le_bytes` would hide.
 fn with_byte(high: u32, low: u8) -> u32
     requires { high < 2 ^ (max_users - byte_bits) }
     ensures { (result ≡ low + 2 ^ byte_bits * high) × (result < 2 ^ byte_bits * (high + 1)) }

@@ -59,32 +59,11 @@ module _ (s : Bytes) (i : ℕ) (h : i < max_bindings) (passed : i ≤ length (in
     unfolding bindings_in
     line-next = row-left binding_in binding_row max_bindings s refl i line-more refl
 
-    line-value : {value : Bytes} → value ≡ name_in (take key_row (drop (i * binding_row + name_row) s)) → (binding_in (line_at s i)).value ≡ value
+    -- the first of them has this name and value
+    pub line-first : {name value : Bytes} → name ≡ name_in (take name_row (drop (i * binding_row) s)) → value ≡ name_in (take key_row (drop (i * binding_row + name_row) s))
+        → drop i (bindings_in s) ≡ record { name = name; value = value } ∷ drop (i + 1) (bindings_in s)
     unfolding binding_in
-    line-value v = rw (part-part (i * binding_row) binding_row s name_row key_row (omega arith), v)
-
-    -- whether some line from there on has the value k: r says whether this one has it
-    pub value-step : (k : Bytes) {value : Bytes} {r : Bool} → value ≡ name_in (take key_row (drop (i * binding_row + name_row) s)) → r ≡ (k ≐ value)
-        → has_value (drop i (bindings_in s)) k ≡ (r || has_value (drop (i + 1) (bindings_in s)) k)
-    unfolding has_value any
-    value-step k v t = rw (line-next, line-value v, t)
-
-    -- its name was compared with n: the values that are listed under n from there on
-    module _ (n : Bytes) {name : Bytes} {r : Bool} (e : name ≡ name_in (take name_row (drop (i * binding_row) s))) (t : r ≡ (name ≐ n)) where
-      line-name : ((binding_in (line_at s i)).name ≐ n) ≡ r
-      unfolding binding_in
-      line-name = rw (take-take name_row binding_row (drop (i * binding_row) s) (omega arith), ← e) (sym t)
-
-      pub listed-yes : {value : Bytes} → r ≡ true → value ≡ name_in (take key_row (drop (i * binding_row + name_row) s))
-          → listed (drop i (bindings_in s)) n ≡ value ∷ listed (drop (i + 1) (bindings_in s)) n
-      unfolding listed
-      listed-yes y v =
-          let first = keep-yes (λ (b : Binding). b.name ≐ n) (binding_in (line_at s i)) (drop (i + 1) (bindings_in s)) (line-name ∙ y) in
-          rw (line-next, first, line-value v)
-
-      pub listed-no : r ≡ false → listed (drop i (bindings_in s)) n ≡ listed (drop (i + 1) (bindings_in s)) n
-      unfolding listed
-      listed-no y = rw (line-next, keep-no (λ (b : Binding). b.name ≐ n) (binding_in (line_at s i)) (drop (i + 1) (bindings_in s)) (line-name ∙ y))
+    line-first e v = line-next ∙ rw (take-take name_row binding_row (drop (i * binding_row) s) (omega arith), part-part (i * binding_row) binding_row s name_row key_row (omega arith), e, v)
 
 -- ── What an environment step asks of the values that are listed under its name ──
 unfoldable pub asked : paths.Operator → Bytes → List Bytes → Bool
@@ -116,26 +95,23 @@ admits-held bs o n k h =
     admits-listed bs o n k
     ∙ asked-absent o k (listed bs n) (false-any (λ (v : Bytes). k ≐ v) _ (all_map (λ (v : Bytes). (k ≐ v) ≡ false) (λ (b : Binding). b.value) named apart))
 
--- the first of them is v, and r says whether it is the key k
-module _ (k v : Bytes) {vs ws : List Bytes} (e : vs ≡ v ∷ ws) {r : Bool} (t : r ≡ (k ≐ v)) where
-  pub asked-decided : (o : paths.Operator) → decides o r ≡ true → asked o k vs ≡ r
-  unfolding asked first_is among any
-  asked-decided paths.equals d = rw (e, ← t)
-  asked-decided paths.is_in d = rw (e, ← t, d)
+-- a line with the name n or another, whose value was compared with k: it decides, or leaves the question for the lines behind it
+module _ (b : Binding) (bs : List Binding) (n k : Bytes) where
+  pub said-listed : (o : paths.Operator) (r : Bool) → r ≡ (k ≐ b.value) → (b.name ≐ n) ≡ true → decides o r ≡ true → asked o k (listed (b ∷ bs) n) ≡ r
+  unfolding asked first_is listed among any
+  said-listed paths.equals r t y d = rw (keep-yes (λ (b : Binding). b.name ≐ n) b bs y, ← t)
+  said-listed paths.is_in r t y d = rw (keep-yes (λ (b : Binding). b.name ≐ n) b bs y, ← t, d)
 
-  asked-left : (o : paths.Operator) → decides o r ≡ false → asked o k vs ≡ asked o k ws
-  unfolding asked among any
-  asked-left paths.equals d = never d
-  asked-left paths.is_in d = rw (e, ← t, d)
+  pub other-listed : (o : paths.Operator) → (b.name ≐ n) ≡ false → asked o k (listed (b ∷ bs) n) ≡ asked o k (listed bs n)
+  unfolding listed
+  other-listed o y = rw (keep-no (λ (b : Binding). b.name ≐ n) b bs y)
 
--- a line that does not decide, whether or not it has the name n, leaves the question for the lines behind it
-pub asked-later : (s n : Bytes) (i : ℕ) → i < max_bindings → i ≤ length (in_use binding_row max_bindings s) → (get_or s (i * binding_row) 0 ≡ 0 → ⊥)
-    → (o : paths.Operator) (k : Bytes) {value : Bytes} {r : Bool} → value ≡ name_in (take key_row (drop (i * binding_row + name_row) s)) → r ≡ (k ≐ value)
-    → decides o r ≡ false → asked o k (listed (drop i (bindings_in s)) n) ≡ asked o k (listed (drop (i + 1) (bindings_in s)) n)
-asked-later s n i h passed f o k v t d =
-    by_cases (name_in (take name_row (drop (i * binding_row) s)) ≐ n)
-    (λ y. asked-left k _ (listed-yes s i h passed f n refl refl y v) t o d)
-    (λ y. ap (asked o k) (listed-no s i h passed f n refl refl y))
+  pub left-listed : (o : paths.Operator) (r : Bool) → r ≡ (k ≐ b.value) → decides o r ≡ false → asked o k (listed (b ∷ bs) n) ≡ asked o k (listed bs n)
+  unfolding asked listed among any
+  left-listed paths.equals r t d = never d
+  left-listed paths.is_in r t d = by_cases (b.name ≐ n)
+      (λ y. rw (keep-yes (λ (b : Binding). b.name ≐ n) b bs y, ← t, d))
+      (λ y. rw (keep-no (λ (b : Binding). b.name ≐ n) b bs y))
 
 -- ── What a step admits: its kind k was matched with v, and the names are the part of its row behind the first byte ──
 module _ (row key : Bytes) {k v : Kind} (h : k ≡ kind_of (get_or row 0 0)) (e : k ≡ v) where

@@ -1,5 +1,6 @@
 -- Matching in two parts: what the path alone decides, and what a user's environment lines decide after that.
-use Rattle.std.specs.Prelude.{List, [], ◌∷◌, Bool, true, false, ◌&&◌}
+use Rattle.std.specs.Option.{option_map_or}
+use Rattle.std.specs.Prelude.{Option, ◌≡◌, List, [], ◌∷◌, Bool, true, false, ◌&&◌}
 use Rattle.model.specs.Base.{Bytes, any, among, ◌≐◌}
 use Rattle.model.specs.Fields.{Keys}
 use Rattle.model.specs.Paths.{Operator, equals, is_in, Step, names, wildcard, environment, Steps}
@@ -10,6 +11,11 @@ use Rattle.model.specs.Rights.{admits}
 abbrev pub decides : Operator → Bool → Bool
 decides equals holds = true
 decides is_in holds = holds
+
+-- of a question to the lines: the first decides it, or says nothing of it and leaves it to those behind; without lines the answer is no
+pub record Asked (says : Bytes → Bytes → Option Bool → Type 0) (asked : List Binding → Bool) : Type 0 where
+  pub none : asked [] ≡ false
+  pub first : (b : Binding) (bs : List Binding) (o : Option Bool) → says b.name b.value o → asked (b ∷ bs) ≡ option_map_or (λ a. a) o (asked bs)
 
 -- a step admits a key, given the right environment lines
 unfoldable pub may_admit : Step → Bytes → Bool

@@ -21,12 +21,10 @@ fn share(a: &[u8], b: &[u8]) -> bool
     ensures { result ≡ any (λ n. among n (names_in b.now)) (names_in a.now) }
 {
     let n = count(a, MAX_LISTED);
-    let mut i = 0;
-    while i < n {
+    for i in 0..n {
         if has_name(b, key_at(a, i)) {
             return true;
         }
-        i += 1;
     }
     false
 }
@@ -51,12 +49,10 @@ fn is_above(a: &[u8], m: usize, b: &[u8]) -> bool
     requires m_value { (m ≡ slot_count max_depth a.now) × (m < slot_count max_depth b.now) }
     ensures { result ≡ is_above (steps_in a.now) (steps_in b.now) }
 {
-    let mut i = 0;
-    while i < m {
+    for i in 0..m {
         if !overlap(row_at(a, STEP, i), row_at(b, STEP, i)) {
             return false;
         }
-        i += 1;
     }
     true
 }
@@ -84,17 +80,15 @@ pub fn steps_of(slot: &[u8]) -> [u8; STEPS]
 {
     let n = count(slot, MAX_DEPTH);
     let mut steps = [0u8; STEPS];
-    let mut i = 0;
-    while i < n {
+    for i in 0..n {
         let names = one_name(key_at(slot, i));
         push_step(
             &mut steps,
             Step {
                 kind: Kind::Names,
-                names: names,
+                names,
             },
         );
-        i += 1;
     }
     steps
 }

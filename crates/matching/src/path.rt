@@ -1,12 +1,14 @@
 // What a step admits, given a user's environment lines: rows of a name and a value, up to the first that is empty.
-ghost use Rattle.std.specs.Prelude.{◌≡◌, true, ◌≤◌, length};
+ghost use Rattle.std.specs.Prelude.{◌≡◌, Bool, true, List, ◌≤◌, length};
+ghost use Rattle.std.specs.Fn.{FnReturnsAtPair};
 ghost use Rattle.model.specs.Paths.{environment};
 ghost use Rattle.model.specs.Base.{any, among};
 ghost use Rattle.model.specs.Rights.{admits, matches};
 ghost use Rattle.paths.specs.Layout.{path_slot, path_in};
 ghost use Rattle.steps.specs.Steps.{names_slot, step_row, steps_slot, operator_of, names_in, step_in, steps_in};
 ghost use Rattle.steps.specs.Environments.{bindings_bytes, bindings_in};
-ghost use Rattle.matching.specs.Parts.{decides, may_admit, is_met, asks, has_value, may_match};
+ghost use Rattle.model.specs.Tables.{Binding};
+ghost use Rattle.matching.specs.Parts.{Asked, decides, may_admit, is_met, asks, has_value, may_match};
 
 use layout::counted::{count, row_at};
 use layout::name::{KEY_ROW, NAME_ROW, name_from};
@@ -22,12 +24,10 @@ pub fn has_name(names: &[u8], key: &[u8]) -> bool
     ensures { result ≡ among key.now (names_in names.now) }
 {
     let n = count(names, MAX_LISTED);
-    let mut i = 0;
-    while i < n {
+    for i in 0..n {
         if same(key, key_at(names, i)) {
             return true;
         }
-        i += 1;
     }
     false
 }
@@ -42,26 +42,39 @@ fn decides(operator: Operator, holds: bool) -> bool
     }
 }
 
+// What the first line says that says anything of its name and value; no where there is none.
+fn first_said<F: Fn(&[u8], &[u8]) -> Option<bool>>(lines: &[u8], says: F) -> bool
+    requires lines_len { bindings_bytes ≤ length lines.now }
+    requires callable { F.IsAlwaysCallable says }
+    ensures { (asked : List Binding → Bool) → Asked (FnReturnsAtPair F.Fn says) asked → result ≡ asked (bindings_in lines.now) }
+{
+    for i in 0..BINDINGS {
+        let at = i * BINDING;
+        if lines[at] == 0 {
+            return false;
+        }
+        let name = name_from(lines, at, NAME_ROW);
+        let value = name_from(lines, at + NAME_ROW, KEY_ROW);
+        if let Some(said) = says(name, value) {
+            return said;
+        }
+    }
+    false
+}
+
 // Whether the key is the first value listed under the name n, or any of them, as the operator says. The value is compared first: where it does not decide, the name need not be.
 fn is_listed(lines: &[u8], operator: Operator, n: &[u8], key: &[u8]) -> bool
     requires { bindings_bytes ≤ length lines.now }
     ensures { result ≡ admits (bindings_in lines.now) (environment (operator_of operator) n.now) key.now }
 {
-    let mut i = 0;
-    while i < BINDINGS {
-        let at = i * BINDING;
-        if lines[at] == 0 {
-            return false;
+    first_said(lines, |name, value| {
+        let holds = same(key, value);
+        if decides(operator, holds) && same(name, n) {
+            Some(holds)
+        } else {
+            None
         }
-        let holds = same(key, name_from(lines, at + NAME_ROW, KEY_ROW));
-        if decides(operator, holds) {
-            if same(name_from(lines, at, NAME_ROW), n) {
-                return holds;
-            }
-        }
-        i += 1;
-    }
-    false
+    })
 }
 
 // Whether some line has the key as its value: where none has, no environment step admits it.
@@ -69,18 +82,10 @@ pub fn has_value(lines: &[u8], key: &[u8]) -> bool
     requires { bindings_bytes ≤ length lines.now }
     ensures { result ≡ has_value (bindings_in lines.now) key.now }
 {
-    let mut i = 0;
-    while i < BINDINGS {
-        let at = i * BINDING;
-        if lines[at] == 0 {
-            return false;
-        }
-        if same(key, name_from(lines, at + NAME_ROW, KEY_ROW)) {
-            return true;
-        }
-        i += 1;
-    }
-    false
+    first_said(
+        lines,
+        |_, value| if same(key, value) { Some(true) } else { None },
+    )
 }
 
 // Whether the step in a row admits the key, given the right environment lines.
@@ -128,12 +133,10 @@ pub fn may_match(steps: &[u8], slot: &[u8]) -> bool
     if count(slot, MAX_DEPTH) != n {
         return false;
     }
-    let mut i = 0;
-    while i < n {
+    for i in 0..n {
         if !may_admit(row_at(steps, STEP, i), key_at(slot, i)) {
             return false;
         }
-        i += 1;
     }
     true
 }
@@ -144,12 +147,10 @@ pub fn asks_lines(steps: &[u8]) -> bool
     ensures { result ≡ any asks (steps_in steps.now) }
 {
     let depth = count(steps, MAX_DEPTH);
-    let mut i = 0;
-    while i < depth {
+    for i in 0..depth {
         if asks(row_at(steps, STEP, i)) {
             return true;
         }
-        i += 1;
     }
     false
 }
@@ -161,12 +162,10 @@ pub fn lines_match(lines: &[u8], steps: &[u8], slot: &[u8]) -> bool
     ensures { result ≡ matches (bindings_in lines.now) (steps_in steps.now) (path_in slot.now) }
 {
     let n = count(steps, MAX_DEPTH);
-    let mut i = 0;
-    while i < n {
+    for i in 0..n {
         if !is_met(lines, row_at(steps, STEP, i), key_at(slot, i)) {
             return false;
         }
-        i += 1;
     }
     true
 }

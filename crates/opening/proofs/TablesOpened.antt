@@ -1,26 +1,26 @@
 -- Three tables' texts opened in one memory: the readings, one after the other, and a conflict decide, in the order of the definition.
-use Prim.Native.Nat.{ℕ, suc, ◌≤◌}
+use Prim.Native.Nat.{ℕ, suc}
 use mathlib.Core.Path.{◌≡◌, refl, sym, ap, ◌∙◌}
-use mathlib.Core.Bool.{◌&&◌}
 use Rattle.std.specs.Prelude.{Option, None, Some}
-use mathlib.Core.List.{List, [], ◌∷◌, ◌++◌}
+use mathlib.Core.List.{List, [], ◌∷◌}
 use native.Mathlib.Omega.{arith}
 use borrow.Author.Tests.{not-false}
 use lib.ListN.{drop}
-use Rattle.model.specs.Base.{Bytes, any}
+use Rattle.model.specs.Base.{Bytes}
 use Rattle.model.specs.Refusals.{Result, refused, done, ◌>>=◌, ◌>>◌}
 use Rattle.model.specs.Table.{Table, Line, ended, broken, lines, split, in_line, is_head, read_row, read_rows, read_lines, read_table}
 use Rattle.model.specs.Tables.{User, Rule, Tables}
-use Rattle.model.specs.Rights.{is_write, conflicts_with}
 use Rattle.model.specs.Opening.{Fault, fault, from, conflict_from, refuse_at, check_policy, open_tables}
-use Rattle.model.proofs.Lists.{by_cases, refused-done, done-same, none-some, if-done}
+use Rattle.model.proofs.Lists.{refused-done, done-same, if-done}
 use Rattle.tables.specs.Memory.{users_bytes, policy_in, tables_in}
-use Rattle.tables.specs.Grants.{line_number}
-use Rattle.tabletext.specs.Reading.{in_users, in_policy, table_of, table_answer, if_done, rows_as_far, lines_as_far, tables_as_far, ReadsTable}
+use Rattle.tabletext.specs.Reading.{in_users, in_policy, table_of, in_line_of, if_done, rows_as_far, lines_as_far, tables_as_far, ReadsTable}
 use Rattle.tabletext.specs.declared.read.Table.TheVariants.{Users, Environments, Policy}
-use Rattle.tabletext.specs.declared.read.TableRead.{TableRead}
-use Rattle.tabletext.specs.declared.read.TableRead.TheVariants as table-read
-use Rattle.opening.specs.Answers.{texts_of}
+use Rattle.tabletext.specs.declared.read.TableFault.{TableFault}
+use Rattle.std.specs.Prelude as std
+use Rattle.std.specs.Prelude.{Ok, Err}
+use Rattle.refusals.specs.Numbers.{answer_by, bare}
+use Rattle.opening.specs.declared.answer.Fault as code
+use Rattle.opening.specs.Answers.{texts_of, fault_of}
 
 -- ── A text read to its end: what its lines added is what was read ──
 module _ {A : Type 0} (t : Table A) where
@@ -42,22 +42,27 @@ module _ {A : Type 0} (t : Table A) where
       let (head, rest) = if-done _ _ _ b h in
       rw (not-false (is_head t (split l)) head) (rows-far (split l) 2 a b ls rest)
 
-  -- the result that an answer tells
-  module _ (a b : A) (s : Bytes) {r : TableRead} (answered : ReadsTable t a s r b) where
-    read_done : r ≡ table-read.Done → read_table t a s ≡ done b
-    unfolding read_table tables_as_far
-    read_done told = go (read_table t a s) refl (sym told ∙ answered.0)
-      where
-        go : (q : Result (ℕ × ℕ) A) → read_table t a s ≡ q → table-read.Done ≡ table_answer q → q ≡ done b
-        go (refused e) i k = let z : ◌≡◌ {A = ℕ} 0 1 = cc in absurd (omega arith)
-        go (done c) i k = ap done (lines-far a c (lines s) i ∙ sym answered.1)
+  -- the result that an answer tells, which is that of the text k
+  module _ (a b : A) (s : Bytes) (r : std.Result (Unit {0}) TableFault) (answered : ReadsTable t a s r b)
+      (k : ℕ) (q : std.Result (Unit {0}) code.Fault) (told : answer_by fault_of q ≡ from k (answer_by in_line_of r)) where
+    told-is : answer_by fault_of q ≡ from k (bare (read_table t a s))
+    told-is = told ∙ ap (from k) answered.0
 
-    read-refused : {e n : ℕ} → r ≡ table-read.Refused e n → read_table t a s ≡ refused (e, n)
-    read-refused {e} {n} told = go (read_table t a s) (sym told ∙ answered.0)
+    read_done : q ≡ Ok tt → read_table t a s ≡ done b
+    unfolding read_table tables_as_far from
+    read_done is = go (read_table t a s) refl (ap (answer_by fault_of) (sym is) ∙ told-is)
       where
-        go : (q : Result (ℕ × ℕ) A) → table-read.Refused e n ≡ table_answer q → q ≡ refused (e, n)
-        go (refused d) k = let x : e ≡ d.0 = cc in let y : n ≡ d.1 = cc in rw (x, y)
-        go (done c) k = let z : ◌≡◌ {A = ℕ} 0 1 = cc in absurd (omega arith)
+        go : (q : Result (ℕ × ℕ) A) → read_table t a s ≡ q → done tt ≡ from k (bare q) → q ≡ done b
+        go (refused e) i h = refused-done (sym h)
+        go (done c) i h = ap done (lines-far a c (lines s) i ∙ sym answered.1)
+
+    read-refused : {f : code.Fault} → q ≡ Err f → from k (read_table t a s) ≡ refused (fault_of f)
+    unfolding from
+    read-refused {f} is = go (read_table t a s) (ap (answer_by fault_of) (sym is) ∙ told-is)
+      where
+        go : (q : Result (ℕ × ℕ) A) → refused (fault_of f) ≡ from k (bare q) → from k q ≡ refused (fault_of f)
+        go (refused d) h = cc
+        go (done c) h = refused-done h
 
 -- ── A table u that reads into a whole what the table t reads by itself ──
 then-in : {E A B C : Type 0} (c : Result E C) (x : Result E A) (g : A → Result E B) → (c >> (x >>= g)) ≡ ((c >> x) >>= g)
@@ -103,31 +108,15 @@ module _ {A B : Type 0} (f : A → B) (t : Table A) (u : Table B) (columns : u.c
       go (refused e) = refl
       go (done b) = h b
 
--- ── A policy that was read: the line of its first conflict is n ──
-conflict-behind : (n : ℕ) (above rs : List Rule) (l : ℕ) → conflict_from n above rs ≡ Some l → n ≤ l
-unfolding conflict_from
-conflict-behind n above [] l h = none-some h
-conflict-behind n above (r ∷ rs) l h =
-    by_cases (is_write r && any (conflicts_with r.path) above)
-    (λ t. let q : Some n ≡ Some l = rw t at h in let e : n ≡ l = cc in omega arith)
-    (λ t. omega (arith, conflict-behind (suc n) (above ++ r ∷ []) rs l (rw t at h)))
-
-module _ (rs : List Rule) {n : ℕ} (is : n ≡ line_number (conflict_from 2 [] rs)) where
-  policy-conflict : (n ≡ 0 → ⊥) → check_policy rs ≡ refused (fault 5 3 n)
+-- ── A policy that was read: a conflict in it decides ──
+module _ (rs : List Rule) where
+  policy-conflict : {n : ℕ} → conflict_from 2 [] rs ≡ Some n → check_policy rs ≡ refused (fault 5 3 n)
   unfolding check_policy refuse_at
-  policy-conflict h = go (conflict_from 2 [] rs) is
-    where
-      go : (o : Option ℕ) → n ≡ line_number o → refuse_at o ≡ refused (fault 5 3 n)
-      go None i = absurd (h i)
-      go (Some l) i = rw i
+  policy-conflict e = rw e
 
-  policy-free : n ≡ 0 → check_policy rs ≡ done tt
+  policy-free : conflict_from 2 [] rs ≡ None → check_policy rs ≡ done tt
   unfolding check_policy refuse_at
-  policy-free h = go (conflict_from 2 [] rs) refl
-    where
-      go : (o : Option ℕ) → conflict_from 2 [] rs ≡ o → refuse_at o ≡ done tt
-      go None i = refl
-      go (Some l) i = let e : n ≡ l = is ∙ ap line_number i in absurd (omega (arith, conflict-behind 2 [] rs l i))
+  policy-free e = rw e
 
 -- ── A memory without users and policy ──
 abbrev pub no_tables : Tables
@@ -153,47 +142,50 @@ module _ (users environments policy : Bytes) where
       table-in (whole []) _ _ refl (λ val us. refl) 2 us environments _ _ (λ vs.
       table-in (λ rs. whole rs vs) _ _ refl (λ val rs. refl) 3 [] policy _ _ (λ rs. refl))))
 
-  -- from no tables to the tables m₁ with the answer r₁: a refusal decides
-  module _ {m₀ : Tables} (start : m₀ ≡ no_tables) {m₁ : Tables} {r₁ : TableRead} (first : ReadsTable (table_of Users) m₀ users r₁ m₁) where
+  -- from no tables to the tables m₁ with the answer r₁, which is told as q₁: a refusal decides
+  module _ {m₀ : Tables} (start : m₀ ≡ no_tables) {m₁ : Tables} (r₁ : std.Result (Unit {0}) TableFault) (first : ReadsTable (table_of Users) m₀ users r₁ m₁)
+      (q₁ : std.Result (Unit {0}) code.Fault) (told₁ : answer_by fault_of q₁ ≡ from 1 (answer_by in_line_of r₁)) where
     started : opening ≡ (from 1 (read_table (table_of Users) m₀ users) >>= with_environments)
     started = in_both m₀ start
 
-    pub users-refused : {e n : ℕ} → r₁ ≡ table-read.Refused e n → refused (fault e 1 n) ≡ opening
-    unfolding from ◌>>=◌
-    users-refused told = sym (started ∙ rw (read-refused _ _ m₁ users first told))
+    pub users-refused : {f : code.Fault} → q₁ ≡ Err f → refused (fault_of f) ≡ opening
+    unfolding ◌>>=◌
+    users-refused is = sym (started ∙ rw (read-refused _ _ m₁ users r₁ first 1 q₁ told₁ is))
 
-    module _ (told₁ : r₁ ≡ table-read.Done) where
+    module _ (done₁ : q₁ ≡ Ok tt) where
       users-done : opening ≡ with_environments m₁
       unfolding from ◌>>=◌
-      users-done = started ∙ rw (read_done _ _ m₁ users first told₁)
+      users-done = started ∙ rw (read_done _ _ m₁ users r₁ first 1 q₁ told₁ done₁)
 
       -- then to m₂ with the answer r₂
-      module _ {m₂ : Tables} {r₂ : TableRead} (second : ReadsTable (table_of Environments) m₁ environments r₂ m₂) where
-        pub environments-refused : {e n : ℕ} → r₂ ≡ table-read.Refused e n → refused (fault e 2 n) ≡ opening
-        unfolding with_environments from ◌>>=◌
-        environments-refused told = sym (users-done ∙ rw (read-refused _ m₁ m₂ environments second told))
+      module _ {m₂ : Tables} (r₂ : std.Result (Unit {0}) TableFault) (second : ReadsTable (table_of Environments) m₁ environments r₂ m₂)
+          (q₂ : std.Result (Unit {0}) code.Fault) (told₂ : answer_by fault_of q₂ ≡ from 2 (answer_by in_line_of r₂)) where
+        pub environments-refused : {f : code.Fault} → q₂ ≡ Err f → refused (fault_of f) ≡ opening
+        unfolding with_environments ◌>>=◌
+        environments-refused is = sym (users-done ∙ rw (read-refused _ m₁ m₂ environments r₂ second 2 q₂ told₂ is))
 
-        module _ (told₂ : r₂ ≡ table-read.Done) where
+        module _ (done₂ : q₂ ≡ Ok tt) where
           environments-done : opening ≡ with_policy m₂
           unfolding with_environments from ◌>>=◌
-          environments-done = users-done ∙ rw (read_done _ m₁ m₂ environments second told₂)
+          environments-done = users-done ∙ rw (read_done _ m₁ m₂ environments r₂ second 2 q₂ told₂ done₂)
 
           -- then to the tables in the bytes s with the answer r₃
-          module _ (s : Bytes) {r₃ : TableRead} (third : ReadsTable (table_of Policy) m₂ policy r₃ (tables_in s)) where
-            pub policy-refused : {e n : ℕ} → r₃ ≡ table-read.Refused e n → refused (fault e 3 n) ≡ opening
-            unfolding with_policy from ◌>>=◌
-            policy-refused told = sym (environments-done ∙ rw (read-refused _ m₂ (tables_in s) policy third told))
+          module _ (s : Bytes) (r₃ : std.Result (Unit {0}) TableFault) (third : ReadsTable (table_of Policy) m₂ policy r₃ (tables_in s))
+              (q₃ : std.Result (Unit {0}) code.Fault) (told₃ : answer_by fault_of q₃ ≡ from 3 (answer_by in_line_of r₃)) where
+            pub policy-refused : {f : code.Fault} → q₃ ≡ Err f → refused (fault_of f) ≡ opening
+            unfolding with_policy ◌>>=◌
+            policy-refused is = sym (environments-done ∙ rw (read-refused _ m₂ (tables_in s) policy r₃ third 3 q₃ told₃ is))
 
-            -- and n is the line of the first conflict in the policy behind the users
-            module _ (told₃ : r₃ ≡ table-read.Done) {n : ℕ} (line : n ≡ line_number (conflict_from 2 [] (policy_in (drop users_bytes s)))) where
+            -- and o is the line of the first conflict in the policy behind the users
+            module _ (done₃ : q₃ ≡ Ok tt) {o : Option ℕ} (line : o ≡ conflict_from 2 [] (policy_in (drop users_bytes s))) where
               checked : {q : Result Fault (Unit {0})} → check_policy (policy_in (drop users_bytes s)) ≡ q → (q >> done (tables_in s)) ≡ opening
               unfolding with_policy tables_in from ◌>>=◌
-              checked e = sym (environments-done ∙ rw (read_done _ m₂ (tables_in s) policy third told₃, e))
+              checked e = sym (environments-done ∙ rw (read_done _ m₂ (tables_in s) policy r₃ third 3 q₃ told₃ done₃, e))
 
-              pub in-conflict : (n ≡ 0 → ⊥) → refused (fault 5 3 n) ≡ opening
+              pub in-conflict : {n : ℕ} → o ≡ Some n → refused (fault 5 3 n) ≡ opening
               unfolding ◌>>◌
-              in-conflict h = checked (policy-conflict (policy_in (drop users_bytes s)) line h)
+              in-conflict is = checked (policy-conflict (policy_in (drop users_bytes s)) (sym line ∙ is))
 
-              pub accepted : n ≡ 0 → done (tables_in s) ≡ opening
+              pub accepted : o ≡ None → done (tables_in s) ≡ opening
               unfolding ◌>>◌
-              accepted h = checked (policy-free (policy_in (drop users_bytes s)) line h)
+              accepted is = checked (policy-free (policy_in (drop users_bytes s)) (sym line ∙ is))

@@ -1,8 +1,10 @@
-// What an opening answers.
+// Why an opening is refused.
+use refusals::Refusal;
 
-// An opening: accepted, or a refusal's number, text and line.
-#[derive(Clone, Copy)]
-pub enum Opening {
-    Done,
-    Refused(usize, usize, usize),
+// The ground; the text, 1 users, 2 environments, 3 policy, 4 record; the line, 0 where it is the whole text's.
+#[derive(Clone, Copy, PartialEq, Eq)]
+pub struct Fault {
+    pub refusal: Refusal,
+    pub text: usize,
+    pub line: usize,
 }

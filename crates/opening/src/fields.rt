@@ -12,16 +12,17 @@ ghost use Rattle.tables.specs.Memory.{users_bytes, policy_bytes, users_in, polic
 ghost use Rattle.tables.specs.Grants.{Found};
 ghost use Rattle.opening.specs.Answers.{opening_result};
 
-use crate::answer::Opening;
+use crate::answer::Fault;
 use layout::table::{row_at, row_count};
 use lexical::limits::MAX_DEPTH;
 use loader::read_record;
 use matching::conflict::steps_of;
 use paths::field::shared_keys;
-use reader::grammar::RecordRead;
+use reader::grammar::RecordError;
 use record::slot::set_mask;
 use record::table::{RECORD, SLOTS, count, slot_at};
-use tables::candidates::{NOT_ASKED, keep_first};
+use refusals::Refusal;
+use tables::candidates::keep_first;
 use tables::conflicts::has_conflict;
 use tables::memory::{RULES, TABLES, USER, USERS, policy_of, quota};
 use tables::rights::readers_by;
@@ -31,12 +32,9 @@ fn all_quotas(users: &[u8]) -> usize
     requires { (users_bytes ≤ length users.now) × (length users.now ≤ max_text) }
     ensures { result ≡ quotas (users_in users.now) }
 {
-    let n = row_count(users, USER, USERS);
     let mut sum: usize = 0;
-    let mut i: usize = 0;
-    while i < n {
+    for i in 0..row_count(users, USER, USERS) {
         sum += quota(row_at(users, USER, i));
-        i += 1;
     }
     sum
 }
@@ -46,55 +44,52 @@ fn has_conflicting_field(policy: &[u8], table: &[u8; RECORD]) -> bool
     requires { length policy.now ≡ policy_bytes }
     ensures { result ≡ any (λ f. any (conflicts_with (as_steps f.path)) (policy_in policy.now)) (fields_in table.now) }
 {
-    let n = count(table);
-    let mut i: usize = 0;
-    while i < n {
+    for i in 0..count(table) {
         let steps = steps_of(slot_at(table, i));
         if has_conflict(policy, RULES, &steps) {
             return true;
         }
-        i += 1;
     }
     false
 }
 
+// A refusal of the record's text, which has no line.
+fn in_record(refusal: Refusal) -> Fault
+    ensures { result ≡ record { refusal = refusal; text = 4; line = 0 } }
+{
+    Fault {
+        refusal,
+        text: 4,
+        line: 0,
+    }
+}
+
 // A record's text into a table of zeros.
-pub fn open_record(tables: &[u8; TABLES], table: &mut [u8; RECORD], s: &[u8]) -> Opening
+pub fn open_record(tables: &[u8; TABLES], table: &mut [u8; RECORD], s: &[u8]) -> Result<(), Fault>
     requires { (length s.now ≤ max_text) × (table.old ≡ replicate record_bytes 0) }
     ensures table_after { opening_result result (fields_in table.new) ≡ open_record (tables_in tables.now) s.now }
     ensures canonical_fields { CanonicalFields table.new }
 {
-    let read = read_record(table, s);
-    let n = match read {
-        RecordRead::NotRecord => return Opening::Refused(8, 4, 0),
-        RecordRead::KeyTwice => return Opening::Refused(6, 4, 0),
-        RecordRead::Fields(n) => n,
+    let n = match read_record(table, s) {
+        Err(RecordError::NotRecord) => return Err(in_record(Refusal::NotRecord)),
+        Err(RecordError::KeyTwice) => return Err(in_record(Refusal::Repeated)),
+        Ok(n) => n,
     };
     if SLOTS < n {
-        return Opening::Refused(9, 4, 0);
+        return Err(in_record(Refusal::TooManyFields));
     }
     if SLOTS - n < all_quotas(tables) {
-        return Opening::Refused(9, 4, 0);
+        return Err(in_record(Refusal::TooManyFields));
     }
     if has_conflicting_field(policy_of(tables), table) {
-        return Opening::Refused(5, 4, 0);
+        return Err(in_record(Refusal::Conflict));
     }
-    Opening::Done
-}
-
-// The place before, or the first.
-fn previous(i: usize) -> usize
-    ensures { result ≡ i - 1 }
-{
-    if i == 0 {
-        return 0;
-    }
-    i - 1
+    Ok(())
 }
 
 // The mask of the i-th field: what was found out of the one before serves as far as their paths share keys.
 fn mask_at(
-    found: &mut [u64; MAX_DEPTH],
+    found: &mut [Option<u32>; MAX_DEPTH],
     tables: &[u8; TABLES],
     table: &[u8; RECORD],
     i: usize,
@@ -105,7 +100,10 @@ fn mask_at(
     ensures found_2 { Found (users_in tables.now) (field_at i (fields_in table.now)).path found.new }
 {
     let slot = slot_at(table, i);
-    keep_first(found, shared_keys(slot_at(table, previous(i)), slot));
+    keep_first(
+        found,
+        shared_keys(slot_at(table, i.saturating_sub(1)), slot),
+    );
     readers_by(found, tables, slot)
 }
 
@@ -115,12 +113,9 @@ pub fn set_masks(tables: &[u8; TABLES], table: &mut [u8; RECORD])
     ensures agreed { Agreed (tables_in tables.now) (fields_in table.old) (masks_in table.new) }
     ensures keeps { Keeps CanonicalFields table.old table.new }
 {
-    let n = count(table);
-    let mut found = [NOT_ASKED; MAX_DEPTH];
-    let mut i: usize = 0;
-    while i < n {
+    let mut found = [None; MAX_DEPTH];
+    for i in 0..count(table) {
         let mask = mask_at(&mut found, tables, table, i);
         set_mask(table, i, mask);
-        i += 1;
     }
 }

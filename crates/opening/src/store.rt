@@ -1,27 +1,19 @@
 // What was read into arrays of the opening's own, stored in the lent ones: only rows in use are read, so that short texts stay cheap.
-ghost use Rattle.std.specs.Prelude.{◌≡◌, length};
+ghost use Rattle.std.specs.Prelude.{◌≡◌};
 ghost use Rattle.record.specs.Slots.{CanonicalFields};
-ghost use Rattle.tables.specs.Memory.{tables_bytes, CanonicalTables};
+ghost use Rattle.tables.specs.Memory.{CanonicalTables};
 
 use layout::table::copy_rows;
 use record::table::{RECORD, SLOT, SLOTS};
 use tables::memory::{POLICY, RULE, RULES, TABLES, USER, USERS};
 
 // The tables: users, and behind their rows the policy.
-fn copy_both(to: &mut [u8], from: &[u8])
-    requires { (length to.old ≡ tables_bytes) × (length from.now ≡ tables_bytes) × CanonicalTables from.now }
-    ensures { to.new ≡ from.now }
-{
-    copy_rows(&mut to[..POLICY], &from[..POLICY], USER, USERS);
-    copy_rows(&mut to[POLICY..], &from[POLICY..], RULE, RULES);
-}
-
-// The same for whole arrays.
 pub fn copy_tables(to: &mut [u8; TABLES], from: &[u8; TABLES])
     requires { CanonicalTables from.now }
     ensures { to.new ≡ from.now }
 {
-    copy_both(to, from);
+    copy_rows(&mut to[..POLICY], &from[..POLICY], USER, USERS);
+    copy_rows(&mut to[POLICY..], &from[POLICY..], RULE, RULES);
 }
 
 // The fields.

@@ -2,7 +2,7 @@
 use Prim.Native.Nat.{ℕ, ◌+◌, ◌-◌, ◌≤◌, ◌<◌}
 use mathlib.Core.Path.{◌≡◌, sym, ap, ◌∙◌}
 use mathlib.Core.Bool.{true, false}
-use Rattle.std.specs.Prelude.{None, Some}
+use Rattle.std.specs.Prelude.{Option, None, Some}
 use mathlib.Core.List.{[], ◌∷◌, ◌++◌}
 use native.Mathlib.Omega.{arith}
 use lib.ListN.{length, take, drop, length-append, length-take, length-drop}
@@ -14,8 +14,6 @@ use Rattle.model.specs.Fields.{Keys}
 use Rattle.model.specs.Paths.{in_brackets, read_key_step}
 use Rattle.model.proofs.Reading.{within-bounds}
 use Rattle.lexical.specs.declared.class.Class.TheVariants.{Name}
-use Rattle.lexical.specs.declared.class.End.{End}
-use Rattle.lexical.specs.declared.class.End.TheVariants.{At, Bad}
 use Rattle.lexical.specs.Classes.{read_between, text_answer}
 use Rattle.lexical.proofs.Runs.{byte-stands, bind-same}
 use Rattle.lexical.proofs.Between.{Stands, between-gives, between-leaves, between-bad, between-at, quoted-between}
@@ -51,26 +49,26 @@ pub record KeyStands (s : Bytes) (at e : ℕ) : Type 0 where
 
 module _ (s : Bytes) (at : ℕ) where
   -- ── What the function `key_step` answers ──
-  key-not : in_brackets in_quotes (drop at s) ≡ None → key_answer s at Bad ≡ placed read_key_step s at
+  key-not : in_brackets in_quotes (drop at s) ≡ None → key_answer s at None ≡ placed read_key_step s at
   unfolding key_answer
   key-not h = sym (placed-none _ s at (key-brackets (drop at s) ∙ h))
 
-  pub key-unopened : is_some (after (0x5B ∷ []) (drop at s)) ≡ false → key_answer s at Bad ≡ placed read_key_step s at
+  pub key-unopened : is_some (after (0x5B ∷ []) (drop at s)) ≡ false → key_answer s at None ≡ placed read_key_step s at
   key-unopened h = key-not (brackets-unopened in_quotes s at h)
 
   -- behind the opening bracket `between` answers x
-  module _ (o : is_some (after (0x5B ∷ []) (drop at s)) ≡ true) (x : End) (inside : text_answer s (at + 1) x ≡ placed in_quotes s (at + 1)) where
-    pub key-empty : x ≡ Bad → key_answer s at Bad ≡ placed read_key_step s at
+  module _ (o : is_some (after (0x5B ∷ []) (drop at s)) ≡ true) (x : Option ℕ) (inside : text_answer s (at + 1) x ≡ placed in_quotes s (at + 1)) where
+    pub key-empty : x ≡ None → key_answer s at None ≡ placed read_key_step s at
     key-empty i = key-not (brackets-empty in_quotes s at o (between-bad Name 0x27 1 max_key s (at + 1) x inside i))
 
-    module _ (e : ℕ) (i : x ≡ At e) where
+    module _ (e : ℕ) (i : x ≡ Some e) where
       stands : Stands Name 0x27 1 max_key s (at + 1) e
       stands = between-at Name 0x27 1 max_key s (at + 1) x inside (byte-stands 0x5B s at o).0 e i
 
-      pub key-unclosed : is_some (after (0x5D ∷ []) (drop e s)) ≡ false → key_answer s at Bad ≡ placed read_key_step s at
+      pub key-unclosed : is_some (after (0x5D ∷ []) (drop e s)) ≡ false → key_answer s at None ≡ placed read_key_step s at
       key-unclosed n = key-not (brackets-unclosed in_quotes s at o _ e stands.reads n)
 
-      pub key-closed : is_some (after (0x5D ∷ []) (drop e s)) ≡ true → key_answer s at (At (e + 1)) ≡ placed read_key_step s at
+      pub key-closed : is_some (after (0x5D ∷ []) (drop e s)) ≡ true → key_answer s at (Some (e + 1)) ≡ placed read_key_step s at
       unfolding key_answer
       key-closed c =
           let r = brackets-closed in_quotes s at o _ e stands.reads c in
@@ -79,12 +77,12 @@ module _ (s : Bytes) (at : ℕ) where
           rw (n, m) (sym (placed-reads _ s at _ (e + 1) (record { from = r.from; to = r.to; is = key-brackets (drop at s) ∙ r.is })))
 
   -- ── For a caller of it: what its answer says ──
-  module _ (x : End) (answer : key_answer s at x ≡ placed read_key_step s at) where
-    pub key-bad : x ≡ Bad → read_key_step (drop at s) ≡ None
+  module _ (x : Option ℕ) (answer : key_answer s at x ≡ placed read_key_step s at) where
+    pub key-bad : x ≡ None → read_key_step (drop at s) ≡ None
     unfolding key_answer
     key-bad i = none-placed _ s at (sym (rw i at answer))
 
-    pub key-at : at ≤ length s → (e : ℕ) → x ≡ At e → KeyStands s at e
+    pub key-at : at ≤ length s → (e : ℕ) → x ≡ Some e → KeyStands s at e
     unfolding key_answer
     key-at h e i =
         let r = reads-placed _ s at key-leaves h _ e (sym (rw i at answer)) in
@@ -94,15 +92,15 @@ module _ (s : Bytes) (at : ℕ) where
         omega (arith, length-drop at s, length-drop e s, r.to, simp length-append at (ap length q.0)) in
         record { at_least = omega arith; at_most = omega arith; reads = r }
 
--- a key that was read is pushed behind the keys p, of which there are n: then they are p₁
+-- a key that was read is pushed behind the keys p: then they are p₁
 module _ (s : Bytes) (at e : ℕ) (k : KeyStands s at e) (p p₁ : Keys)
     (pushed : p₁ ≡ take max_depth (p ++ take max_key (take (e - 2 - (at + 2)) (drop (at + 2) s)) ∷ []))
-    (n : ℕ) (is : n ≡ length p) (room : n < max_depth) where
+    (room : length p < max_depth) where
   key_pushed : p₁ ≡ p ++ take (e - 4 - at) (drop (at + 2) s) ∷ []
   key_pushed =
       let m : e - 2 - (at + 2) ≡ e - 4 - at = omega arith in
       let key = take (e - 4 - at) (drop (at + 2) s) in
-      pushed ∙ rw m (push-whole max_key max_depth p key (omega arith) (simp length-take (omega (arith, k.at_most))))
+      pushed ∙ rw m (push-whole max_key max_depth p key room (simp length-take (omega (arith, k.at_most))))
 
-  pub key-turn : at < length s → (n + 1 ≡ length p₁) × (left read_key_step p (drop at s) ≡ left read_key_step p₁ (drop e s))
-  key-turn h = rw key_pushed (rw length-append (omega arith), left_step read_key_step s at p h (omega arith) _ e k.reads)
+  pub key-turn : at < length s → left read_key_step p (drop at s) ≡ left read_key_step p₁ (drop e s)
+  key-turn h = rw key_pushed (left_step read_key_step s at p h room _ e k.reads)

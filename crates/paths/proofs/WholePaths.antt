@@ -1,19 +1,18 @@
 -- A path that is the whole text, whatever its steps are: what a loop that reads it has left at a position.
-use Rattle.std.specs.Prelude.{if◌then◌else◌}
 use Prim.Native.Nat.{ℕ, zero, suc, ◌-◌, ◌≤◌, ◌<◌}
 use mathlib.Core.Path.{◌≡◌, refl, ◌∙◌}
 use mathlib.Core.Bool.{true, false}
 use Rattle.std.specs.Prelude.{Option, None, Some}
 use mathlib.Core.List.{List, [], ◌∷◌, ◌++◌}
 use native.Mathlib.Omega.{arith}
-use lib.Dec.{leb, ltb}
+use borrow.Author.Tests.{le-leb}
+use lib.Dec.{leb}
 use lib.ListN.{length, drop, length-append}
 use Rattle.rows.specs.Positions.{Reader, Reads}
 use Rattle.rows.proofs.Positions.{here, over}
 use Rattle.model.specs.Base.{Bytes, text, is_some, ◌>>=◌, ◌>>◌, check, after}
 use Rattle.model.specs.Limits.{max_depth}
 use Rattle.model.specs.Paths.{read_all, read_path}
-use Rattle.model.proofs.Lists.{by_cases}
 use Rattle.lexical.proofs.Runs.{bind-same, bind-bind}
 use Rattle.lexical.proofs.Slices.{after-yes, after-no}
 
@@ -41,9 +40,14 @@ module _ {A : Type 0} (one : Reader ℕ A) where
     unfolding left read_all ◌>>=◌
     left-full h f = let z : max_depth - length p ≡ zero = omega arith in rw (z, here 0 s at h)
 
-    pub left_end : (n : ℕ) → length s ≤ at → n ≡ length p → (if ltb 0 n then Some p else None) ≡ left p (drop at s)
+    -- the text is at its end: a path has one step at least
+    pub left-none : length s ≤ at → length p ≡ 0 → left p (drop at s) ≡ None
     unfolding left ◌>>=◌ ◌>>◌ check
-    left_end n h i = rw (over s at h, i, all_end) (by_cases (leb 1 (length p)) (λ e. rw e) (λ e. rw e))
+    left-none h z = rw (over s at h, all_end, z)
+
+    pub left-all : length s ≤ at → (length p ≡ 0 → ⊥) → left p (drop at s) ≡ Some p
+    unfolding left ◌>>=◌ ◌>>◌ check
+    left-all h f = rw (over s at h, all_end, le-leb 1 (length p) (omega (arith, f)))
 
     -- where there is a next step and room for it
     module _ (h : at < length s) (f : length p < max_depth) where

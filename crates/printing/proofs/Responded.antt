@@ -27,10 +27,10 @@ use Rattle.deliveries.specs.Receivers.{delivery_of}
 use Rattle.deliveries.proofs.Received.{receivers-few}
 use Rattle.deliveries.proofs.Delivered.{delivery-as}
 use Rattle.opening.specs.Memory.{Arrays, state_of, masks_of}
-use Rattle.server.specs.declared.answer.Reply.{Reply}
-use Rattle.server.specs.declared.answer.Reply.TheVariants.{Refused, Session, Length, Accepted}
+use Rattle.std.specs.Prelude.{Ok, Err}
+use Rattle.server.specs.declared.answer.Reply.TheVariants.{Session, Length, Accepted}
 use Rattle.server.specs.Masked.{decide_get_masked, decide_masked, decide_line_masked, decision_masked, mask_for, notified_masked, conclude_masked, effect_of, effect_by_masks}
-use Rattle.server.specs.Replies.{answer_in, told_in, outcome_in, Outputs, StandsAt, act, event_of, ServedByMasks}
+use Rattle.server.specs.Replies.{Given, answer_in, told_in, outcome_in, Outputs, StandsAt, act, event_of, ServedByMasks}
 use Rattle.server.proofs.Agree.{memory-agrees, masked-said}
 use Rattle.printing.specs.Printed.{most_printed, Inside, Left, RespondsByMasks, RespondsByPolicy}
 
@@ -82,21 +82,21 @@ shown-length (sets_login i a) n h = answers-length i a n h
 shown-length (shows x) n h = cc
 shown-length (stores i a f) n h = let z : ◌≡◌ {A = ℕ} 0 1 = cc in absurd (omega arith)
 
-inside_of : (r : Reply) (m : ℕ) → ((n : ℕ) → answer_in r ≡ length_is n → n ≤ m) → Inside r m
-inside_of (Refused e) m f = tt
-inside_of (Session n) m f = tt
-inside_of (Length n) m f = f n refl
-inside_of (Accepted k at) m f = tt
+inside_of : (r : Given) (m : ℕ) → ((n : ℕ) → answer_in r ≡ length_is n → n ≤ m) → Inside r m
+inside_of (Err e) m f = tt
+inside_of (Ok (Session n)) m f = tt
+inside_of (Ok (Length n)) m f = f n refl
+inside_of (Ok (Accepted k at)) m f = tt
 
 -- what the code's `else` tells of a reply
-abbrev pub NotAccepted : Reply → Type 0
-NotAccepted r = (k at : ℕ) → r ≡ Accepted k at → ⊥
+abbrev pub NotAccepted : Given → Type 0
+NotAccepted r = (k at : ℕ) → r ≡ Ok (Accepted k at) → ⊥
 
-none_told : (r : Reply) → NotAccepted r → told_in r ≡ 0
-none_told (Refused e) o = refl
-none_told (Session n) o = refl
-none_told (Length n) o = refl
-none_told (Accepted k at) o = absurd (o k at refl)
+none_told : (r : Given) → NotAccepted r → told_in r ≡ 0
+none_told (Err e) o = refl
+none_told (Ok (Session n)) o = refl
+none_told (Ok (Length n)) o = refl
+none_told (Ok (Accepted k at)) o = absurd (o k at refl)
 
 untold : (o : Outcome) (f : Option Field) → o.told ≡ 0 → print_deliveries o f ≡ []
 unfolding print_deliveries joined
@@ -137,7 +137,7 @@ module _ (s : State) (ms : List ℕ) (b : Bytes) (l : List ℕ) (t : Bytes) (at 
       (λ x shows-it fits. let z : ◌≡◌ {A = ℕ} 0 1 = cc in absurd (omega arith))
 
 -- ── The reply r to a line, with what it left ──
-module _ (before : Arrays) (t : Bytes) (given : Outputs) (r : Reply) (after : Arrays) (left : Outputs) (served : ServedByMasks before t given r after left) where
+module _ (before : Arrays) (t : Bytes) (given : Outputs) (r : Given) (after : Arrays) (left : Outputs) (served : ServedByMasks before t given r after left) where
   abbrev s : State
   s = state_of before
 
@@ -197,7 +197,7 @@ module _ (before : Arrays) (t : Bytes) (given : Outputs) (r : Reply) (after : Ar
   printed-other other = rw (← served.is, untold (outcome_in r (state_of after) left.buffer left.list) _ (none_told r other), append-nil)
 
   -- ── It is accepted ──
-  module _ {k at : ℕ} (is : r ≡ Accepted k at) where
+  module _ {k at : ℕ} (is : r ≡ Ok (Accepted k at)) where
     speaks : Speaks t at (outcome_in r (state_of after) left.buffer left.list)
     unfolding outcome_in conclude_masked unchanged effect_by_masks effect_of
     speaks = subst (Speaks t at) (sym reply-is) (

@@ -2,18 +2,19 @@
 use Rattle.std.specs.Prelude.{ℕ, ◌+◌, ◌*◌, ◌≤◌, ◌≡◌, [], ◌++◌}
 use Rattle.model.specs.Base.{Bytes, text, decimal}
 use Rattle.model.specs.Limits.{max_copy}
-use Rattle.model.specs.Opening.{State, fault}
+use Rattle.model.specs.Opening.{State}
 use Rattle.model.specs.Serving.{Outcome}
 use Rattle.model.specs.Program.{print_fault, printed}
 use Rattle.rows.specs.Rows.{Wrote}
 use Rattle.deliveries.specs.Receivers.{deliveries_text}
 use Rattle.opening.specs.Memory.{Arrays, state_of, masks_of, Agree}
-use Rattle.opening.specs.declared.answer.Opening.{Opening}
-use Rattle.opening.specs.declared.answer.Opening.TheVariants as opening
-use Rattle.server.specs.declared.answer.Reply.{Reply}
+use Rattle.std.specs.Prelude as std
+use Rattle.std.specs.Prelude.{Ok, Err}
+use Rattle.opening.specs.declared.answer.Fault as code
+use Rattle.opening.specs.Answers.{fault_of}
 use Rattle.server.specs.declared.answer.Reply.TheVariants as reply
 use Rattle.server.specs.Masked.{Effect, effect_by_masks, effect_by_policy}
-use Rattle.server.specs.Replies.{Outputs, InMemory, act, event_of}
+use Rattle.server.specs.Replies.{Given, Outputs, InMemory, act, event_of}
 
 -- ── Lengths, in bytes ──
 -- `OK;` and `NO;`
@@ -42,16 +43,16 @@ abbrev pub numbered : Bytes → ℕ → Bytes
 numbered mark n = mark ++ (decimal n ++ text "\n")
 
 -- "a refused opening prints `NO;number;text;line`"
-abbrev pub opening_text : Opening → Bytes
-opening_text opening.Done = []
-opening_text (opening.Refused n t l) = print_fault (fault n t l)
+abbrev pub opening_text : std.Result (Unit {0}) code.Fault → Bytes
+opening_text (Ok u) = []
+opening_text (Err f) = print_fault (fault_of f)
 
 -- a length that was answered lies in the buffer
-abbrev pub Inside : Reply → ℕ → Type 0
-Inside (reply.Refused e) room = Unit {0}
-Inside (reply.Session n) room = Unit {0}
-Inside (reply.Length n) room = n ≤ room
-Inside (reply.Accepted k at) room = Unit {0}
+abbrev pub Inside : Given → ℕ → Type 0
+Inside (Err e) room = Unit {0}
+Inside (Ok (reply.Session n)) room = Unit {0}
+Inside (Ok (reply.Length n)) room = n ≤ room
+Inside (Ok (reply.Accepted k at)) room = Unit {0}
 
 -- the state, the buffer and the list that an act leaves
 abbrev pub Left : Outcome → State → Outputs → Type 0

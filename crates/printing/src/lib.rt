@@ -13,7 +13,8 @@ use buffers::{put, put_byte, put_decimal};
 pub use copies::COPY;
 use deliveries::put_deliveries;
 use lexical::limits::LIST_ROOM;
-use opening::answer::Opening;
+use opening::answer::Fault;
+use refusals::Refusal;
 use server::answer::Reply;
 use server::open::{LOGINS, RECORD, TABLES};
 use server::request::request;
@@ -33,19 +34,19 @@ fn put_numbered(out: &mut [u8], mark: &[u8], n: usize) -> usize
 }
 
 // The answer; behind a length, as many first bytes of the buffer.
-fn put_answer(out: &mut [u8], reply: Reply, buffer: &[u8]) -> usize
+fn put_answer(out: &mut [u8], reply: Result<Reply, Refusal>, buffer: &[u8]) -> usize
     requires { (length buffer.now ≡ max_copy) × Inside reply (length buffer.now) }
     ensures wrote { Wrote 0 (print_answer buffer.now (answer_in reply)) out.old result out.new }
     ensures upper_bound { result ≤ max_copy + most_numbered }
 {
     match reply {
-        Reply::Refused(e) => put_numbered(out, b"NO;", e),
-        Reply::Session(n) => put_numbered(out, b"OK;", n as usize),
-        Reply::Length(n) => {
+        Err(refusal) => put_numbered(out, b"NO;", refusal.number()),
+        Ok(Reply::Session(n)) => put_numbered(out, b"OK;", n as usize),
+        Ok(Reply::Length(n)) => {
             let to = put_numbered(out, b"OK;", n);
             put(out, to, &buffer[..n])
         }
-        Reply::Accepted(_, _) => put(out, 0, b"OK\n"),
+        Ok(Reply::Accepted(_, _)) => put(out, 0, b"OK\n"),
     }
 }
 
@@ -74,25 +75,28 @@ pub fn respond(
 {
     let reply = request(tables, logins, fields, line, buffer, list);
     let to = put_answer(out, reply, buffer);
-    let Reply::Accepted(told, at) = reply else {
+    let Ok(given) = reply else {
+        return to;
+    };
+    let Reply::Accepted(told, at) = given else {
         return to;
     };
     put_deliveries(out, to, list, told, &line[at..])
 }
 
 // `NO;number;text;line` for a refused opening; nothing for an accepted one.
-pub fn put_opening(out: &mut [u8], opened: Opening) -> usize
+pub fn put_opening(out: &mut [u8], opened: Result<(), Fault>) -> usize
     ensures wrote { Wrote 0 (opening_text opened) out.old result out.new }
     ensures upper_bound { result ≤ most_fault }
 {
-    let Opening::Refused(number, text, line) = opened else {
+    let Err(fault) = opened else {
         return 0;
     };
     let mut to = put(out, 0, b"NO;");
-    to = put_decimal(out, to, number);
+    to = put_decimal(out, to, fault.refusal.number());
     to = put_byte(out, to, b';');
-    to = put_decimal(out, to, text);
+    to = put_decimal(out, to, fault.text);
     to = put_byte(out, to, b';');
-    to = put_decimal(out, to, line);
+    to = put_decimal(out, to, fault.line);
     put_byte(out, to, b'\n')
 }

@@ -18,20 +18,20 @@ use Rattle.record.specs.declared.table.Place.{Place}
 use Rattle.record.specs.declared.table.Place.TheVariants.{At, Before}
 use Rattle.record.specs.Search.{place_in}
 use Rattle.record.proofs.Places.{at-holds, before-holds}
-use Rattle.sessions.specs.declared.SessionAt.{SessionAt}
-use Rattle.sessions.specs.declared.SessionAt.TheVariants.{Of, Unknown}
-use Rattle.sessions.specs.Logins.{has_session, session_answer}
+use Rattle.std.specs.Prelude.{Option, None, Some, if◌then◌else◌}
+use Rattle.model.specs.Serving.{index_in}
+use Rattle.sessions.specs.Logins.{has_session}
 use Rattle.sessions.proofs.Known.{no-session, in-session, session-unknown, session-known, session-user}
 use Rattle.pushes.specs.Rulings.{push_decided}
 
-module _ (s : Bytes) (ls : List LoginState) (n : ℕ) {o : SessionAt} (found : o ≡ session_answer (has_session (users_in s) ls n) n) where
+module _ (s : Bytes) (ls : List LoginState) (n : ℕ) {o : Option ℕ} (found : o ≡ (if has_session (users_in s) ls n then Some (index_in n) else None)) where
   -- no open session has the number
-  pub unknown-session : (fs : Fields) (p : Keys) (v : Value) → o ≡ Unknown → push_decided (tables_in s) ls fs n p v ≡ refused 14
+  pub unknown-session : (fs : Fields) (p : Keys) (v : Value) → o ≡ None → push_decided (tables_in s) ls fs n p v ≡ refused 14
   unfolding tables_in push_decided decide_push ◌>>=◌ ◌>>◌ refuse◌if◌
   unknown-session fs p v at = rw (no-session (record { tables = tables_in s; login_states = ls; fields = fs }) n (session-unknown s ls n found at))
 
   -- it is that of the user at i
-  module _ {i : ℕ} (at : o ≡ Of i) where
+  module _ {i : ℕ} (at : o ≡ Some i) where
     -- ── The right: r says whether that user may write the path p ──
     module _
         {row policy : Bytes}

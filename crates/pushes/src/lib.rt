@@ -10,15 +10,17 @@ ghost use Rattle.pushes.specs.Rulings.{RuledAs};
 use layout::table::row_at;
 use paths::field::PATH;
 use record::table::{Place, RECORD, find};
-use sessions::{LOGINS, LoginState, SessionAt, session, state_at};
+use refusals::Refusal;
+use sessions::{LOGINS, LoginState, session, state_at};
 use tables::memory::{TABLES, USER, policy_of, quota};
 use tables::rights::may_write;
 
-// A refusal's number; or the login state of the user at an index becomes this one, and the field is stored at this place.
+// What an accepted push does: the login state of the user at the index becomes this one, and the field is stored at this place.
 #[derive(Clone, Copy)]
-pub enum Ruling {
-    Refused(usize),
-    Stores(usize, LoginState, Place),
+pub struct Ruling {
+    pub index: usize,
+    pub state: LoginState,
+    pub place: Place,
 }
 
 // One field more is created.
@@ -27,9 +29,8 @@ fn creating(state: LoginState) -> LoginState
     ensures { state_of result ≡ creating (state_of state) false }
 {
     LoginState {
-        logins: state.logins,
-        is_open: state.is_open,
         created: state.created + 1,
+        ..state
     }
 }
 
@@ -41,31 +42,37 @@ fn small_quota(user: &[u8]) -> usize
     quota(user)
 }
 
-// PUSH: 14 no open session has this number; 16 the user may not write the path; 17 the field is absent and the user has created as many as the quota.
+// PUSH: refused for the session, for the right to write the path, and where the field is absent for the quota.
 pub fn decide(
     tables: &[u8; TABLES],
     logins: &[u16; LOGINS],
     fields: &[u8; RECORD],
     n: u32,
     path: &[u8; PATH],
-) -> Ruling
+) -> Result<Ruling, Refusal>
     ensures { RuledAs tables.now logins.now fields.now
         n path.now result }
 {
-    let SessionAt::Of(i) = session(tables, logins, n) else {
-        return Ruling::Refused(14);
-    };
+    let i = session(tables, logins, n).ok_or(Refusal::NoSession)?;
     let user = row_at(tables, USER, i);
     if !may_write(policy_of(tables), user, path) {
-        return Ruling::Refused(16);
+        return Err(Refusal::NoRight);
     }
     let state = state_at(logins, i);
     let place = find(fields, path);
     let Place::Before(_) = place else {
-        return Ruling::Stores(i, state, place);
+        return Ok(Ruling {
+            index: i,
+            state,
+            place,
+        });
     };
     if small_quota(user) <= (state.created as usize) {
-        return Ruling::Refused(17);
+        return Err(Refusal::QuotaUsed);
     }
-    Ruling::Stores(i, creating(state), place)
+    Ok(Ruling {
+        index: i,
+        state: creating(state),
+        place,
+    })
 }

@@ -12,8 +12,6 @@ use Rattle.model.specs.RecordText.{Node, Members, leaf, object, no_members, memb
 use Rattle.model.proofs.Lists.{none-some}
 use Rattle.model.proofs.Reading.{after-cases}
 use Rattle.values.specs.declared.value.Scalar.{Scalar}
-use Rattle.values.specs.declared.value.ValueAt.{ValueAt}
-use Rattle.values.specs.declared.value.ValueAt.TheVariants as value-at
 use Rattle.values.specs.Scalars.{value_in, value_answer}
 use Rattle.lexical.proofs.Runs.{bind-same, bind-bind}
 use Rattle.lexical.proofs.Readers.{rest-on, leaves-or, leaves-bind, leaves-some}
@@ -88,15 +86,15 @@ leaves-object (suc d) s t h =
     (λ x u i. leaves-members (read_node d) (leaves-node d (leaves-object d)) (length x) no_members x u i) s t h
 
 -- ── What a key holds, by positions ──
-module _ (d : ℕ) (s : Bytes) (v : ℕ) (x : ValueAt) (answer : value_answer s x ≡ placed read_scalar s v) where
-  pub node-leaf : v ≤ length s → (w : Scalar) (e : ℕ) → x ≡ value-at.At w e → Reads (read_node d) s v (leaf (value_in s w)) e
+module _ (d : ℕ) (s : Bytes) (v : ℕ) (x : Option (Scalar × ℕ)) (answer : value_answer s x ≡ placed read_scalar s v) where
+  pub node-leaf : v ≤ length s → (w : Scalar) (e : ℕ) → x ≡ Some (w, e) → Reads (read_node d) s v (leaf (value_in s w)) e
   unfolding ◌>>=◌ ◌<|>◌
   node-leaf h w e i =
       let r = scalar-reads s v x answer h w e i in
       record { from = r.from; to = r.to; is = rw (leaf-scalar (drop v s), r.is) }
 
   -- where it is no value it is an object, or nothing
-  pub node-mapped : x ≡ value-at.Bad → {B : Type 0} (g : Node → B) → placed (mapped (λ m. g (object m)) (read_object d)) s v ≡ placed (mapped g (read_node d)) s v
+  pub node-mapped : x ≡ None → {B : Type 0} (g : Node → B) → placed (mapped (λ m. g (object m)) (read_object d)) s v ≡ placed (mapped g (read_node d)) s v
   unfolding placed mapped ◌>>=◌ ◌<|>◌ as_node
   node-mapped i {B} g = rw (leaf-scalar (drop v s), scalar-bad s v x answer i) (go (read_object d (drop v s)))
     where

@@ -2,14 +2,14 @@
 use Rattle.std.specs.Prelude.{if◌then◌else◌}
 use Prim.Native.Nat.{ℕ, suc, ◌+◌, ◌-◌, ◌≤◌, ◌<◌}
 use mathlib.Core.Path.{◌≡◌, refl, sym, ap, ◌∙◌}
-use Rattle.std.specs.Prelude.{Option, None, Some}
-use mathlib.Core.Bool.{Bool, true, false}
+use Rattle.std.specs.Prelude.{Option, None, Some, option_map}
+use mathlib.Core.Bool.{true, false}
 use mathlib.Core.List.{[], ◌∷◌}
 use native.Mathlib.Omega.{arith}
-use borrow.Author.Tests.{eq-eqb, eqb-true}
+use borrow.Author.Tests.{eq-eqb, ne_eqb, eqb-true}
 use lib.Dec.{eqb}
 use lib.ListN.{length, get_or, take, drop, length-drop}
-use Rattle.rows.specs.Positions.{Reader, Reads, behind, placed, run_end, LeavesEnd}
+use Rattle.rows.specs.Positions.{Reader, Reads, placed, run_end, LeavesEnd}
 use Rattle.rows.proofs.Positions.{here, over, run-within, placed-reads, placed-none, none-placed, reads-placed}
 use Rattle.model.specs.Base.{Bytes, text, ◌>>=◌, ◌>>◌, check, after, span}
 use Rattle.model.specs.Names.{name_byte, is_key}
@@ -20,19 +20,16 @@ use Rattle.model.proofs.Lists.{by_cases, none-some}
 use Rattle.model.proofs.Reading.{bind-some, some_same, after-some, span-joins}
 use Rattle.lexical.specs.declared.class.Class.TheVariants.{Name}
 use Rattle.values.specs.declared.value.Scalar.{Scalar}
-use Rattle.values.specs.declared.value.ValueAt.{ValueAt}
-use Rattle.values.specs.declared.value.ValueAt.TheVariants as value-at
 use Rattle.lexical.specs.Classes.{read_between}
 use Rattle.values.specs.Scalars.{value_in, value_answer}
 use Rattle.lexical.proofs.Runs.{span-at, rest_of, bind-same, bind-bind, check_bind}
 use Rattle.lexical.proofs.Between.{Stands, Quoted, between-gives, between-leaves, quoted-between}
 use Rattle.values.proofs.Values.{told, value-leaves}
 use Rattle.lexical.proofs.Readers.{rest-on, leaves-bind, leaves_word, leaves-some}
-use Rattle.reader.specs.Tokens.{is_structural, read_structural, read_token, read_scalar, read_member, token_answer, key_answer, MemberInText}
-use Rattle.reader.specs.declared.tokens.TokenAt.{TokenAt}
-use Rattle.reader.specs.declared.tokens.TokenAt.TheVariants.{Open, Close, Colon, Comma, Bad}
-use Rattle.reader.specs.declared.tokens.KeyAt.{KeyAt}
-use Rattle.reader.specs.declared.tokens.KeyAt.TheVariants as key-at
+use Rattle.reader.specs.Tokens.{is_structural, read_structural, read_token, read_scalar, read_member, token_byte, token_answer, key_answer, MemberInText}
+use Rattle.reader.specs.declared.tokens.Key.{Key}
+use Rattle.reader.specs.declared.tokens.Token.{Token}
+use Rattle.reader.specs.declared.tokens.Token.TheVariants.{Open, Close, Colon, Comma}
 use Rattle.model.specs.Limits.{max_key}
 
 -- ── Blanks ──
@@ -105,6 +102,13 @@ structural-given b h (c ∷ s) = by_cases (eqb b c)
     (λ e. let k : is_structural c ≡ true = rw (eqb-true b c e) at h in rw (k, e))
     (λ e. by_cases (is_structural c) (λ k. rw (k, e)) (λ k. rw (k, e)))
 
+is-structural : (t : Token) → is_structural (token_byte t) ≡ true
+unfolding is_structural
+is-structural Open = refl
+is-structural Close = refl
+is-structural Colon = refl
+is-structural Comma = refl
+
 structural-leaves : LeavesEnd read_structural
 unfolding read_structural
 structural-leaves [] t h = none-some h
@@ -124,14 +128,14 @@ module _ (s : Bytes) (at : ℕ) where
   unfolding read_structural
   structural-not h k = sym (placed-none read_structural s at (rw (here 0 s at h, k)))
 
-  pub structural-is : at < length s → (n : ℕ) → n ≡ run_end is_blank s (at + 1) → (b : ℕ) → is_structural b ≡ true → get_or s at 0 ≡ b → Some (b, n) ≡ placed read_structural s at
+  pub structural-is : at < length s → (n : ℕ) → n ≡ run_end is_blank s (at + 1) → (t : Token) → get_or s at 0 ≡ token_byte t → Some (token_byte t, n) ≡ placed read_structural s at
   unfolding read_structural
-  structural-is h n is b k e =
+  structural-is h n is t e =
       let w = run-within is_blank s (at + 1) n is (omega arith) in
-      sym (placed-reads read_structural s at b n (record {
+      sym (placed-reads read_structural s at (token_byte t) n (record {
         from = omega arith;
         to = w.1;
-        is = rw (here 0 s at h, e, k, skip_at s (at + 1) n is);
+        is = rw (here 0 s at h, e, is-structural t, skip_at s (at + 1) n is);
       }))
 
 -- ── A key, and a value ──
@@ -147,7 +151,7 @@ key-leaves = spaced-leaves _ _ key-spaced (between-leaves Name 0x22 1 max_key)
 
 module _ (s : Bytes) (at : ℕ) where
   -- a key that stands in quotes
-  pub key-is : (e : ℕ) → Stands Name 0x22 1 max_key s at e → (n : ℕ) → n ≡ run_end is_blank s e → key_answer s (key-at.At (at + 1) (e - 1) n) ≡ placed read_key s at
+  pub key-is : (e : ℕ) → Stands Name 0x22 1 max_key s at e → (n : ℕ) → n ≡ run_end is_blank s e → Some (take (e - 1 - (at + 1)) (drop (at + 1) s), n) ≡ placed read_key s at
   key-is e q n is =
       let m : e - 1 - (at + 1) ≡ e - 2 - at = omega arith in
       rw m (spaced-reads _ _ key-spaced s at _ e q.reads n is)
@@ -160,107 +164,52 @@ pub scalar-leaves : LeavesEnd read_scalar
 scalar-leaves = spaced-leaves _ _ scalar-spaced value-leaves
 
 -- ── For a caller: what an answer says ──
--- the answer's token is b
-answers : ℕ → Option (ℕ × ℕ) → Bool
-answers b None = false
-answers b (Some p) = eqb b p.0
+-- the token of a byte: two tokens have two bytes
+token_of : ℕ → Option Token
+token_of b = if eqb b 0x7B then Some Open else (if eqb b 0x7D then Some Close else (if eqb b 0x3A then Some Colon else Some Comma))
 
--- a token that is not the variant that the code's `let` asks for
-not-open : (x : TokenAt) → ((e : ℕ) → x ≡ Open e → ⊥) → answers 0x7B (token_answer x) ≡ false
-unfolding answers
-not-open (Open e) h = absurd (h e refl)
-not-open (Close e) h = refl
-not-open (Colon e) h = refl
-not-open (Comma e) h = refl
-not-open Bad h = refl
+of-byte : (t : Token) → token_of (token_byte t) ≡ Some t
+unfolding token_of
+of-byte Open = refl
+of-byte Close = refl
+of-byte Colon = refl
+of-byte Comma = refl
 
-not-close : (x : TokenAt) → ((e : ℕ) → x ≡ Close e → ⊥) → answers 0x7D (token_answer x) ≡ false
-unfolding answers
-not-close (Open e) h = refl
-not-close (Close e) h = absurd (h e refl)
-not-close (Colon e) h = refl
-not-close (Comma e) h = refl
-not-close Bad h = refl
+module _ (s : Bytes) (at : ℕ) where
+  -- no token is no given one
+  pub token-absent : None ≡ placed read_structural s at → (t : Token) → read_token (token_byte t) (drop at s) ≡ None
+  unfolding ◌>>=◌
+  token-absent h t = structural-given (token_byte t) (is-structural t) (drop at s) ∙ rw (none-placed read_structural s at (sym h))
 
-not-colon : (x : TokenAt) → ((e : ℕ) → x ≡ Colon e → ⊥) → answers 0x3A (token_answer x) ≡ false
-unfolding answers
-not-colon (Open e) h = refl
-not-colon (Close e) h = refl
-not-colon (Colon e) h = absurd (h e refl)
-not-colon (Comma e) h = refl
-not-colon Bad h = refl
+  module _ (t : Token) (e : ℕ) (answer : Some (token_byte t, e) ≡ placed read_structural s at) where
+    structural-reads : at ≤ length s → Reads read_structural s at (token_byte t) e
+    structural-reads h = reads-placed read_structural s at structural-leaves h (token_byte t) e (sym answer)
 
-not-comma : (x : TokenAt) → ((e : ℕ) → x ≡ Comma e → ⊥) → answers 0x2C (token_answer x) ≡ false
-unfolding answers
-not-comma (Open e) h = refl
-not-comma (Close e) h = refl
-not-comma (Colon e) h = refl
-not-comma (Comma e) h = absurd (h e refl)
-not-comma Bad h = refl
-
-module _ (s : Bytes) (at : ℕ) (x : TokenAt) (answer : token_answer x ≡ placed read_structural s at) where
-  module _ (b : ℕ) (k : is_structural b ≡ true) where
-    structural-stands : at ≤ length s → (e : ℕ) → token_answer x ≡ Some (b, e) → Reads (read_token b) s at tt e
+    -- the given token, or another
+    pub token-stands : at ≤ length s → Reads (read_token (token_byte t)) s at tt e
     unfolding ◌>>=◌
-    structural-stands h e i =
-        let r = reads-placed read_structural s at structural-leaves h b e (sym answer ∙ i) in
-        record { from = r.from; to = r.to; is = structural-given b k (drop at s) ∙ rw (r.is, eq-eqb b b refl) }
+    token-stands h =
+        let r = structural-reads h in
+        record { from = r.from; to = r.to; is = structural-given (token_byte t) (is-structural t) (drop at s) ∙ rw (r.is, eq-eqb (token_byte t) (token_byte t) refl) }
 
-    structural-other : answers b (token_answer x) ≡ false → read_token b (drop at s) ≡ None
-    unfolding ◌>>=◌ placed behind answers
-    structural-other n = structural-given b k (drop at s) ∙ go (read_structural (drop at s)) (sym answer)
-      where
-        go : (o : Option (ℕ × Bytes)) → behind s o ≡ token_answer x → (o >>= only b) ≡ None
-        go None i = refl
-        go (Some t) i = rw (rw (← i) at n)
+    pub token-other : at ≤ length s → (u : Token) → (t ≡ u → ⊥) → read_token (token_byte u) (drop at s) ≡ None
+    unfolding ◌>>=◌
+    token-other h u f =
+        let r = structural-reads h in
+        let n : token_byte u ≡ token_byte t → ⊥ = λ i. f (some_same (sym (of-byte t) ∙ ap token_of (sym i) ∙ of-byte u)) in
+        structural-given (token_byte u) (is-structural u) (drop at s) ∙ rw (r.is, ne_eqb (token_byte u) (token_byte t) n)
 
-  -- a token that the code's `let` told
-  module _ (h : at ≤ length s) (e : ℕ) where
-    pub open-stands : x ≡ Open e → Reads (read_token 0x7B) s at tt e
-    unfolding is_structural
-    open-stands i = structural-stands 0x7B refl h e (ap token_answer i)
+-- the same of an answer that is not known to be a token
+pub token-not : (s : Bytes) (at : ℕ) (r : Option (Token × ℕ)) → option_map token_answer r ≡ placed read_structural s at → at ≤ length s
+    → (u : Token) → ((e : ℕ) → r ≡ Some (u, e) → ⊥) → read_token (token_byte u) (drop at s) ≡ None
+token-not s at None answer h u f = token-absent s at answer u
+token-not s at (Some (t, e)) answer h u f = token-other s at t e answer h u (λ i. f e (rw i refl))
 
-    pub close-stands : x ≡ Close e → Reads (read_token 0x7D) s at tt e
-    unfolding is_structural
-    close-stands i = structural-stands 0x7D refl h e (ap token_answer i)
-
-    pub colon-stands : x ≡ Colon e → Reads (read_token 0x3A) s at tt e
-    unfolding is_structural
-    colon-stands i = structural-stands 0x3A refl h e (ap token_answer i)
-
-    pub comma-stands : x ≡ Comma e → Reads (read_token 0x2C) s at tt e
-    unfolding is_structural
-    comma-stands i = structural-stands 0x2C refl h e (ap token_answer i)
-
-  -- a token that the code's `else` is left with
-  pub no-open : ((e : ℕ) → x ≡ Open e → ⊥) → read_token 0x7B (drop at s) ≡ None
-  unfolding is_structural
-  no-open h = structural-other 0x7B refl (not-open x h)
-
-  pub no-close : ((e : ℕ) → x ≡ Close e → ⊥) → read_token 0x7D (drop at s) ≡ None
-  unfolding is_structural
-  no-close h = structural-other 0x7D refl (not-close x h)
-
-  pub no-colon : ((e : ℕ) → x ≡ Colon e → ⊥) → read_token 0x3A (drop at s) ≡ None
-  unfolding is_structural
-  no-colon h = structural-other 0x3A refl (not-colon x h)
-
-  pub no-comma : ((e : ℕ) → x ≡ Comma e → ⊥) → read_token 0x2C (drop at s) ≡ None
-  unfolding is_structural
-  no-comma h = structural-other 0x2C refl (not-comma x h)
-
-module _ (f : Reader ℕ Bytes) (s : Bytes) (at : ℕ) (x : KeyAt) (answer : key_answer s x ≡ placed f s at) where
-  pub key-bad : x ≡ key-at.Bad → f (drop at s) ≡ None
-  key-bad i = none-placed f s at (told (key_answer s) answer i)
-
-  pub key_reads : LeavesEnd f → at ≤ length s → (a e n : ℕ) → x ≡ key-at.At a e n → Reads f s at (take (e - a) (drop a s)) n
-  key_reads leaves h a e n i = reads-placed f s at leaves h _ n (told (key_answer s) answer i)
-
-module _ (s : Bytes) (at : ℕ) (x : ValueAt) (answer : value_answer s x ≡ placed read_scalar s at) where
-  pub scalar-bad : x ≡ value-at.Bad → read_scalar (drop at s) ≡ None
+module _ (s : Bytes) (at : ℕ) (x : Option (Scalar × ℕ)) (answer : value_answer s x ≡ placed read_scalar s at) where
+  pub scalar-bad : x ≡ None → read_scalar (drop at s) ≡ None
   scalar-bad i = none-placed read_scalar s at (told (value_answer s) answer i)
 
-  pub scalar-reads : at ≤ length s → (v : Scalar) (e : ℕ) → x ≡ value-at.At v e → Reads read_scalar s at (value_in s v) e
+  pub scalar-reads : at ≤ length s → (v : Scalar) (e : ℕ) → x ≡ Some (v, e) → Reads read_scalar s at (value_in s v) e
   scalar-reads h v e i = reads-placed read_scalar s at scalar-leaves h (value_in s v) e (told (value_answer s) answer i)
 
 -- a token as the model has it; it takes its byte
@@ -336,15 +285,13 @@ member-quoted l name r h =
     let e : q.0 ≡ name = ap (λ (p : Bytes × Bytes). p.0) (some_same w) ∙ ap (λ (p : Bytes × Bytes). p.0) (some_same n) in
     (q.1, rw e at (between-gives Name 0x22 1 max_key l q.0 q.1 v))
 
--- a member whose key stands from `from` to `to`, and what it holds from v on
-pub record MemberStands (s : Bytes) (at from to v : ℕ) : Type 0 where
-  pub quote : from ≡ at + 1
-  pub least : from < to
-  pub colon : to + 1 < v
-  pub reads : Reads read_member s at (take (to - from) (drop from s)) v
+-- a member whose key k stands there, with its colon
+pub record MemberStands (s : Bytes) (at : ℕ) (k : Key) : Type 0 where
+  pub quote : k.from ≡ at + 1
+  pub least : k.from < k.to
+  pub colon : k.to + 1 < k.next
+  pub reads : Reads read_member s at (key_answer s k).0 k.next
 
-pub member-stands : (s : Bytes) (at : ℕ) (x : KeyAt) → key_answer s x ≡ placed read_member s at → MemberInText at x s → at ≤ length s
-    → (from to v : ℕ) → x ≡ key-at.At from to v → MemberStands s at from to v
-member-stands s at x answer inside h from to v i =
-    let w = rw i at inside in
-    record { quote = w.0; least = w.1; colon = w.2; reads = key_reads read_member s at x answer member-leaves h from to v i }
+pub member-stands : (s : Bytes) (at : ℕ) (k : Key) → Some (key_answer s k) ≡ placed read_member s at → MemberInText at k s → at ≤ length s → MemberStands s at k
+member-stands s at k answer inside h =
+    record { quote = inside.0; least = inside.1; colon = inside.2; reads = reads-placed read_member s at member-leaves h _ _ (sym answer) }

@@ -1,38 +1,39 @@
 -- A word at one of several positions, and the keys that stand at them.
 use Prim.Native.Nat.{ℕ, ◌+◌, ◌-◌, ◌≤◌, ◌<◌}
 use mathlib.Core.Path.{◌≡◌, refl, sym, ap, ◌∙◌}
-use mathlib.Core.Bool.{true, false, ◌||◌}
+use mathlib.Core.Bool.{true, false, ◌&&◌, ◌||◌}
 use mathlib.Core.List.{List, [], ◌∷◌, ◌++◌}
 use native.Mathlib.Omega.{arith}
-use borrow.Author.Tests.{ne_eqb}
-use lib.Dec.{eqb}
-use lib.ListN.{length, get_or, take, drop, length-drop}
+use borrow.Author.Tests.{ne_eqb, ltb-false}
+use lib.Dec.{eqb, ltb}
+use lib.ListN.{length, take, drop, length-drop}
 use lib.Seq.{drop-drop, length-take-le, take-append-add}
-use Rattle.rows.proofs.Positions.{here, over}
+use Rattle.std.specs.List.{list_any}
+use Rattle.rows.proofs.Positions.{over}
 use Rattle.model.specs.Base.{Bytes, any, all, among, is_some, after, within, ◌≐◌}
 use Rattle.model.specs.Names.{name_byte}
 use Rattle.model.specs.RecordText.{Node, Members, no_members, member, keys_in}
 use Rattle.model.proofs.Lists.{by_cases, never, and_both}
 use Rattle.lexical.specs.declared.class.Class.TheVariants.{Name}
 use Rattle.lexical.proofs.Between.{Quoted}
-use Rattle.lexical.proofs.Slices.{after-short}
+use Rattle.lexical.proofs.Slices.{after-yes}
 use Rattle.reader.specs.Summaries.{stands_at_one}
 use Rattle.model.specs.Limits.{max_key}
 
--- ── A loop over the positions: what stands at the next, and none left ──
-module _ (w s : Bytes) (at : List ℕ) (i : ℕ) where
-  module _ (h : i < length at) where
-    pub stands-step : stands_at_one w s (drop i at) ≡ (is_some (after w (drop (get_or at i 0) s)) || stands_at_one w s (drop (i + 1) at))
-    unfolding stands_at_one any
-    stands-step = rw (here 0 at i h)
+-- no word stands in a text that is shorter
+after-short : (w s : Bytes) → length s < length w → is_some (after w s) ≡ false
+after-short w s h = by_cases (is_some (after w s)) (λ e. absurd (omega (arith, (after-yes w s e).1))) (λ e. e)
 
-    -- no word stands behind the end of the text
-    pub stands-past : 0 < length w → length s ≤ get_or at i 0 → stands_at_one w s (drop i at) ≡ stands_at_one w s (drop (i + 1) at)
-    stands-past p q = stands-step ∙ rw (over s (get_or at i 0) q, after-short w [] (omega arith))
+-- ── A position at or behind the end of the text is none at which a word stands ──
+stands-within : (w s : Bytes) → 0 < length w → (i : ℕ) → (ltb i (length s) && is_some (after w (drop i s))) ≡ is_some (after w (drop i s))
+stands-within w s h i = by_cases (ltb i (length s))
+    (λ e. rw e)
+    (λ e. let q : length s ≤ i = omega (arith, ltb-false i (length s) e) in rw (e, over s i q, after-short w [] (omega arith)))
 
-  pub stands-over : length at ≤ i → stands_at_one w s (drop i at) ≡ false
-  unfolding stands_at_one any
-  stands-over h = rw (over at i h)
+pub stands-listed : (w s : Bytes) → 0 < length w → (at : List ℕ) → list_any (λ i. ltb i (length s) && is_some (after w (drop i s))) at ≡ stands_at_one w s at
+unfolding stands_at_one any
+stands-listed w s h [] = refl
+stands-listed w s h (i ∷ at) = rw (stands-within w s h i, stands-listed w s h at)
 
 -- one position more
 stands-more : (w s : Bytes) (at : List ℕ) (a : ℕ) → stands_at_one w s (at ++ a ∷ []) ≡ (is_some (after w (drop a s)) || stands_at_one w s at)

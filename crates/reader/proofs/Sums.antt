@@ -11,9 +11,8 @@ use lib.Seq.{take-take, take-set-le, take-suc-set, drop-append-le, length-take-l
 use Rattle.rows.proofs.Rows.{drop-take}
 use Rattle.model.specs.Base.{Bytes, among}
 use Rattle.model.specs.RecordText.{Node, Members, no_members, member, keys_in, twice_in, twice, count_in, count}
-use Rattle.reader.specs.Summaries.{member_bytes, HaveRoom, stands_at_one, summary, FieldsWithin}
-use Rattle.reader.specs.declared.grammar.ObjectAt.{ObjectAt}
-use Rattle.reader.specs.declared.grammar.ObjectAt.TheVariants.{At, Bad}
+use Rattle.reader.specs.Summaries.{member_bytes, HaveRoom, stands_at_one, summary}
+use Rattle.reader.specs.declared.tokens.Key.{Key}
 use Rattle.reader.proofs.Spaced.{MemberStands, member-quoted}
 use Rattle.reader.proofs.Standing.{Names, names-none, names_more, word-seen}
 
@@ -77,33 +76,28 @@ module _ (s : Bytes) (at top : ℕ) (keys₀ keys : List ℕ) (n fields : ℕ) (
       sym (take-take top (n + 1) now (omega (arith, before.above)))
       ∙ rw same (take-take top (n + 1) (set keys n a) (omega (arith, before.above)) ∙ take-set-le top keys n a before.above ∙ before.kept)
 
-  -- a member more: its key stands from `from` to `to`, and what it holds ends at e
-  module _ (fit : HaveRoom s keys₀) (from to v : ℕ) (key : MemberStands s i from to v) where
+  -- a member more: what its key k holds ends at e
+  module _ (fit : HaveRoom s keys₀) (k : Key) (key : MemberStands s i k) where
     pub sums-room : n < length keys
     sums-room = omega (arith, before.long, before.room, key.quote, key.least, key.colon, key.reads.to)
 
-    sums-seen : stands_at_one (take (to + 1 - from) (drop from s)) s (take (n - top) (drop top keys)) ≡ among (take (to - from) (drop from s)) (keys_in m)
+    sums-seen : stands_at_one (take (k.to + 1 - k.from) (drop k.from s)) s (take (n - top) (drop top keys)) ≡ among (take (k.to - k.from) (drop k.from s)) (keys_in m)
     sums-seen =
         let q = member-quoted _ _ _ key.reads.is in
-        word-seen s _ m before.names _ q.0 i q.1 from key.quote to (omega (arith, key.least)) (omega (arith, key.colon, key.reads.to)) refl
+        word-seen s _ m before.names _ q.0 i q.1 k.from key.quote k.to (omega (arith, key.least)) (omega (arith, key.colon, key.reads.to)) refl
 
-    pub sums-more : (seen : Bool) → seen ≡ stands_at_one (take (to + 1 - from) (drop from s)) s (take (n - top) (drop top keys))
-        → (now : List ℕ) → length now ≡ length keys₀ → take (n + 1) now ≡ take (n + 1) (set keys n from)
-        → (a : Node) (e more : ℕ) (again : Bool) → v ≤ e → i + more ≤ e → node_summary a ≡ (more, again)
-        → Sums s at top keys₀ now (n + 1) (fields + more) (seen || again || doubled) (member m (take (to - from) (drop from s)) a) e
+    pub sums-more : (seen : Bool) → seen ≡ stands_at_one (take (k.to + 1 - k.from) (drop k.from s)) s (take (n - top) (drop top keys))
+        → (now : List ℕ) → length now ≡ length keys₀ → take (n + 1) now ≡ take (n + 1) (set keys n k.from)
+        → (a : Node) (e more : ℕ) (again : Bool) → k.next ≤ e → i + more ≤ e → node_summary a ≡ (more, again)
+        → Sums s at top keys₀ now (n + 1) (fields + more) (seen || again || doubled) (member m (take (k.to - k.from) (drop k.from s)) a) e
     sums-more seen is now l same a e more again f w is_sum =
         let q = member-quoted _ _ _ key.reads.is in
         record {
           long = l;
           above = omega (arith, before.above);
           room = omega (arith, before.room, key.quote, key.least, key.colon);
-          kept = sums_kept now from same;
-          names = rw (positions-more top keys now n from before.above sums-room same) (names_more s _ m before.names _ q.0 i q.1 from key.quote a);
+          kept = sums_kept now k.from same;
+          names = rw (positions-more top keys now n k.from before.above sums-room same) (names_more s _ m before.names _ q.0 i q.1 k.from key.quote a);
           within = omega (arith, before.within);
           sums = summary-more m _ a fields more doubled again before.sums is_sum ∙ rw (is ∙ sums-seen);
         }
-
--- what is within a later part is within an earlier one
-pub within-earlier : (i v : ℕ) → i ≤ v → (r : ObjectAt) → FieldsWithin v r → FieldsWithin i r
-within-earlier i v h (At e n t) w = omega arith
-within-earlier i v h Bad w = tt

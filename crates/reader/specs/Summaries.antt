@@ -1,13 +1,13 @@
 -- What is asked of a record's text before a field of it is stored, and what the answers say.
 use Rattle.std.specs.Prelude.{ℕ, ◌+◌, ◌*◌, ◌≤◌, Bool, List, length, drop}
 use Rattle.std.specs.Prelude.{Option, None, Some}
+use Rattle.std.specs.Prelude as std
 use Rattle.model.specs.Base.{Bytes, any, is_some, after}
 use Rattle.model.specs.RecordText.{Members, tree_of, twice, count}
 use Rattle.model.specs.Refusals.{Result, refused, done, ◌>>=◌, ◌>>◌, refuse◌if◌, ◌or◌}
-use Rattle.reader.specs.declared.grammar.ObjectAt.{ObjectAt}
-use Rattle.reader.specs.declared.grammar.ObjectAt.TheVariants as object-at
-use Rattle.reader.specs.declared.grammar.RecordRead.{RecordRead}
-use Rattle.reader.specs.declared.grammar.RecordRead.TheVariants as record-read
+use Rattle.reader.specs.declared.grammar.Object.{Object}
+use Rattle.reader.specs.declared.grammar.RecordError.{RecordError}
+use Rattle.reader.specs.declared.grammar.RecordError.TheVariants.{NotRecord, KeyTwice}
 
 -- ── Keys of a text ──
 -- a key, its quotes and its colon take at least these bytes
@@ -27,14 +27,9 @@ stands_at_one w s at = any (λ i. is_some (after w (drop i s))) at
 unfoldable pub summary : Members → ℕ × Bool
 summary m = (count m, twice m)
 
-abbrev pub object_answer : ObjectAt → Option ((ℕ × Bool) × ℕ)
-object_answer (object-at.At e n t) = Some ((n, t), e)
-object_answer object-at.Bad = None
-
--- an object has no more fields than bytes
-abbrev pub FieldsWithin : ℕ → ObjectAt → Type 0
-FieldsWithin at (object-at.At e n t) = at + n ≤ e
-FieldsWithin at object-at.Bad = Unit {0}
+-- what an answer says of it, and where it ends
+abbrev pub object_answer : Object → (ℕ × Bool) × ℕ
+object_answer o = ((o.fields, o.twice), o.end)
 
 -- "8 not in the grammar; 6 a key twice in one object", else how many fields
 unfoldable pub reading_of : Bytes → Result ℕ ℕ
@@ -43,7 +38,12 @@ reading_of s = do
   refuse 6 if twice m
   done (count m)
 
-abbrev pub read_answer : RecordRead → Result ℕ ℕ
-read_answer record-read.NotRecord = refused 8
-read_answer record-read.KeyTwice = refused 6
-read_answer (record-read.Fields n) = done n
+-- the number of each refusal
+abbrev pub error_number : RecordError → ℕ
+error_number NotRecord = 8
+error_number KeyTwice = 6
+
+-- an answer as the model has it
+abbrev pub read_answer : std.Result ℕ RecordError → Result ℕ ℕ
+read_answer (std.Ok n) = done n
+read_answer (std.Err e) = refused (error_number e)

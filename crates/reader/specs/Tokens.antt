@@ -6,10 +6,9 @@ use Rattle.model.specs.Base.{Bytes, text, ◌>>=◌, ◌<|>◌}
 use Rattle.model.specs.Limits.{max_depth}
 use Rattle.model.specs.Values.{Value, read_value}
 use Rattle.model.specs.RecordText.{Members, skip, token, read_key, read_object, read_empty}
-use Rattle.reader.specs.declared.tokens.KeyAt.{KeyAt}
-use Rattle.reader.specs.declared.tokens.KeyAt.TheVariants as key-at
-use Rattle.reader.specs.declared.tokens.TokenAt.{TokenAt}
-use Rattle.reader.specs.declared.tokens.TokenAt.TheVariants as token-at
+use Rattle.reader.specs.declared.tokens.Key.{Key}
+use Rattle.reader.specs.declared.tokens.Token.{Token}
+use Rattle.reader.specs.declared.tokens.Token.TheVariants.{Open, Close, Colon, Comma}
 
 -- RFC 8259's structural characters, of which the grammar has these: each is a token of one byte
 unfoldable pub is_structural : ℕ → Bool
@@ -20,13 +19,16 @@ unfoldable pub read_structural : Bytes → Option (ℕ × Bytes)
 read_structural [] = None
 read_structural (b ∷ s) = if is_structural b then Some (b, skip s) else None
 
+-- a token's byte
+abbrev pub token_byte : Token → ℕ
+token_byte Open = 0x7B
+token_byte Close = 0x7D
+token_byte Colon = 0x3A
+token_byte Comma = 0x2C
+
 -- which one was read, and where the next token stands
-abbrev pub token_answer : TokenAt → Option (ℕ × ℕ)
-token_answer (token-at.Open e) = Some (0x7B, e)
-token_answer (token-at.Close e) = Some (0x7D, e)
-token_answer (token-at.Colon e) = Some (0x3A, e)
-token_answer (token-at.Comma e) = Some (0x2C, e)
-token_answer token-at.Bad = None
+abbrev pub token_answer : Token × ℕ → ℕ × ℕ
+token_answer t = (token_byte t.0, t.1)
 
 -- a given token of one byte
 unfoldable pub read_token : ℕ → Bytes → Option (Unit {0} × Bytes)
@@ -36,14 +38,13 @@ read_token b s = token (b ∷ []) s >>= λ r. Some (tt, r)
 unfoldable pub read_scalar : Bytes → Option (Value × Bytes)
 read_scalar s = read_value s >>= λ t. Some (t.0, skip t.1)
 
-abbrev pub key_answer : Bytes → KeyAt → Option (Bytes × ℕ)
-key_answer s (key-at.At a e n) = Some (take (e - a) (drop a s), n)
-key_answer s key-at.Bad = None
+-- a key's bytes, and where the next token stands
+abbrev pub key_answer : Bytes → Key → Bytes × ℕ
+key_answer s k = (take (k.to - k.from) (drop k.from s), k.next)
 
 -- a key's part lies in the text, between two quotes
-abbrev pub KeyInText : ℕ → KeyAt → Bytes → Type 0
-KeyInText at (key-at.At a e n) s = (a ≡ at + 1) × (a < e) × (e < n) × (n ≤ length s)
-KeyInText at key-at.Bad s = Unit {0}
+abbrev pub KeyInText : ℕ → Key → Bytes → Type 0
+KeyInText at k s = (k.from ≡ at + 1) × (k.from < k.to) × (k.to < k.next) × (k.next ≤ length s)
 
 -- a key and the colon behind it
 unfoldable pub read_member : Bytes → Option (Bytes × Bytes)
@@ -53,9 +54,8 @@ read_member s = do
   Some (k, s₂)
 
 -- the same of a member, which takes a byte more
-abbrev pub MemberInText : ℕ → KeyAt → Bytes → Type 0
-MemberInText at (key-at.At a e n) s = (a ≡ at + 1) × (a < e) × (e + 1 < n) × (n ≤ length s)
-MemberInText at key-at.Bad s = Unit {0}
+abbrev pub MemberInText : ℕ → Key → Bytes → Type 0
+MemberInText at k s = (k.from ≡ at + 1) × (k.from < k.to) × (k.to + 1 < k.next) × (k.next ≤ length s)
 
 -- what is read, as g has it
 unfoldable pub mapped : {A B : Type 0} → (A → B) → Reader ℕ A → Reader ℕ B

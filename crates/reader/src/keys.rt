@@ -10,17 +10,7 @@ pub fn stands_at_one(w: &[u8], s: &[u8], at: &[u16]) -> bool
     requires { 0 < length w.now }
     ensures { result ≡ stands_at_one w.now s.now at.now }
 {
-    let mut i: usize = 0;
-    while i < at.len() {
-        let a = at[i] as usize;
-        if a < s.len() {
-            if starts(s, a, w) {
-                return true;
-            }
-        }
-        i += 1;
-    }
-    false
+    at.iter().any(|a| usize::from(*a) < s.len() && starts(s, usize::from(*a), w))
 }
 
 // Whether the word from `from` to `end` stands at one of the positions from `top` to `n`; its own position is put behind them.

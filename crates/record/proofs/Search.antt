@@ -13,13 +13,26 @@ use Rattle.model.specs.Base.{Bytes}
 use Rattle.model.specs.Limits.{max_fields}
 use Rattle.model.specs.Fields.{Keys, order_path, by_order}
 use Rattle.lexical.specs.Orders.{order_of}
-use Rattle.lexical.specs.declared.slice.Order.{Order}
-use Rattle.lexical.specs.declared.slice.Order.TheVariants.{Greater}
-use Rattle.lexical.proofs.Slices.{order_in, order-told}
+use Rattle.std.specs.declared.cmp.Ordering as answer
+use Rattle.std.specs.declared.cmp.Ordering.TheVariants.{Less, Equal, Greater}
 use Rattle.paths.specs.Layout.{path_in}
 use Rattle.record.specs.declared.table.Place.TheVariants.{At, Before}
 use Rattle.record.specs.Slots.{slot_bytes, field_in, fields_in}
 use Rattle.record.specs.Search.{place_in, SearchedTo}
+
+-- the library's order as the model's, and a comparison's answer r that was matched with v
+abbrev pub order_in : answer.Ordering → Ordering
+order_in Less = Ordering.lt
+order_in Equal = Ordering.eq
+order_in Greater = Ordering.gt
+
+order-told : (o : Ordering) {r v : answer.Ordering} → r ≡ order_of o → r ≡ v → o ≡ order_in v
+order-told o h e = told o ∙ ap order_in (sym h ∙ e)
+  where
+    told : (o : Ordering) → o ≡ order_in (order_of o)
+    told Ordering.lt = refl
+    told Ordering.eq = refl
+    told Ordering.gt = refl
 
 module _ (s : Bytes) where
   -- each slot in use holds one
@@ -40,7 +53,7 @@ module _ (s : Bytes) where
     fields-step e = row-left field_in slot_bytes max_fields s refl i (omega (arith, fields-used, fields-more e)) here
 
     -- the answer r of the comparison with the slot's path was matched with v
-    pub place-step : (p : Keys) {r v : Order} → is_empty slot ≡ false → r ≡ order_of (order_path p (path_in slot)) → r ≡ v
+    pub place-step : (p : Keys) {r v : answer.Ordering} → is_empty slot ≡ false → r ≡ order_of (order_path p (path_in slot)) → r ≡ v
         → place_in i p (drop i (fields_in s)) ≡ by_order (order_in v) (Before i) (At i) (place_in (i + 1) p (drop (i + 1) (fields_in s)))
     unfolding place_in field_in
     place-step p e q t = rw (fields-step e, order-told (order_path p (path_in slot)) q t, add-one)

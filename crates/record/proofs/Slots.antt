@@ -20,8 +20,7 @@ use Rattle.model.specs.Limits.{max_depth, max_fields, max_users}
 use Rattle.model.specs.Fields.{Fields, field_of}
 use Rattle.model.specs.Values.{Value, truth, read_value, value_text, valid_value}
 use Rattle.model.proofs.Spelling as spelling
-use Rattle.values.specs.declared.value.ValueAt.{ValueAt}
-use Rattle.values.specs.declared.value.ValueAt.TheVariants.{Bad}
+use Rattle.values.specs.declared.value.Scalar.{Scalar}
 use Rattle.values.specs.Scalars as scalars
 use Rattle.values.proofs.Values.{value-bad}
 use Rattle.masks.specs.Bits.{mask_bytes, encode_mask}
@@ -46,8 +45,8 @@ unfolding text_in
 text-short s = rw length-take (omega arith)
 
 -- what is read at the start of the text t of the slot s
-module _ (s t : Bytes) (is : t ≡ text_in s) (r : ValueAt) (answer : scalars.value_answer t r ≡ placed read_value t 0) where
-  pub value_none : r ≡ Bad → truth false ≡ value_in s
+module _ (s t : Bytes) (is : t ≡ text_in s) (r : Option (Scalar × ℕ)) (answer : scalars.value_answer t r ≡ placed read_value t 0) where
+  pub value_none : r ≡ None → truth false ≡ value_in s
   unfolding value_in
   value_none i = rw (← is, value-bad t 0 r answer i)
 

@@ -1,5 +1,6 @@
 -- Where the search for a path ends, and what is stored of a slot.
-use Rattle.std.specs.Prelude.{ℕ, suc, ◌≤◌, ◌≡◌, List, [], ◌∷◌, ltb, length, take, drop, set, if◌then◌else◌}
+use Prim.Native.Nat.{Ordering}
+use Rattle.std.specs.Prelude.{ℕ, suc, ◌≤◌, ◌≡◌, false, List, [], ◌∷◌, ltb, length, take, drop, set, if◌then◌else◌}
 use Rattle.rows.specs.Rows.{insert_at}
 use Rattle.model.specs.Base.{Bytes}
 use Rattle.model.specs.Limits.{max_fields}
@@ -9,12 +10,16 @@ use Rattle.paths.specs.Layout.{path_in}
 use Rattle.record.specs.declared.table.Place.{Place}
 use Rattle.record.specs.declared.table.Place.TheVariants.{At, Before}
 use Rattle.record.specs.Slots.{slot_bytes, held_value, field_in, fields_in, encode_field}
-use Rattle.layout.specs.Layout.{is_empty, over_row, inserted_row}
+use Rattle.layout.specs.Layout.{key_row, name_in, is_empty, over_row, inserted_row}
 
 -- where the path p stands, or before which place it belongs, counted from i on
 unfoldable pub place_in : ℕ → Keys → Fields → Place
 place_in i p [] = Before i
 place_in i p (g ∷ gs) = let r = place_in (suc i) p gs in by_order (order_path p g.path) (Before i) (At i) r
+
+-- a slot whose first key passes stands before the path p
+abbrev pub PutsBehind : (Bytes → Type 0) → Keys → Type 0
+PutsBehind passes p = (slot : Bytes) → is_empty slot ≡ false → passes (name_in (take key_row (drop 1 slot))) → order_path p (path_in slot) ≡ Ordering.gt
 
 -- a search for p has come to the place i: what is left of it ends where all of it does
 abbrev pub SearchedTo : ℕ → Keys → Fields → Type 0

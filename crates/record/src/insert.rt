@@ -15,11 +15,7 @@ fn shift(tail: &mut [u8])
     requires { slot_bytes ≤ length tail.old }
     ensures { tail.new ≡ moved_later slot_bytes tail.old }
 {
-    let mut i = tail.len();
-    while SLOT < i {
-        i -= 1;
-        tail[i] = tail[i - SLOT];
-    }
+    tail.copy_within(..tail.len() - SLOT, SLOT);
 }
 
 // A slot before what stands in `tail`, whose last slot falls off.

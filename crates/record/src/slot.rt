@@ -37,18 +37,7 @@ fn put_mask(slot: &mut [u8], mask: u32)
     requires { length slot.old ≡ slot_bytes }
     ensures { slot.new ≡ with_mask mask slot.old }
 {
-    let bytes = encode_mask(mask);
-    put(slot, PATH, &bytes);
-}
-
-// The same for the i-th slot of a table, lent as a slice, of which a part can be lent.
-fn put_mask_at(slots: &mut [u8], i: usize, mask: u32)
-    requires { (length slots.old ≡ record_bytes) × (i < length (fields_in slots.old)) }
-    ensures { slots.new ≡ over_row slot_bytes i (with_mask mask (take slot_bytes (drop (i * slot_bytes) slots.old))) slots.old }
-{
-    let start = i * SLOT;
-    let end = start + SLOT;
-    put_mask(&mut slots[start..end], mask);
+    put(slot, PATH, &encode_mask(mask));
 }
 
 // The mask of the i-th field becomes another.
@@ -58,17 +47,16 @@ pub fn set_mask(table: &mut [u8; RECORD], i: usize, mask: u32)
     ensures keeps { Keeps CanonicalFields table.old table.new }
     ensures table_after { table.new ≡ over_row slot_bytes i (with_mask mask (take slot_bytes (drop (i * slot_bytes) table.old))) table.old }
 {
-    put_mask_at(table, i, mask);
+    let start = i * SLOT;
+    let end = start + SLOT;
+    put_mask(&mut table[start..end], mask);
 }
 
 // The length of a value's text as the byte that says it: at most what there is room for.
 fn length_byte(n: usize) -> u8
     ensures { result ≡ min n value_room }
 {
-    if n < VALUE_ROOM {
-        return n as u8;
-    }
-    VALUE_ROOM as u8
+    n.min(VALUE_ROOM) as u8
 }
 
 // A field into a slot of zeros: a path, a mask, and a value whose string is a part of the text.

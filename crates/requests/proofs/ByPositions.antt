@@ -1,7 +1,6 @@
 -- Request lines by positions: what the tests of a line say of the request that is read.
-use Rattle.std.specs.Prelude.{if◌then◌else◌}
 use Prim.Native.Nat.{ℕ, ◌+◌, ◌-◌, ◌≤◌, ◌<◌}
-use mathlib.Core.Path.{◌≡◌, sym, ap, ◌∙◌}
+use mathlib.Core.Path.{◌≡◌, ap, ◌∙◌}
 use mathlib.Core.Bool.{Bool, ◌&&◌}
 use Rattle.std.specs.Prelude.{Option, None, Some}
 use mathlib.Core.List.{[], ◌∷◌, ◌++◌}
@@ -17,31 +16,23 @@ use Rattle.model.specs.Fields.{Keys}
 use Rattle.model.specs.Paths.{keys_of}
 use Rattle.model.specs.Requests.{Request, login, in_session, push, session_of, read_login, read_push}
 use Rattle.values.specs.declared.value.Scalar.{Scalar}
-use Rattle.values.specs.declared.value.ValueAt.{ValueAt}
-use Rattle.values.specs.declared.value.ValueAt.TheVariants as value
 use Rattle.values.specs.Scalars.{value_in, value_answer}
 use Rattle.values.proofs.Values.{value-bad, value-reads}
-use Rattle.paths.specs.declared.field.PathRead.{PathRead}
-use Rattle.paths.specs.Layout.{path_in}
-use Rattle.paths.specs.Fields.{path_answer}
 use Rattle.lexical.specs.Classes.{is_not}
-use Rattle.lexical.specs.declared.class.End.{End}
-use Rattle.lexical.specs.declared.class.End.TheVariants as end
 use Rattle.model.proofs.Reading.{cut-some}
 use Rattle.model.proofs.Spelling.{keys-as-written, value-as-written}
 use Rattle.requests.specs.Lines.{pushed_text, PushStands, Behind, ReadsAs, SlotAfter}
 use Rattle.requests.specs.declared.Ask.TheVariants.{Get, Push, Logout}
 use Rattle.requests.specs.declared.Request.TheVariants.{Login, InSession}
-use Rattle.requests.specs.declared.Parsed.{Parsed}
-use Rattle.requests.specs.declared.Parsed.TheVariants.{Is, Bad}
+use Rattle.requests.specs.declared.Request as code
 use Rattle.requests.proofs.Cuts.{cut-none, cut-here}
 
 -- ── The word that a line begins with ──
-module _ (w s : Bytes) (r : End) (answer : Behind w s r) where
-  pub word-ends : {e : ℕ} → r ≡ end.At e → (after w s ≡ Some (drop e s)) × (e ≤ length s)
+module _ (w s : Bytes) (r : Option ℕ) (answer : Behind w s r) where
+  pub word-ends : {e : ℕ} → r ≡ Some e → (after w s ≡ Some (drop e s)) × (e ≤ length s)
   word-ends is = rw is at answer
 
-  pub word-other : r ≡ end.Bad → after w s ≡ None
+  pub word-other : r ≡ None → after w s ≡ None
   word-other is = rw is at answer
 
 pub other_word : {A : Type 0} (w s : Bytes) (f : Bytes → Option A) → after w s ≡ None → None ≡ (after w s >>= f)
@@ -119,30 +110,24 @@ push-stands s from a b p v e k w = record { within = omega (arith, e.between, e.
 
 -- ── The slot for a path ──
 -- it keeps its bytes where none is read: an answer that holds whatever the path is no push
-pub slot_same : {read : Bytes → Option Request} {s : Bytes} {r : Parsed} → ((p : Keys) → ReadsAs read s p r) → {before now : Bytes} → now ≡ before → SlotAfter r before now
-slot_same {r = Is (Login from m)} h same = same
-slot_same {r = Is (InSession n Get)} h same = same
-slot_same {r = Is (InSession n (Push at v))} h same =
+pub slot_same : {read : Bytes → Option Request} {s : Bytes} {r : Option code.Request} → ((p : Keys) → ReadsAs read s p r) → {before now : Bytes} → now ≡ before → SlotAfter r before now
+slot_same {r = Some (Login from m)} h same = same
+slot_same {r = Some (InSession n Get)} h same = same
+slot_same {r = Some (InSession n (Push at v))} h same =
     let one = (h []).asks in
     let two = (h ([] ∷ [])).asks in
     let equal : ◌≡◌ {A = Keys} [] ([] ∷ []) = cc in
     absurd (omega (arith, ap length equal))
-slot_same {r = Is (InSession n Logout)} h same = same
-slot_same {r = Bad} h same = same
-
--- ── A path ──
--- what the function `read_path` answered, once it is known whether it is one
-pub path-told : (r : PathRead) {k : Bool} {o : Option Keys} → path_answer r ≡ o → r.ok ≡ k
-    → o ≡ (if k then Some (path_in r.slot) else None)
-path-told r h e = sym h ∙ rw e
+slot_same {r = Some (InSession n Logout)} h same = same
+slot_same {r = None} h same = same
 
 -- ── A value that is the rest of a line ──
-module _ (s : Bytes) (at : ℕ) (r : ValueAt) (answer : value_answer s r ≡ placed read_value s at) where
-  pub whole-bad : r ≡ value.Bad → value_of (drop at s) ≡ None
+module _ (s : Bytes) (at : ℕ) (r : Option (Scalar × ℕ)) (answer : value_answer s r ≡ placed read_value s at) where
+  pub whole-bad : r ≡ None → value_of (drop at s) ≡ None
   unfolding value_of ◌>>=◌
   whole-bad i = rw (value-bad s at r answer i)
 
-  module _ (h : at ≤ length s) (v : Scalar) (e : ℕ) (i : r ≡ value.At v e) where
+  module _ (h : at ≤ length s) (v : Scalar) (e : ℕ) (i : r ≡ Some (v, e)) where
     pub whole-more : (e ≡ length s → ⊥) → value_of (drop at s) ≡ None
     unfolding value_of ◌>>=◌ ◌>>◌ check ◌≐◌
     whole-more f =

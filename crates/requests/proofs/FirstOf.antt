@@ -10,11 +10,8 @@ use Rattle.model.specs.Limits.{max_line}
 use Rattle.model.specs.Fields.{Keys}
 use Rattle.model.specs.Requests.{readers, first_of, request_of}
 use Rattle.model.specs.Requests as model
-use Rattle.values.proofs.Values.{told}
-use Rattle.requests.specs.Lines.{parsed_answer, ReadsAs}
+use Rattle.requests.specs.Lines.{ReadsAs}
 use Rattle.requests.specs.declared.Request.{Request}
-use Rattle.requests.specs.declared.Parsed.{Parsed}
-use Rattle.requests.specs.declared.Parsed.TheVariants.{Is, Bad}
 
 -- nothing behind the last
 last : {A : Type 0} (a : Option A) → a ≡ (a <|> None)
@@ -33,18 +30,16 @@ module _ (s : Bytes) where
   short h = rw (le-leb (length s) max_line h)
 
 -- ── Of the readers that decide the first reads, or the others decide, or it is the last ──
-module _ {read : Bytes → Option model.Request} {s : Bytes} {p : Keys} {r : Parsed} (h : ReadsAs read s p r) where
+module _ {read : Bytes → Option model.Request} {s : Bytes} {p : Keys} where
   module _ (others : List (Bytes → Option model.Request)) (decide : first_of (read ∷ others) s ≡ request_of s) where
-    pub first_reads : {q : Request} → r ≡ Is q → ReadsAs request_of s p r
+    pub first_reads : {q : Request} → ReadsAs read s p (Some q) → ReadsAs request_of s p (Some q)
     unfolding first_of ◌<|>◌
-    first_reads is =
-        let reads = told (parsed_answer s p) h.asks is in
-        record { asks = h.asks ∙ reads ∙ rw reads at decide; stands = h.stands }
+    first_reads h = record { asks = rw (← h.asks) at decide; stands = h.stands }
 
-    pub first-fails : r ≡ Bad → first_of others s ≡ request_of s
+    pub first-fails : ReadsAs read s p None → first_of others s ≡ request_of s
     unfolding first_of ◌<|>◌
-    first-fails is = rw (told (parsed_answer s p) h.asks is) at decide
+    first-fails h = rw (← h.asks) at decide
 
-  pub last-reads : first_of (read ∷ []) s ≡ request_of s → ReadsAs request_of s p r
+  pub last-reads : {r : Option Request} → first_of (read ∷ []) s ≡ request_of s → ReadsAs read s p r → ReadsAs request_of s p r
   unfolding first_of
-  last-reads decide = record { asks = h.asks ∙ last (read s) ∙ decide; stands = h.stands }
+  last-reads decide h = record { asks = h.asks ∙ last (read s) ∙ decide; stands = h.stands }

@@ -1,21 +1,17 @@
 -- What a line that was taken apart asks for, and where in the line it stands.
 use Rattle.std.specs.Prelude.{ℕ, ◌+◌, ◌-◌, ◌≤◌, ◌<◌, ◌≡◌, [], ◌∷◌, length, take, drop}
-use Rattle.std.specs.Prelude.{Option, None, Some}
+use Rattle.std.specs.Prelude.{Option, None, Some, option_map, IfSome, MatchOption}
 use Rattle.model.specs.Base.{Bytes, text, between, after}
 use Rattle.model.specs.Values.{Value, value_text}
 use Rattle.model.specs.Fields.{Keys}
 use Rattle.model.specs.Paths.{keys_text}
 use Rattle.model.specs.Requests as model
-use Rattle.lexical.specs.declared.class.End.{End}
-use Rattle.lexical.specs.declared.class.End.TheVariants as end
 use Rattle.paths.specs.Layout.{CanonicalPath}
 use Rattle.values.specs.Scalars.{value_in, InText}
 use Rattle.requests.specs.declared.Ask.{Ask}
 use Rattle.requests.specs.declared.Ask.TheVariants.{Get, Push, Logout}
 use Rattle.requests.specs.declared.Request.{Request}
 use Rattle.requests.specs.declared.Request.TheVariants.{Login, InSession}
-use Rattle.requests.specs.declared.Parsed.{Parsed}
-use Rattle.requests.specs.declared.Parsed.TheVariants.{Is, Bad}
 
 -- ── What is asked for ──
 -- p is the path in the slot
@@ -28,10 +24,6 @@ ask_in s p Logout = model.logout
 abbrev pub request_in : Bytes → Keys → Request → model.Request
 request_in s p (Login from m) = model.login (take (m - from) (drop from s)) (drop (m + 1) s)
 request_in s p (InSession n a) = model.in_session n (ask_in s p a)
-
-abbrev pub parsed_answer : Bytes → Keys → Parsed → Option model.Request
-parsed_answer s p (Is q) = Some (request_in s p q)
-parsed_answer s p Bad = None
 
 -- ── Where it stands ──
 -- a path and a value as a line has them
@@ -52,29 +44,24 @@ abbrev pub RequestStands : Bytes → Keys → Request → Type 0
 RequestStands s p (Login from m) = (from ≤ m) × (m < length s)
 RequestStands s p (InSession n a) = AskStands s p a
 
-abbrev pub ParsedStands : Bytes → Keys → Parsed → Type 0
-ParsedStands s p (Is q) = RequestStands s p q
-ParsedStands s p Bad = Unit {0}
-
 -- ── The readers ──
 -- where a line goes on behind the word that it begins with
-abbrev pub Behind : Bytes → Bytes → End → Type 0
-Behind w s (end.At e) = (after w s ≡ Some (drop e s)) × (e ≤ length s)
-Behind w s end.Bad = after w s ≡ None
+abbrev pub Behind : Bytes → Bytes → Option ℕ → Type 0
+Behind w s r = MatchOption r (after w s ≡ None) (λ e. (after w s ≡ Some (drop e s)) × (e ≤ length s))
 
 -- a reader of lines answers what the model's does, and says where it stands
-pub record ReadsAs (read : Bytes → Option model.Request) (s : Bytes) (p : Keys) (r : Parsed) : Type 0 where
-  pub asks : parsed_answer s p r ≡ read s
-  pub stands : ParsedStands s p r
+pub record ReadsAs (read : Bytes → Option model.Request) (s : Bytes) (p : Keys) (r : Option Request) : Type 0 where
+  pub asks : option_map (request_in s p) r ≡ read s
+  pub stands : IfSome r (RequestStands s p)
 
 -- a word with a session number behind it and nothing more asks for a, where a stands in the line
-abbrev pub AsksFor : Bytes → Ask → Bytes → Parsed → Type 0
+abbrev pub AsksFor : Bytes → Ask → Bytes → Option Request → Type 0
 AsksFor w a s r = (p : Keys) → AskStands s p a → ReadsAs (model.read_ask w (ask_in s p a)) s p r
 
 -- the slot for a path keeps its bytes unless a push is read: then they are its path's, each of them
-abbrev pub SlotAfter : Parsed → Bytes → Bytes → Type 0
-SlotAfter (Is (Login from m)) before now = now ≡ before
-SlotAfter (Is (InSession n Get)) before now = now ≡ before
-SlotAfter (Is (InSession n (Push at v))) before now = CanonicalPath now
-SlotAfter (Is (InSession n Logout)) before now = now ≡ before
-SlotAfter Bad before now = now ≡ before
+abbrev pub SlotAfter : Option Request → Bytes → Bytes → Type 0
+SlotAfter (Some (Login from m)) before now = now ≡ before
+SlotAfter (Some (InSession n Get)) before now = now ≡ before
+SlotAfter (Some (InSession n (Push at v))) before now = CanonicalPath now
+SlotAfter (Some (InSession n Logout)) before now = now ≡ before
+SlotAfter None before now = now ≡ before

@@ -6,12 +6,12 @@ ghost use Rattle.model.specs.Requests.{read_login, read_get, read_push, read_log
 ghost use Rattle.paths.specs.Layout.{path_in};
 ghost use Rattle.requests.specs.Lines.{Behind, ReadsAs, AsksFor, SlotAfter};
 
-use lexical::class::{End, is_name};
+use lexical::class::is_name;
 use lexical::limits::{MAX_LINE, MAX_SESSION};
-use lexical::number::{Natural, number};
+use lexical::number::number;
 use lexical::slice::{starts, until};
 use paths::field::{PATH, read_path};
-use values::value::{Scalar, ValueAt, value_at};
+use values::value::{Scalar, value_at};
 
 // What a session asks for: a copy; a value for the path in the slot, both of which stand in the line from a position on; or its end.
 #[derive(Clone, Copy)]
@@ -28,125 +28,100 @@ pub enum Request {
     InSession(u32, Ask),
 }
 
-// What a line asks for, if it can be taken apart.
-#[derive(Clone, Copy)]
-pub enum Parsed {
-    Is(Request),
-    Bad,
-}
-
 // Where a line goes on behind the word that it begins with.
-fn behind(line: &[u8], word: &[u8]) -> End
+fn behind(line: &[u8], word: &[u8]) -> Option<usize>
     ensures { Behind word.now line.now result }
 {
-    if !starts(line, 0, word) {
-        return End::Bad;
+    if starts(line, 0, word) {
+        Some(word.len())
+    } else {
+        None
     }
-    End::At(word.len())
 }
 
 // `LOGIN;user;key`
-fn login_line(line: &[u8]) -> Parsed
+fn login_line(line: &[u8]) -> Option<Request>
     ensures { (p : Keys) → ReadsAs read_login line.now p result }
 {
-    let End::At(from) = behind(line, b"LOGIN;") else {
-        return Parsed::Bad;
-    };
+    let from = behind(line, b"LOGIN;")?;
     let cut = until(line, from, b';');
     if cut == line.len() {
-        return Parsed::Bad;
+        return None;
     }
     if !is_name(&line[from..cut]) {
-        return Parsed::Bad;
+        return None;
     }
     let key = cut + 1;
     if !is_name(&line[key..]) {
-        return Parsed::Bad;
+        return None;
     }
-    Parsed::Is(Request::Login(from, cut))
+    Some(Request::Login(from, cut))
 }
 
 // A word with a session number behind it and nothing more, and what it asks for.
-fn ask_line(line: &[u8], word: &[u8], ask: Ask) -> Parsed
+fn ask_line(line: &[u8], word: &[u8], ask: Ask) -> Option<Request>
     ensures { AsksFor word.now ask line.now result }
 {
-    let End::At(from) = behind(line, word) else {
-        return Parsed::Bad;
-    };
-    let Natural::Is(session) = number(&line[from..], MAX_SESSION) else {
-        return Parsed::Bad;
-    };
-    Parsed::Is(Request::InSession(session as u32, ask))
+    let from = behind(line, word)?;
+    let session = number(&line[from..], MAX_SESSION)?;
+    Some(Request::InSession(session as u32, ask))
 }
 
 // `GET;session`
-fn get_line(line: &[u8]) -> Parsed
+fn get_line(line: &[u8]) -> Option<Request>
     ensures { (p : Keys) → ReadsAs read_get line.now p result }
 {
     ask_line(line, b"GET;", Ask::Get)
 }
 
 // `PUSH;session;path;value`, the path read into the slot
-fn push_line(line: &[u8], path: &mut [u8; PATH]) -> Parsed
+fn push_line(line: &[u8], path: &mut [u8; PATH]) -> Option<Request>
     ensures reads_as { ReadsAs read_push line.now (path_in path.new) result }
     ensures slot_after { SlotAfter result path.old path.new }
 {
-    let End::At(from) = behind(line, b"PUSH;") else {
-        return Parsed::Bad;
-    };
+    let from = behind(line, b"PUSH;")?;
     let a = until(line, from, b';');
     if a == line.len() {
-        return Parsed::Bad;
+        return None;
     }
     let at = a + 1;
     let b = until(line, at, b';');
     if b == line.len() {
-        return Parsed::Bad;
+        return None;
     }
-    let Natural::Is(session) = number(&line[from..a], MAX_SESSION) else {
-        return Parsed::Bad;
-    };
-    let read = read_path(&line[at..b]);
-    if !read.ok {
-        return Parsed::Bad;
-    }
-    let ValueAt::At(value, end) = value_at(line, b + 1) else {
-        return Parsed::Bad;
-    };
+    let session = number(&line[from..a], MAX_SESSION)?;
+    let slot = read_path(&line[at..b])?;
+    let (value, end) = value_at(line, b + 1)?;
     if end != line.len() {
-        return Parsed::Bad;
+        return None;
     }
-    let slot = read.slot;
     *path = slot;
-    Parsed::Is(Request::InSession(session as u32, Ask::Push(at, value)))
+    Some(Request::InSession(session as u32, Ask::Push(at, value)))
 }
 
 // `LOGOUT;session`
-fn logout_line(line: &[u8]) -> Parsed
+fn logout_line(line: &[u8]) -> Option<Request>
     ensures { (p : Keys) → ReadsAs read_logout line.now p result }
 {
     ask_line(line, b"LOGOUT;", Ask::Logout)
 }
 
-// What a line asks for.
-pub fn parse(line: &[u8], path: &mut [u8; PATH]) -> Parsed
+// What a line asks for, if it can be taken apart.
+pub fn parse(line: &[u8], path: &mut [u8; PATH]) -> Option<Request>
     ensures reads_as { ReadsAs request_of line.now (path_in path.new) result }
     ensures slot_after { SlotAfter result path.old path.new }
 {
     if MAX_LINE < line.len() {
-        return Parsed::Bad;
+        return None;
     }
-    let login = login_line(line);
-    let Parsed::Bad = login else {
-        return login;
-    };
-    let get = get_line(line);
-    let Parsed::Bad = get else {
-        return get;
-    };
-    let push = push_line(line, path);
-    let Parsed::Bad = push else {
-        return push;
-    };
+    if let Some(login) = login_line(line) {
+        return Some(login);
+    }
+    if let Some(get) = get_line(line) {
+        return Some(get);
+    }
+    if let Some(push) = push_line(line, path) {
+        return Some(push);
+    }
     logout_line(line)
 }

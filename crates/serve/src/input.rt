@@ -32,6 +32,7 @@ fn answer_lines(
 {
     let mut at: usize = 0;
     let mut filled: usize = 0;
+    // A cursor, which goes from line to line: how far, `until` says.
     loop {
         let end = until(input, at, b'\n');
         if end == input.len() {
@@ -61,11 +62,8 @@ fn keep_line(input: &mut [u8], from: usize, to: usize) -> usize
     ensures upper_bound { (result ≤ 257) × (result ≤ length input.new) × (result ≡ min 257 (to - from)) }
     ensures input_after { take result input.new ≡ take 257 (drop from (take to input.old)) }
 {
-    let mut n: usize = 0;
-    while n < LINE && from + n < to {
-        input[n] = input[from + n];
-        n += 1;
-    }
+    let n = (to - from).min(LINE);
+    input.copy_within(from..from + n, 0);
     n
 }
 
@@ -90,8 +88,7 @@ pub fn answer_all(
     let mut input = [0u8; INPUT];
     let mut out = [0u8; OUTPUT];
     let mut held: usize = 0;
-    let mut turns = u64::MAX;
-    while 0 < turns {
+    for _ in 0..u64::MAX {
         let more = read_more(&mut reader, &mut input, held)?;
         if more == 0 {
             break;
@@ -108,7 +105,6 @@ pub fn answer_all(
             &mut out,
         )?;
         held = keep_line(&mut input, rest, filled);
-        turns -= 1;
     }
     if 0 < held {
         let n = respond(

@@ -1,17 +1,19 @@
 // The program: opens the four files of the folder where it is started, then answers each line of its input.
 #![tactic(auto)]
 
-mod files;
 mod input;
 
-use crate::files::{TEXT, read_file};
 use crate::input::answer_all;
-use opening::answer::Opening;
+use opening::answer::Fault;
 use printing::put_opening;
 use server::open::{LOGINS, RECORD, TABLES, open};
 use std::io;
+use textfile::read_file;
 
-fn print_opening(rt: &impl Print, opened: Opening) -> io::Result<()> {
+// One byte more than an opening accepts, so that a longer file is seen to be too long.
+const TEXT: usize = 65537;
+
+fn print_opening(rt: &impl Print, opened: Result<(), Fault>) -> io::Result<()> {
     let mut out = [0u8; 66];
     let n = put_opening(&mut out, opened);
     rt.write_all(&out[..n])
@@ -38,8 +40,8 @@ fn main(rt: HostRuntime) -> io::Result<()> {
         &policy[..p],
         &text[..t],
     );
-    let Opening::Done = opened else {
+    if opened.is_err() {
         return print_opening(&rt, opened);
-    };
+    }
     answer_all(&rt, &tables, &mut logins, &mut fields)
 }

@@ -30,8 +30,7 @@ use Rattle.tables.specs.Memory.{user_row, user_in, users_in, tables_in}
 use Rattle.opening.specs.Memory.{Arrays, state_in, state_of, masks_of, Agree}
 use Rattle.deliveries.proofs.Received.{receivers-of}
 use Rattle.server.specs.Masked.{shown_to, decide_get_masked, decide_masked, decide_line_masked, decision_masked, mask_at, mask_for, notified_masked, conclude_masked, masks_after, Effect, effect_of, effect_by_masks, effect_by_policy}
-use Rattle.server.specs.declared.answer.Reply.{Reply}
-use Rattle.server.specs.Replies.{outcome_in, Outputs, act, ServedByMasks, ServedByPolicy, LeavesDecided}
+use Rattle.server.specs.Replies.{Given, outcome_in, Outputs, act, ServedByMasks, ServedByPolicy, LeavesDecided}
 
 -- ── Copies ──
 module _ (t : Tables) (few : length t.users ≤ max_users) (i : ℕ) (u : User) (is : user_at t.users i ≡ Some u) where
@@ -123,7 +122,7 @@ memory-agrees before x a =
     effects-agree (state_of before) (masks_of before) users fields a x
 
 -- what is served by the masks is served as the documents say; the fields and the masks are those of the effect, and the tables stayed: they agree again
-pub masked-said : (before after : Arrays) (text : Bytes) (given left : Outputs) (r : Reply) → after.tables ≡ before.tables
+pub masked-said : (before after : Arrays) (text : Bytes) (given left : Outputs) (r : Given) → after.tables ≡ before.tables
     → ServedByMasks before text given r after left → ServedByPolicy before text given r after left
 unfolding outcome_in effect_by_policy state_in
 masked-said before after text given left r same masked a =
@@ -132,14 +131,14 @@ masked-said before after text given left r same masked a =
     (rw is at masked, masked.memory.masks ∙ ap (λ (w : Effect). w.masks) is ∙ rw (same, kept))
 
 -- where something was decided for a line, it is served by the masks
-pub line-masked : (before after : Arrays) (text : Bytes) (given left : Outputs) (r : Reply)
+pub line-masked : (before after : Arrays) (text : Bytes) (given left : Outputs) (r : Given)
     → {d : Result ℕ Change} → decision_masked (state_of before) (masks_of before) (act text given) ≡ d
     → LeavesDecided d text before given r after left → ServedByMasks before text given r after left
 unfolding effect_by_masks buffer_of list_of
 line-masked before after text given left r is l = rw (← is) at l
 
 -- and as the documents say
-pub line-served : (before after : Arrays) (text : Bytes) (given left : Outputs) (r : Reply) → after.tables ≡ before.tables
+pub line-served : (before after : Arrays) (text : Bytes) (given left : Outputs) (r : Given) → after.tables ≡ before.tables
     → {d : Result ℕ Change} → decision_masked (state_of before) (masks_of before) (act text given) ≡ d
     → LeavesDecided d text before given r after left → ServedByPolicy before text given r after left
 line-served before after text given left r same is l =

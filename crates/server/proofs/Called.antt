@@ -26,8 +26,7 @@ use Rattle.masks.proofs.Readers.{reads-bit}
 use Rattle.layout.proofs.Used.{table-fit}
 use Rattle.tables.specs.Memory.{user_row, user_in, users_in, tables_in}
 use Rattle.opening.specs.Memory.{Arrays, state_of}
-use Rattle.opening.specs.Answers.{opening_answer}
-use Rattle.opening.specs.declared.answer.Opening.TheVariants.{Done}
+use Rattle.refusals.specs.Numbers.{bare}
 use Rattle.opening.proofs.AllOpened.{opening-agrees}
 use Rattle.opening.proofs.Zeros
 use Rattle.server.specs.Masked.{mask_at, mask_for, masks_after, effect_by_policy}
@@ -101,6 +100,6 @@ calls-reach before a b texts es o calls =
     let run = calls-run a b es (o.agrees refl) calls in
     record { starts = starts; run = run; reached = record { start = state_of a; acts = acts_of es; is_opened = starts; is_end = run.ends } }
   where
-    opening-done : (d : Result Fault State) → Done ≡ opening_answer d → state_of a ≡ kept (state_of before) d → d ≡ done (state_of a)
-    opening-done (refused f) e k = let z : ◌≡◌ {A = ℕ} 0 1 = cc in absurd (omega arith)
+    opening-done : (d : Result Fault State) → done tt ≡ bare d → state_of a ≡ kept (state_of before) d → d ≡ done (state_of a)
+    opening-done (refused f) e k = cc
     opening-done (done s) e k = ap done (sym k)

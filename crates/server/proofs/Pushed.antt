@@ -2,7 +2,7 @@
 use Prim.Native.Nat.{ℕ, ◌≤◌, ◌<◌}
 use mathlib.Core.Path.{◌≡◌, refl, sym, ◌∙◌}
 use mathlib.Core.Bool.{true, false}
-use Rattle.std.specs.Prelude.{Some}
+use Rattle.std.specs.Prelude.{Option, None, Some}
 use mathlib.Core.List.{List}
 use native.Mathlib.Omega.{arith}
 use borrow.Author.Tests.{lt-ltb, le-ltb, ne_eqb, leb-true}
@@ -33,13 +33,13 @@ use Rattle.record.proofs.Slots.{held-valid, slot-encoded}
 use Rattle.sessions.specs.declared.LoginState as code
 use Rattle.sessions.specs.Logins.{logins_in, state_of, StateStored}
 use Rattle.pushes.specs.declared.Ruling.{Ruling}
-use Rattle.pushes.specs.declared.Ruling.TheVariants as ruling
+use Rattle.std.specs.Prelude as std
+use Rattle.std.specs.Prelude.{Ok}
+use Rattle.refusals.specs.declared.Refusal.{Refusal}
 use Rattle.pushes.specs.Rulings.{ruling_answer, push_decided, RuledAs}
 use Rattle.deliveries.specs.Receivers.{Listed}
 use Rattle.masks.specs.Readers.{readers_of}
 use Rattle.requests.specs.declared.Request.{Request}
-use Rattle.requests.specs.declared.Parsed.{Parsed}
-use Rattle.requests.specs.declared.Parsed.TheVariants.{Is, Bad}
 use Rattle.values.specs.declared.value.Scalar.{Scalar}
 use Rattle.requests.specs.declared.Ask.TheVariants.{Push}
 use Rattle.requests.specs.declared.Request.TheVariants.{InSession}
@@ -50,14 +50,14 @@ use Rattle.server.specs.Replies.{outcome_in, outputs, LeavesDecided}
 use Rattle.server.specs.Masked.{decide_masked, decide_line_masked, decision_masked, mask_at, mask_for, notified_masked, conclude_masked, masks_after, effect_of}
 
 -- ── A line s that was taken apart, its path in a slot ──
-module _ (s path : Bytes) {r : Parsed} (answer : ReadsAs model.request_of s (path_in path) r) where
+module _ (s path : Bytes) {r : Option Request} (answer : ReadsAs model.request_of s (path_in path) r) where
   -- it cannot be taken apart
-  pub line_refused : r ≡ Bad → (st : State) (ms : List ℕ) (b : Bytes) (l : List ℕ) → decision_masked st ms (line s b l) ≡ refused 11
+  pub line_refused : r ≡ None → (st : State) (ms : List ℕ) (b : Bytes) (l : List ℕ) → decision_masked st ms (line s b l) ≡ refused 11
   unfolding decision_masked decide_line_masked
   line_refused is st ms b l = rw (← answer.asks, is)
 
   -- r says that it asks for something, which was matched with q
-  module _ {asked q : Request} (is : r ≡ Is asked) (kind : asked ≡ q) where
+  module _ {asked q : Request} (is : r ≡ Some asked) (kind : asked ≡ q) where
     pub asks : model.request_of s ≡ Some (request_in s (path_in path) q)
     asks = sym answer.asks ∙ rw (is, kind)
 
@@ -84,7 +84,7 @@ push-asked s path {n} {v} h =
     (ne_eqb (get_or path 0 0) 0 (λ e. omega arith), valid.value)
 
 -- and its slot has the bytes of its path
-pub slot-asked : (before path : Bytes) {r : Parsed} {asked : Request} {n at : ℕ} {v : Scalar} → r ≡ Is asked → asked ≡ InSession n (Push at v)
+pub slot-asked : (before path : Bytes) {r : Option Request} {asked : Request} {n at : ℕ} {v : Scalar} → r ≡ Some asked → asked ≡ InSession n (Push at v)
     → SlotAfter r before path → CanonicalPath path
 slot-asked before path is kind slot = rw (is, kind) at slot
 
@@ -105,32 +105,32 @@ module _ (tables : Bytes) (logins : List ℕ) (fields : Bytes) (n : ℕ) (path :
   push-short room h v = push-decides room v ∙ rw (lt-ltb room list_room h)
 
   -- o is the ruling
-  module _ {o : Ruling} (ruled : RuledAs tables logins fields n path o) where
-    pub push-ruled : {w : Ruling} → o ≡ w → (room : ℕ) → list_room ≤ room → (v : Value) → pushing v room ≡ ruling_answer w p v
+  module _ {o : std.Result Ruling Refusal} (ruled : RuledAs tables logins fields n path o) where
+    pub push-ruled : {w : std.Result Ruling Refusal} → o ≡ w → (room : ℕ) → list_room ≤ room → (v : Value) → pushing v room ≡ ruling_answer w p v
     unfolding refuse◌if◌ ◌>>◌
     push-ruled is room h v = push-decides room v ∙ rw (le-ltb room list_room h, ← ruled.answers v, is)
 
-    module _ {i : ℕ} {a : code.LoginState} {at : Place} (is : o ≡ ruling.Stores i a at) where
+    module _ {w : Ruling} (is : o ≡ Ok w) where
       -- the field is stored where the search for its path ended
-      pub push-place : at ≡ place_in 0 p (fields_in fields)
+      pub push-place : w.place ≡ place_in 0 p (fields_in fields)
       push-place = rw is at ruled.place
 
       -- the index is a user's
-      pub push-below : i < max_users
+      pub push-below : w.index < max_users
       unfolding state_in tables_in users_in user_at decide decide_push decide_masked
       push-below =
           let stored = decided (state_in tables logins fields) (model.in_session n (model.push p (truth false))) list_room _ (push-ruled is list_room (omega arith) (truth false)) in
-          let below = elem_below (users_in tables) i stored.user stored.is_user in
+          let below = elem_below (users_in tables) w.index stored.user stored.is_user in
           omega (arith, below, length-table user_in user_row max_users tables, used-fit user_row max_users tables)
 
       -- the mask is the path's, the numbers are listed, the login state is put, the value is stored
       pub push-done : (b : Bytes) (l : List ℕ) → list_room ≤ length l → {told mask : ℕ} {l₁ : List ℕ} (logins₁ : List ℕ) (fields₁ : Bytes)
-          → mask ≡ mask_at at (readers_of (tables_in tables) p) (masks_in fields)
-          → Listed logins i mask l told l₁ → StateStored logins i (state_of a) logins₁
-          → (v : Value) → fields_in fields₁ ≡ stored_at path v (fields_in fields) → masks_in fields₁ ≡ stored_masks at mask (masks_in fields)
-          → fields₁ ≡ stored_bytes at (slot_of path mask v) fields
+          → mask ≡ mask_at w.place (readers_of (tables_in tables) p) (masks_in fields)
+          → Listed logins w.index mask l told l₁ → StateStored logins w.index (state_of w.state) logins₁
+          → (v : Value) → fields_in fields₁ ≡ stored_at path v (fields_in fields) → masks_in fields₁ ≡ stored_masks w.place mask (masks_in fields)
+          → fields₁ ≡ stored_bytes w.place (slot_of path mask v) fields
           → is_empty path ≡ false → Proper path v → (text : Bytes) (from : ℕ) → PushStands text p from v
-          → LeavesDecided (pushing v (length l)) text (arrays tables logins fields) (outputs b l) (Accepted told from) (arrays tables logins₁ fields₁) (outputs b l₁)
+          → LeavesDecided (pushing v (length l)) text (arrays tables logins fields) (outputs b l) (Ok (Accepted told from)) (arrays tables logins₁ fields₁) (outputs b l₁)
       unfolding outcome_in state_in effect_of conclude_masked masks_after mask_for answer_of apply shown notified_masked over stored_at stored_field
       push-done b l h logins₁ fields₁ mask reached state v stored masks bytes keyed proper text from stands = rw (push-ruled is (length l) h v) (record {
         is = rw (reached.listed, reached.counted, state.states, stored, keyed, held-valid v proper.1, mask, push-place);

@@ -16,7 +16,7 @@ use Rattle.model.specs.Limits.{max_fields}
 use Rattle.model.specs.SavedText.{saved}
 use Rattle.model.specs.Refusals.{Result, refused, done, ◌>>=◌, ◌>>◌, refuse◌if◌}
 use Rattle.model.specs.Requests.{login, in_session, get, logout}
-use Rattle.model.specs.Serving.{Change, sets_login, shows, login_at, copy_of}
+use Rattle.model.specs.Serving.{Change, sets_login, shows, Answer, refusal, session, login_at, copy_of}
 use Rattle.model.specs.Serving.{decide_show, decide_login, decide_logout, decide_save, room_for, decide, decision, buffer_of, list_of}
 use Rattle.model.specs.Serving.{apply, notified, shown, answer_of, over, unchanged, conclude, save, outcome}
 use Rattle.model.specs.Opening.{LoginState, empty_login}
@@ -27,34 +27,44 @@ use Rattle.writer.specs.declared.saved.Shown.TheVariants.{All, To}
 use Rattle.writer.specs.Selected.{is_shown, shown_in}
 use Rattle.masks.specs.Bits.{bit_at}
 use Rattle.layout.specs.Layout.{in_use, table}
-use Rattle.sessions.specs.Logins.{logins_in, StateStored, closed, login_decided, LoggedIn, has_session, session_answer}
-use Rattle.sessions.specs.declared.LoginReply.{LoginReply}
-use Rattle.sessions.specs.declared.LoginReply.TheVariants as entry
-use Rattle.sessions.specs.declared.SessionAt.{SessionAt}
-use Rattle.sessions.specs.declared.SessionAt.TheVariants.{Of, Unknown}
+use Rattle.sessions.specs.Logins.{logins_in, StateStored, closed, login_decided, login_answer, LoggedIn, has_session}
+use Rattle.std.specs.Prelude as std
+use Rattle.std.specs.Prelude.{Option, None, Some, Ok, Err, if◌then◌else◌}
+use Rattle.model.specs.Serving.{index_in}
+use Rattle.refusals.specs.declared.Refusal.{Refusal}
+use Rattle.refusals.specs.declared.Refusal.TheVariants.{NoRoom}
+use Rattle.refusals.specs.Numbers.{number_of, numbered}
 use Rattle.sessions.proofs.Known.{no-session, in-session, session-unknown, session-known, session-user}
 use Rattle.opening.specs.Memory.{Arrays, arrays, state_in}
-use Rattle.server.specs.declared.answer.Reply.{Reply}
-use Rattle.server.specs.declared.answer.Reply.TheVariants.{Refused, Session, Length, Accepted}
-use Rattle.server.specs.Replies.{outcome_in, outputs, fields_after, Position, LeavesDecided}
+use Rattle.server.specs.declared.answer.Reply.TheVariants.{Session, Length, Accepted}
+use Rattle.server.specs.Replies.{Given, answer_in, told_in, outcome_in, outputs, fields_after, Position, LeavesDecided}
 use Rattle.server.specs.Masked.{shown_to, decide_get_masked, decide_masked, mask_for, notified_masked, conclude_masked, masks_after, effect_of}
 
 -- ── Refusals: all is as it was ──
 -- p is still the buffer b that was lent
-pub left-refused : {d : Result ℕ Change} {e : ℕ} → d ≡ refused e → (text : Bytes) (a : Arrays) (b : Bytes) (l : List ℕ) {p : Bytes} → p ≡ b
-    → LeavesDecided d text a (outputs b l) (Refused e) a (outputs p l)
+pub left-refused : {d : Result ℕ Change} {e : Refusal} → d ≡ refused (number_of e) → (text : Bytes) (a : Arrays) (b : Bytes) (l : List ℕ) {p : Bytes} → p ≡ b
+    → LeavesDecided d text a (outputs b l) (Err e) a (outputs p l)
 unfolding outcome_in effect_of conclude_masked masks_after unchanged
 left-refused h text a b l kept = record { is = rw (h, kept); memory = record { logins = rw h; fields = rw h; masks = rw h }; position = tt }
 
 -- ── LOGIN ──
 -- the reply says what the login states answered
-abbrev pub login_reply : LoginReply → Reply
-login_reply (entry.Session n) = Session n
-login_reply (entry.Refused e) = Refused e
+abbrev pub login_reply : std.Result ℕ Refusal → Given
+login_reply (Ok n) = Ok (Session n)
+login_reply (Err e) = Err e
 
-no-position : (r : LoginReply) (d : Result ℕ Change) (text : Bytes) → Position (login_reply r) d text
-no-position (entry.Session n) d text = tt
-no-position (entry.Refused e) d text = tt
+-- in the model's words, it is a session's number or the refusal's, and nobody is told
+abbrev login_told : Result ℕ ℕ → Answer
+login_told (refused e) = refusal e
+login_told (done n) = session n
+
+login-said : (r : std.Result ℕ Refusal) → (answer_in (login_reply r) ≡ login_told (numbered r)) × (told_in (login_reply r) ≡ 0)
+login-said (Ok n) = (refl, refl)
+login-said (Err e) = (refl, refl)
+
+no-position : (r : std.Result ℕ Refusal) (d : Result ℕ Change) (text : Bytes) → Position (login_reply r) d text
+no-position (Ok n) d text = tt
+no-position (Err e) d text = tt
 
 module _ (tables : Bytes) (logins : List ℕ) (n k : Bytes) where
   abbrev entering : Result ℕ Change
@@ -66,7 +76,7 @@ module _ (tables : Bytes) (logins : List ℕ) (n k : Bytes) where
   login-decides fs room = refl
 
   -- the answer was matched with r
-  pub login-left : (after : List ℕ) {answer : LoginReply} (r : LoginReply) → LoggedIn tables logins n k answer after → answer ≡ r
+  pub login-left : (after : List ℕ) {answer : std.Result ℕ Refusal} (r : std.Result ℕ Refusal) → LoggedIn tables logins n k answer after → answer ≡ r
       → (fs b : Bytes) (l : List ℕ) (text : Bytes)
       → LeavesDecided (decide_masked (state_in tables logins fs) (masks_in fs) (login n k) (room_for (login n k) b l)) text
       (arrays tables logins fs) (outputs b l) (login_reply r) (arrays tables after fs) (outputs b l)
@@ -77,12 +87,18 @@ module _ (tables : Bytes) (logins : List ℕ) (n k : Bytes) where
     position = no-position r entering text;
   })
     where
+      said : (answer_in (login_reply r) ≡ login_told (numbered r)) × (told_in (login_reply r) ≡ 0)
+      said = login-said r
+
+      answered : numbered r ≡ login_answer entering
+      answered = rw is at logged.answers
+
       went : (d : Result ℕ Change) → entering ≡ d
           → (outcome_in (login_reply r) (state_in tables after fs) b l ≡ conclude_masked (state_in tables logins fs) (masks_in fs) b l entering)
           × ((fs ≡ fields_after (mask_for (state_in tables logins fs) (masks_in fs)) entering fs) × (masks_in fs ≡ masks_after (state_in tables logins fs) (masks_in fs) entering))
-      went (refused e) h = (rw (← is, logged.answers, logged.leaves, h), (rw h, rw h))
+      went (refused e) h = (rw (said.0, said.1, answered, logged.leaves, h), (rw h, rw h))
       went (done c) h = unfold login_decided in
-          (login-change _ n k c h λ i u named shut few e. (rw (← is, logged.answers, logged.leaves, h, ← e), (rw (h, ← e), rw (h, ← e))))
+          (login-change _ n k c h λ i u named shut few e. (rw (said.0, said.1, answered, logged.leaves, h, ← e), (rw (h, ← e), rw (h, ← e))))
 
 -- ── A text shown: it is written if it fits ──
 -- measuring a text, which is writing it into no bytes, leaves the buffer as it was
@@ -96,13 +112,13 @@ written_over c b h = written-clipped 0 c b ∙ rw (sub-zero, take_all (length b)
 
 -- it is decided to show the text c, and p is still the buffer b that was lent
 module _ {d : Result ℕ Change} (c b : Bytes) (decides : d ≡ decide_show c (length b)) (text : Bytes) (a : Arrays) (l : List ℕ) {p : Bytes} (kept : p ≡ b) where
-  pub shown-refused : {n : ℕ} {o : Bytes} → Wrote 0 c [] n o → length p < n → LeavesDecided d text a (outputs b l) (Refused 15) a (outputs p l)
+  pub shown-refused : {n : ℕ} {o : Bytes} → Wrote 0 c [] n o → length p < n → LeavesDecided d text a (outputs b l) (Err NoRoom) a (outputs p l)
   unfolding decide_show ◌>>◌ refuse◌if◌
   shown-refused (is, _) h =
       let short : length b < length c = omega (arith, ap length kept) in
       left-refused (decides ∙ rw (lt-ltb (length b) (length c) short)) text a b l kept
 
-  pub shown-done : {m : ℕ} {q : Bytes} → Wrote 0 c p m q → m ≤ length b → LeavesDecided d text a (outputs b l) (Length m) a (outputs q l)
+  pub shown-done : {m : ℕ} {q : Bytes} → Wrote 0 c p m q → m ≤ length b → LeavesDecided d text a (outputs b l) (Ok (Length m)) a (outputs q l)
   unfolding outcome_in effect_of conclude_masked masks_after decide_show ◌>>◌ refuse◌if◌ answer_of apply shown notified_masked over
   shown-done (is, stands) h =
       let fits : length c ≤ length b = omega arith in
@@ -123,18 +139,18 @@ shown-slots i s = go (in_use slot_bytes max_fields s)
     go [] = refl
     go (r ∷ rs) = by_cases (bit_at (mask_in r) i) (λ e. rw (e, go rs)) (λ e. rw (e, go rs))
 
-module _ (tables : Bytes) (logins : List ℕ) (fields : Bytes) (n : ℕ) {o : SessionAt}
-    (answer : o ≡ session_answer (has_session (users_in tables) (logins_in logins) n) n) where
-  pub get-unknown : o ≡ Unknown → (room : ℕ) → decide_masked (state_in tables logins fields) (masks_in fields) (in_session n get) room ≡ refused 14
+module _ (tables : Bytes) (logins : List ℕ) (fields : Bytes) (n : ℕ) {o : Option ℕ}
+    (answer : o ≡ (if has_session (users_in tables) (logins_in logins) n then Some (index_in n) else None)) where
+  pub get-unknown : o ≡ None → (room : ℕ) → decide_masked (state_in tables logins fields) (masks_in fields) (in_session n get) room ≡ refused 14
   unfolding decide_masked decide_get_masked state_in tables_in ◌>>=◌
   get-unknown is room = rw (no-session (state_in tables logins fields) n (session-unknown tables _ n answer is))
 
-  pub logout-unknown : o ≡ Unknown → (room : ℕ) → decide_masked (state_in tables logins fields) (masks_in fields) (in_session n logout) room ≡ refused 14
+  pub logout-unknown : o ≡ None → (room : ℕ) → decide_masked (state_in tables logins fields) (masks_in fields) (in_session n logout) room ≡ refused 14
   unfolding decide_masked decide decide_logout state_in tables_in ◌>>=◌
   logout-unknown is room = rw (no-session (state_in tables logins fields) n (session-unknown tables _ n answer is))
 
   -- the user's row and the policy are parts of the tables
-  pub get-shows : {i : ℕ} {row policy : Bytes} → o ≡ Of i → row ≡ take user_row (drop (i * user_row) tables) → policy ≡ drop users_bytes tables
+  pub get-shows : {i : ℕ} {row policy : Bytes} → o ≡ Some i → row ≡ take user_row (drop (i * user_row) tables) → policy ≡ drop users_bytes tables
       → (room : ℕ) → decide_masked (state_in tables logins fields) (masks_in fields) (in_session n get) room ≡ decide_show (copy_of (policy_in policy) (user_in row) (shown_in (To i) fields)) room
   unfolding decide_masked decide_get_masked state_in tables_in ◌>>=◌
   get-shows {i} is at part room =
@@ -143,7 +159,7 @@ module _ (tables : Bytes) (logins : List ℕ) (fields : Bytes) (n : ℕ) {o : Se
       rw (part, ← shown-slots i fields, in-session (state_in tables logins fields) n user is_open, ← index)
 
   -- the login state a of the session's user is closed, which makes it c
-  module _ {i : ℕ} {a c : LoginState} (is : o ≡ Of i) (state : a ≡ get_or (logins_in logins) i empty_login) (shut : c ≡ closed a) where
+  module _ {i : ℕ} {a c : LoginState} (is : o ≡ Some i) (state : a ≡ get_or (logins_in logins) i empty_login) (shut : c ≡ closed a) where
     logout-decides : (room : ℕ) → decide_masked (state_in tables logins fields) (masks_in fields) (in_session n logout) room ≡ done (sets_login i c)
     unfolding decide_masked decide decide_logout closed state_in tables_in ◌>>=◌
     logout-decides room =
@@ -152,7 +168,7 @@ module _ (tables : Bytes) (logins : List ℕ) (fields : Bytes) (n : ℕ) {o : Se
 
     pub logout-left : {after : List ℕ} → StateStored logins i c after → (text b : Bytes) (l : List ℕ)
         → LeavesDecided (decide_masked (state_in tables logins fields) (masks_in fields) (in_session n logout) (room_for (in_session n logout) b l)) text
-        (arrays tables logins fields) (outputs b l) (Accepted 0 0) (arrays tables after fields) (outputs b l)
+        (arrays tables logins fields) (outputs b l) (Ok (Accepted 0 0)) (arrays tables after fields) (outputs b l)
     unfolding outcome_in state_in effect_of conclude_masked masks_after answer_of apply shown notified_masked over closed
     logout-left stored text b l = rw (logout-decides (room_for (in_session n logout) b l)) (record {
       is = rw (stored.states, shut);
@@ -175,7 +191,7 @@ module _ (tables : Bytes) (logins : List ℕ) (fields b : Bytes) where
   save-shows = rw (all_shown fields)
 
   -- what is concluded from the decision is the outcome, since nobody is told
-  pub save-outcome : {p : Bytes} {r : Reply} {text : Bytes}
+  pub save-outcome : {p : Bytes} {r : Given} {text : Bytes}
       → LeavesDecided (decision (state_in tables logins fields) (save b)) text (arrays tables logins fields) (outputs b []) r (arrays tables logins fields) (outputs p [])
       → outcome_in r (state_in tables logins fields) p [] ≡ outcome (state_in tables logins fields) (save b)
   unfolding outcome buffer_of list_of effect_of decide_show ◌>>◌ refuse◌if◌ conclude_masked conclude notified_masked notified

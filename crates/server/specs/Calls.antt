@@ -1,5 +1,7 @@
 -- Lists of calls on memory, each of which does what its contract says, and the claims about the masks (document 02, request 2).
 use Rattle.std.specs.Prelude.{ℕ, ◌<◌, ◌≡◌, true, false, List, [], ◌∷◌, map, length, get_or, take, replicate}
+use Rattle.std.specs.Prelude as std
+use Rattle.std.specs.Prelude.{Ok}
 use Rattle.rows.specs.Rows.{insert_at}
 use Rattle.model.specs.Base.{Bytes}
 use Rattle.model.specs.Limits.{max_fields}
@@ -18,20 +20,18 @@ use Rattle.record.specs.Slots.{record_bytes, fields_in, field_at}
 use Rattle.sessions.specs.Logins.{login_numbers}
 use Rattle.opening.specs.Memory.{Arrays, arrays, state_of, masks_of, Agree}
 use Rattle.opening.specs.Answers.{Opens}
-use Rattle.opening.specs.declared.answer.Opening.{Opening}
-use Rattle.opening.specs.declared.answer.Opening.TheVariants.{Done}
-use Rattle.server.specs.declared.answer.Reply.{Reply}
+use Rattle.opening.specs.declared.answer.Fault as code
 use Rattle.server.specs.Masked.{masks_after, effect_by_masks, effect_by_policy}
-use Rattle.server.specs.Replies.{outcome_in, Outputs, act, event_of, ServedByMasks, Saved}
+use Rattle.server.specs.Replies.{Given, outcome_in, Outputs, act, event_of, ServedByMasks, Saved}
 
 -- ── Calls ──
 -- requests and saves, each on what the one before returned: what happened at each, and the arrays at the end. No request writes the tables
 pub data Calls : Arrays → List Event → Arrays → Type 0 where
   None : (a : Arrays) → Calls a [] a
-  requested : (a b c : Arrays) (text : Bytes) (given left : Outputs) (r : Reply) (es : List Event)
+  requested : (a b c : Arrays) (text : Bytes) (given left : Outputs) (r : Given) (es : List Event)
       → b.tables ≡ a.tables → ServedByMasks a text given r b left → Calls b es c
       → Calls a (event_of (state_of a) (act text given) (outcome_in r (state_of b) left.buffer left.list) ∷ es) c
-  saved : (a c : Arrays) (before after : Bytes) (r : Reply) (es : List Event)
+  saved : (a c : Arrays) (before after : Bytes) (r : Given) (es : List Event)
       → Saved a.fields before r after → Calls a es c
       → Calls a (event_of (state_of a) (save before) (outcome_in r (state_of a) after []) ∷ es) c
 
@@ -47,7 +47,7 @@ SetExactly = (a : Arrays) → Agree a → (k j : ℕ) → k < length (fields_in 
 
 -- "The marks are made at opening": an accepted opening leaves them, from any memory
 abbrev pub MadeAtOpening : Type 0
-MadeAtOpening = (before after : Arrays) (texts : Texts) → Opens before texts Done after → Agree after
+MadeAtOpening = (before after : Arrays) (texts : Texts) → Opens before texts (Ok tt) after → Agree after
 
 -- before any accepted opening there are none, and they agree
 abbrev pub ZerosAgree : Type 0
@@ -55,7 +55,7 @@ ZerosAgree = Agree (arrays (replicate tables_bytes 0) (replicate login_numbers 0
 
 -- so after any opening, refused or not, they agree where they did before
 abbrev pub OpeningAgrees : Type 0
-OpeningAgrees = (before after : Arrays) (texts : Texts) (answer : Opening) → Opens before texts answer after → Agree before → Agree after
+OpeningAgrees = (before after : Arrays) (texts : Texts) (answer : std.Result (Unit {0}) code.Fault) → Opens before texts answer after → Agree before → Agree after
 
 -- "and when a push adds a field": the new field's mask is the one that the policy gives, and the others move along
 abbrev pub MadeWhenAdded : Type 0
@@ -86,4 +86,4 @@ pub record RunOf (texts : Texts) (a : Arrays) (es : List Event) (b : Arrays) : T
   pub reached : Reached texts (state_of b)
 
 abbrev pub CallsReach : Type 0
-CallsReach = (before a b : Arrays) (texts : Texts) (es : List Event) → Opens before texts Done a → Calls a es b → RunOf texts a es b
+CallsReach = (before a b : Arrays) (texts : Texts) (es : List Event) → Opens before texts (Ok tt) a → Calls a es b → RunOf texts a es b

@@ -1,5 +1,7 @@
 -- Document 01's number and values for each reply, and what a request and a save leave.
 use Rattle.std.specs.Prelude.{ℕ, ◌≤◌, ◌≡◌, false, List, [], length}
+use Rattle.std.specs.Prelude as std
+use Rattle.std.specs.Prelude.{Ok, Err}
 use Rattle.model.specs.Base.{Bytes}
 use Rattle.model.specs.Limits.{max_line}
 use Rattle.model.specs.Values.{Value}
@@ -20,26 +22,32 @@ use Rattle.opening.specs.Memory.{Arrays, arrays, state_in, state_of, masks_of, A
 use Rattle.requests.specs.declared.Request.TheVariants.{Login}
 use Rattle.requests.specs.Lines.{request_in, PushStands}
 use Rattle.server.specs.Masked.{decide_masked, Effect, effect_of, effect_by_masks, effect_by_policy}
+use Rattle.refusals.specs.declared.Refusal.{Refusal}
+use Rattle.refusals.specs.Numbers.{number_of}
 use Rattle.server.specs.declared.answer.Reply.{Reply}
-use Rattle.server.specs.declared.answer.Reply.TheVariants.{Refused, Session, Length, Accepted}
+use Rattle.server.specs.declared.answer.Reply.TheVariants.{Session, Length, Accepted}
 
 -- ── Replies ──
+-- what a request and a save give: a reply, or why they are refused
+abbrev pub Given : Type 0
+Given = std.Result Reply Refusal
+
 -- the answer: a refusal's number, a session's number, a length, or bare acceptance
-abbrev pub answer_in : Reply → Answer
-answer_in (Refused e) = refusal e
-answer_in (Session n) = session n
-answer_in (Length n) = length_is n
-answer_in (Accepted k at) = accepted
+abbrev pub answer_in : Given → Answer
+answer_in (Err e) = refusal (number_of e)
+answer_in (Ok (Session n)) = session n
+answer_in (Ok (Length n)) = length_is n
+answer_in (Ok (Accepted k at)) = accepted
 
 -- "The caller is told how many it received"
-abbrev pub told_in : Reply → ℕ
-told_in (Refused e) = 0
-told_in (Session n) = 0
-told_in (Length n) = 0
-told_in (Accepted k at) = k
+abbrev pub told_in : Given → ℕ
+told_in (Err e) = 0
+told_in (Ok (Session n)) = 0
+told_in (Ok (Length n)) = 0
+told_in (Ok (Accepted k at)) = k
 
 -- a reply with what it left
-unfoldable pub outcome_in : Reply → State → Bytes → List ℕ → Outcome
+unfoldable pub outcome_in : Given → State → Bytes → List ℕ → Outcome
 outcome_in r s b l = record { answer = answer_in r; state = s; buffer = b; list = l; told = told_in r }
 
 -- the buffer and the list, lent beside the arrays, that a request may write
@@ -66,11 +74,11 @@ StandsAt (done (shows c)) text at = at ≡ 0
 StandsAt (done (stores i a f)) text at = PushStands text f.path at f.value
 
 -- only an accepted request speaks of a part of the line
-abbrev pub Position : Reply → Result ℕ Change → Bytes → Type 0
-Position (Refused e) d text = Unit {0}
-Position (Session n) d text = Unit {0}
-Position (Length n) d text = Unit {0}
-Position (Accepted k at) d text = StandsAt d text at
+abbrev pub Position : Given → Result ℕ Change → Bytes → Type 0
+Position (Err e) d text = Unit {0}
+Position (Ok (Session n)) d text = Unit {0}
+Position (Ok (Length n)) d text = Unit {0}
+Position (Ok (Accepted k at)) d text = StandsAt d text at
 
 -- what an effect leaves in memory: the login states, the fields, and the masks beside them
 pub record InMemory (w : Effect) (before after : Arrays) : Type 0 where
@@ -79,7 +87,7 @@ pub record InMemory (w : Effect) (before after : Arrays) : Type 0 where
   pub masks : masks_of after ≡ w.masks
 
 -- a line has its effect: the reply with all that it left, in meaning and in memory, and the reply's position
-pub record Leaves (w : Effect) (text : Bytes) (before : Arrays) (r : Reply) (after : Arrays) (left : Outputs) : Type 0 where
+pub record Leaves (w : Effect) (text : Bytes) (before : Arrays) (r : Given) (after : Arrays) (left : Outputs) : Type 0 where
   pub is : outcome_in r (state_of after) left.buffer left.list ≡ w.outcome
   pub memory : InMemory w before after
   pub position : Position r w.decided text
@@ -93,37 +101,37 @@ abbrev pub event_of : State → Act → Outcome → Event
 event_of s a o = record { before = s; act = a; request = request_of_act a; result = o }
 
 -- a line is served by the masks, whatever the arrays hold
-abbrev pub ServedByMasks : Arrays → Bytes → Outputs → Reply → Arrays → Outputs → Type 0
+abbrev pub ServedByMasks : Arrays → Bytes → Outputs → Given → Arrays → Outputs → Type 0
 ServedByMasks before text given r after left = Leaves (effect_by_masks (state_of before) (masks_of before) (act text given)) text before r after left
 
 -- where the masks agree with the policy it is served as documents 01 and 02 say, and they agree again
-abbrev pub ServedByPolicy : Arrays → Bytes → Outputs → Reply → Arrays → Outputs → Type 0
+abbrev pub ServedByPolicy : Arrays → Bytes → Outputs → Given → Arrays → Outputs → Type 0
 ServedByPolicy before text given r after left = Agree before → Leaves (effect_by_policy (state_of before) (act text given)) text before r after left × Agree after
 
 -- a line is served by the masks as d was decided for it
-abbrev pub LeavesDecided : Result ℕ Change → Bytes → Arrays → Outputs → Reply → Arrays → Outputs → Type 0
+abbrev pub LeavesDecided : Result ℕ Change → Bytes → Arrays → Outputs → Given → Arrays → Outputs → Type 0
 LeavesDecided d text before given r after left = Leaves (effect_of (state_of before) (masks_of before) given.buffer given.list d) text before r after left
 
 -- a request that was taken from a line is served by the masks
-abbrev pub Answered : Arrays → Bytes → model.Request → Outputs → Reply → Arrays → Outputs → Type 0
+abbrev pub Answered : Arrays → Bytes → model.Request → Outputs → Given → Arrays → Outputs → Type 0
 Answered before text q given r after left =
     LeavesDecided (decide_masked (state_of before) (masks_of before) q (room_for q given.buffer given.list)) text before given r after left
 
 -- LOGIN in a line, whatever the fields, the buffer and the list, which stay
-abbrev pub LoginServed : Bytes → List ℕ → Bytes → ℕ → ℕ → Reply → List ℕ → Type 0
+abbrev pub LoginServed : Bytes → List ℕ → Bytes → ℕ → ℕ → Given → List ℕ → Type 0
 LoginServed tables before text from cut r after = (fields b : Bytes) (l : List ℕ)
     → Answered (arrays tables before fields) text (request_in text [] (Login from cut)) (outputs b l) r (arrays tables after fields) (outputs b l)
 
 -- GET of a session, whatever the line and the list, which stays
-abbrev pub GetServed : Arrays → ℕ → Bytes → Reply → Bytes → Type 0
+abbrev pub GetServed : Arrays → ℕ → Bytes → Given → Bytes → Type 0
 GetServed a n before r after = (text : Bytes) (l : List ℕ) → Answered a text (model.in_session n model.get) (outputs before l) r a (outputs after l)
 
 -- PUSH of a value at a path in a session, whatever the buffer, which stays
-abbrev pub PushServed : Arrays → Bytes → ℕ → Keys → Value → List ℕ → Reply → Arrays → List ℕ → Type 0
+abbrev pub PushServed : Arrays → Bytes → ℕ → Keys → Value → List ℕ → Given → Arrays → List ℕ → Type 0
 PushServed before text n p v given r after left = (b : Bytes) → Answered before text (model.in_session n (model.push p v)) (outputs b given) r after (outputs b left)
 
 -- LOGOUT of a session, whatever the line, the fields, the buffer and the list, which stay
-abbrev pub LogoutServed : Bytes → List ℕ → ℕ → Reply → List ℕ → Type 0
+abbrev pub LogoutServed : Bytes → List ℕ → ℕ → Given → List ℕ → Type 0
 LogoutServed tables before n r after = (text fields b : Bytes) (l : List ℕ)
     → Answered (arrays tables before fields) text (model.in_session n model.logout) (outputs b l) r (arrays tables after fields) (outputs b l)
 
@@ -136,6 +144,6 @@ pub record Storable (path text : Bytes) (at : ℕ) (value : Scalar) : Type 0 whe
   pub proper : Proper path (value_in text value)
 
 -- a save, whatever the tables and the login states, at which it does not look
-abbrev pub Saved : Bytes → Bytes → Reply → Bytes → Type 0
+abbrev pub Saved : Bytes → Bytes → Given → Bytes → Type 0
 Saved fields before r after = (tables : Bytes) (logins : List ℕ)
     → outcome_in r (state_in tables logins fields) after [] ≡ outcome (state_in tables logins fields) (save before)

@@ -1,10 +1,9 @@
 // What a request and a save answer.
 
-// A refusal's number; the number of the session that a login opened; how many first bytes of the buffer were written; that a request is
-// accepted, and for the caller alone how many numbers the list received, and from which position on the line says what they are told.
-#[derive(Clone, Copy)]
+// The number of the session that a login opened; how many first bytes of the buffer were written; that a request is accepted, and for
+// the caller alone how many numbers the list received, and from which position on the line says what they are told.
+#[derive(Clone, Copy, PartialEq, Eq)]
 pub enum Reply {
-    Refused(usize),
     Session(u32),
     Length(usize),
     Accepted(usize, usize),

@@ -17,11 +17,12 @@ use deliveries::put_receivers;
 use layout::table::row_at;
 use lexical::limits::LIST_ROOM;
 use paths::field::PATH;
-use pushes::{Ruling, decide};
+use pushes::decide;
 use record::slot::{mask_of, store_value_at};
 use record::table::{Place, slot_at};
-use requests::{Ask, Parsed, Request, parse};
-use sessions::{LoginReply, SessionAt, closed, put_state, session, state_at};
+use refusals::Refusal;
+use requests::{Ask, Request, parse};
+use sessions::{closed, put_state, session, state_at};
 use tables::memory::{USER, policy_of};
 use tables::rights::readers;
 use values::value::Scalar;
@@ -34,16 +35,14 @@ fn login(
     line: &[u8],
     from: usize,
     cut: usize,
-) -> Reply
+) -> Result<Reply, Refusal>
     requires { (from ≤ cut) × (cut < length line.now) }
     ensures { LoginServed tables.now logins.old
         line.now from cut result logins.new }
 {
     let key = cut + 1;
-    match sessions::login(tables, logins, &line[from..cut], &line[key..]) {
-        LoginReply::Session(n) => Reply::Session(n),
-        LoginReply::Refused(e) => Reply::Refused(e),
-    }
+    let n = sessions::login(tables, logins, &line[from..cut], &line[key..])?;
+    Ok(Reply::Session(n))
 }
 
 // GET: the copy is written if it fits. What stands behind its head is measured only where there is no room for the longest saved text.
@@ -53,25 +52,23 @@ fn get(
     fields: &[u8; RECORD],
     n: u32,
     buffer: &mut [u8],
-) -> Reply
+) -> Result<Reply, Refusal>
     ensures { GetServed
         (arrays tables.now logins.now fields.now)
         n buffer.old result buffer.new }
 {
-    let SessionAt::Of(i) = session(tables, logins, n) else {
-        return Reply::Refused(14);
-    };
+    let i = session(tables, logins, n).ok_or(Refusal::NoSession)?;
     let user = row_at(tables, USER, i);
     let policy = policy_of(tables);
     let head = put_head(&mut buffer[..0], 0, policy, user);
     if buffer.len() <= head + MOST_SAVED {
         let length = put_copy(&mut buffer[..0], 0, policy, user, fields, i);
         if buffer.len() < length {
-            return Reply::Refused(15);
+            return Err(Refusal::NoRoom);
         }
     }
     let length = put_copy(buffer, 0, policy, user, fields, i);
-    Reply::Length(length)
+    Ok(Reply::Length(length))
 }
 
 // The mask of a path, found at a place: the one beside the field that is held there, or made from the policy.
@@ -96,7 +93,7 @@ fn push(
     line: &[u8],
     at: usize,
     list: &mut [u32],
-) -> Reply
+) -> Result<Reply, Refusal>
     requires { Storable path.now line.now at value }
     ensures { PushServed
         (arrays tables.now logins.old fields.old)
@@ -104,31 +101,24 @@ fn push(
         (arrays tables.now logins.new fields.new) list.new }
 {
     if list.len() < LIST_ROOM {
-        return Reply::Refused(15);
+        return Err(Refusal::NoRoom);
     }
-    let ruling = decide(tables, logins, fields, n, path);
-    match ruling {
-        Ruling::Refused(e) => Reply::Refused(e),
-        Ruling::Stores(i, state, place) => {
-            let mask = mask_for(tables, fields, place, path);
-            let told = put_receivers(list, logins, i, mask);
-            put_state(logins, i, state);
-            store_value_at(fields, place, path, mask, value, line);
-            Reply::Accepted(told, at)
-        }
-    }
+    let ruling = decide(tables, logins, fields, n, path)?;
+    let mask = mask_for(tables, fields, ruling.place, path);
+    let told = put_receivers(list, logins, ruling.index, mask);
+    put_state(logins, ruling.index, ruling.state);
+    store_value_at(fields, ruling.place, path, mask, value, line);
+    Ok(Reply::Accepted(told, at))
 }
 
 // LOGOUT: the session is closed, and nobody is told.
-fn logout(tables: &[u8; TABLES], logins: &mut [u16; LOGINS], n: u32) -> Reply
+fn logout(tables: &[u8; TABLES], logins: &mut [u16; LOGINS], n: u32) -> Result<Reply, Refusal>
     ensures { LogoutServed tables.now logins.old n result logins.new }
 {
-    let SessionAt::Of(i) = session(tables, logins, n) else {
-        return Reply::Refused(14);
-    };
+    let i = session(tables, logins, n).ok_or(Refusal::NoSession)?;
     let left = closed(state_at(logins, i));
     put_state(logins, i, left);
-    Reply::Accepted(0, 0)
+    Ok(Reply::Accepted(0, 0))
 }
 
 // A line of any bytes, with any buffer and any list: by the masks, whatever they are; as documents 01 and 02 say where they agree with the policy, as they then do again.
@@ -139,7 +129,7 @@ pub fn request(
     line: &[u8],
     buffer: &mut [u8],
     list: &mut [u32],
-) -> Reply
+) -> Result<Reply, Refusal>
     ensures served_by_masks { ServedByMasks
         (arrays tables.now logins.old fields.old)
         line.now (outputs buffer.old list.old) result
@@ -152,8 +142,8 @@ pub fn request(
         (outputs buffer.new list.new) }
 {
     let mut path = [0u8; PATH];
-    let Parsed::Is(asked) = parse(line, &mut path) else {
-        return Reply::Refused(11);
+    let Some(asked) = parse(line, &mut path) else {
+        return Err(Refusal::NotRequest);
     };
     match asked {
         Request::Login(from, cut) => login(tables, logins, line, from, cut),

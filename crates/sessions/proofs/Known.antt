@@ -1,8 +1,8 @@
 -- What a session's number says: no open session has it, or that of the user at an index; and what a request that carries it decides first.
 use Prim.Native.Nat.{ℕ, ◌+◌, ◌*◌, ◌≤◌, ◌<◌}
-use mathlib.Core.Path.{◌≡◌, refl, sym, ◌∙◌}
+use mathlib.Core.Path.{◌≡◌, refl, sym, ap, ◌∙◌}
 use mathlib.Core.Bool.{Bool, true, false}
-use Rattle.std.specs.Prelude.{Option, None, Some}
+use Rattle.std.specs.Prelude.{Option, None, Some, if◌then◌else◌}
 use mathlib.Core.List.{List}
 use native.Mathlib.Omega.{arith}
 use lib.ListN.{length, get_or, take, drop}
@@ -17,9 +17,10 @@ use Rattle.layout.specs.Layout.{in_use}
 use Rattle.tables.specs.Memory.{user_row, users_bytes, user_in, users_in}
 use Rattle.layout.proofs.Used.{length-table, counted-fit}
 use Rattle.tables.proofs.Users.{user-inside, user-some}
-use Rattle.sessions.specs.declared.SessionAt.{SessionAt}
-use Rattle.sessions.specs.declared.SessionAt.TheVariants.{Of, Unknown}
-use Rattle.sessions.specs.Logins.{session_is, has_session, session_answer}
+use Rattle.std.specs.Prelude as std
+use Rattle.std.specs.Prelude.{Ok, Err, ok_or}
+use Rattle.refusals.specs.declared.Refusal.{Refusal}
+use Rattle.sessions.specs.Logins.{session_is, has_session}
 
 -- 14, or the session's user
 module _ (s : State) (n : ℕ) where
@@ -36,23 +37,31 @@ module _ (s : State) (n : ℕ) where
   unfolding has_session session_is asker login_at ◌>>=◌ ◌>>◌ ◌or◌ refuse◌if◌
   in-session e h = rw (e, rw e at h)
 
+-- what a `?` hands on where nothing was found and a refusal was made of it
+pub none-handed : {A : Type 0} (e : Refusal) {o : Option ℕ} {f g : Refusal} {q : std.Result A Refusal}
+    → o ≡ None → ◌≡◌ {A = std.Result ℕ Refusal} (Err f) (ok_or o e) → q ≡ Err g → g ≡ f → q ≡ Err e
+none-handed e {o} {f} unknown made at same =
+    let is : ◌≡◌ {A = std.Result ℕ Refusal} (Err f) (Err e) = made ∙ ap (λ (o : Option ℕ). ok_or o e) unknown in
+    let own : f ≡ e = cc in
+    rw (at, same, own)
+
 -- o is what the search for the session answered
-module _ (s : Bytes) (ls : List LoginState) (n : ℕ) {o : SessionAt} (answer : o ≡ session_answer (has_session (users_in s) ls n) n) where
-  pub session-unknown : o ≡ Unknown → has_session (users_in s) ls n ≡ false
+module _ (s : Bytes) (ls : List LoginState) (n : ℕ) {o : Option ℕ} (answer : o ≡ (if has_session (users_in s) ls n then Some (index_in n) else None)) where
+  pub session-unknown : o ≡ None → has_session (users_in s) ls n ≡ false
   session-unknown is = go (has_session (users_in s) ls n) (sym is ∙ answer)
     where
-      go : (b : Bool) → Unknown ≡ session_answer b n → b ≡ false
-      go true h = let z : ◌≡◌ {A = ℕ} 0 1 = cc in absurd (omega arith)
+      go : (b : Bool) → None ≡ (if b then Some (index_in n) else None) → b ≡ false
+      go true h = cc
       go false h = refl
 
-  module _ {i : ℕ} (is : o ≡ Of i) where
+  module _ {i : ℕ} (is : o ≡ Some i) where
     -- a session of the user in the row at i
     pub session-known : (has_session (users_in s) ls n ≡ true) × (i ≡ index_in n)
     session-known = go (has_session (users_in s) ls n) (sym is ∙ answer)
       where
-        go : (b : Bool) → Of i ≡ session_answer b n → (b ≡ true) × (i ≡ index_in n)
+        go : (b : Bool) → Some i ≡ (if b then Some (index_in n) else None) → (b ≡ true) × (i ≡ index_in n)
         go true h = (refl, (cc))
-        go false h = let z : ◌≡◌ {A = ℕ} 0 1 = cc in absurd (omega arith)
+        go false h = (cc, cc)
 
     session-counted : i < length (in_use user_row max_users s)
     unfolding has_session session_is user_at users_in

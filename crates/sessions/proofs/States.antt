@@ -26,9 +26,8 @@ use Rattle.model.specs.Serving.{sets_login, login_at, decide_login, index_in, co
 use Rattle.model.proofs.Lists.{by_cases, elem_below}
 use Rattle.model.proofs.Sessions.{parts-session}
 use Rattle.layout.specs.Layout.{in_use, name_row, name_in}
-use Rattle.tables.specs.Memory.{user_row, key_at, user_in, users_in, user_answer}
-use Rattle.tables.specs.declared.memory.UserAt.{UserAt}
-use Rattle.tables.specs.declared.memory.UserAt.TheVariants.{At, Unknown}
+use Rattle.std.specs.Option.{option_map}
+use Rattle.tables.specs.Memory.{user_row, key_at, user_in, users_in}
 use Rattle.layout.proofs.Used.{length-table, counted-fit}
 use Rattle.tables.proofs.Users.{user-none, user-some}
 use Rattle.sessions.specs.declared.LoginState as code
@@ -101,15 +100,15 @@ found_at {A} p (x ∷ xs) k t e =
     (λ h. let (j, is, at) = found_at p xs (suc k) t (rw h at e) in (suc j, omega arith, at))
 
 -- a user of the name n was found at i
-module _ (s n : Bytes) {o : UserAt} {i : ℕ} (at : o ≡ At i) (found : o ≡ user_answer (user_named n (users_in s))) where
+module _ (s n : Bytes) {o : Option ℕ} {i : ℕ} (at : o ≡ Some i) (found : o ≡ option_map (λ (t : ℕ × User). t.0) (user_named n (users_in s))) where
   -- it is the index of a user in the table
   found-elem : (u : User) × (user_named n (users_in s) ≡ Some (i, u)) × (slice_get (users_in s) i ≡ Some u)
   unfolding user_named
   found-elem = go (user_named n (users_in s)) refl (sym at ∙ found)
     where
-      go : (o : Option (ℕ × User)) → user_named n (users_in s) ≡ o → At i ≡ user_answer o
+      go : (o : Option (ℕ × User)) → user_named n (users_in s) ≡ o → Some i ≡ option_map (λ (t : ℕ × User). t.0) o
           → (u : User) × (user_named n (users_in s) ≡ Some (i, u)) × (slice_get (users_in s) i ≡ Some u)
-      go None e f = let z : ◌≡◌ {A = ℕ} 0 1 = cc in absurd (omega arith)
+      go None e f = absurd (cc)
       go (Some t) e f =
           let q : t.0 ≡ i = cc in
           let (j, is, el) = found_at _ (users_in s) 0 t e in
@@ -164,14 +163,14 @@ module _ (s n : Bytes) {o : UserAt} {i : ℕ} (at : o ≡ At i) (found : o ≡ u
       login-enters h l e = login-is ∙ rw (right, ← state, h, lt-leb _ _ l, e)
 
 -- nobody has the name
-pub login-unknown : (s n : Bytes) {o : UserAt} → o ≡ Unknown → o ≡ user_answer (user_named n (users_in s)) → (ls : List LoginState) (k : Bytes)
+pub login-unknown : (s n : Bytes) {o : Option ℕ} → o ≡ None → o ≡ option_map (λ (t : ℕ × User). t.0) (user_named n (users_in s)) → (ls : List LoginState) (k : Bytes)
     → login_decided (users_in s) ls n k ≡ refused 12
 unfolding login_decided decide_login ◌>>=◌ ◌or◌
 login-unknown s n at found ls k = go (user_named n (users_in s)) refl (sym at ∙ found)
   where
-    go : (o : Option (ℕ × User)) → user_named n (users_in s) ≡ o → Unknown ≡ user_answer o → login_decided (users_in s) ls n k ≡ refused 12
+    go : (o : Option (ℕ × User)) → user_named n (users_in s) ≡ o → None ≡ option_map (λ (t : ℕ × User). t.0) o → login_decided (users_in s) ls n k ≡ refused 12
     go None e f = rw e
-    go (Some t) e f = let z : ◌≡◌ {A = ℕ} 0 1 = cc in absurd (omega arith)
+    go (Some t) e f = cc
 
 -- ── A session's number ──
 -- the bits in which the logins stand: 2 to their power is per_user

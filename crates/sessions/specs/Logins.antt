@@ -1,6 +1,7 @@
 -- What the numbers of the login states mean, whatever they are.
 use Rattle.std.specs.Prelude.{ℕ, ◌*◌, ◌≡◌, Bool, true, false, not, List, [], ◌∷◌, map, eqb, get_or, set, if◌then◌else◌}
 use Rattle.std.specs.Prelude.{Option, None, Some}
+use Rattle.std.specs.Prelude as std
 use Rattle.rows.specs.Rows.{rows, written}
 use Rattle.model.specs.Base.{Bytes}
 use Rattle.model.specs.Limits.{max_users}
@@ -9,13 +10,11 @@ use Rattle.model.specs.Tables.{User, user_at}
 use Rattle.model.specs.Opening.{LoginState, empty_login}
 use Rattle.model.specs.Serving as serving
 use Rattle.model.specs.Serving.{Change, sets_login, shows, stores, is_session, index_in, count_in, session_number, decide_login}
+use Rattle.refusals.specs.declared.Refusal.{Refusal}
+use Rattle.refusals.specs.Numbers.{numbered}
 use Rattle.tables.specs.Memory.{users_in}
 use Rattle.sessions.specs.declared.LoginState as code
-use Rattle.sessions.specs.declared.LoginReply.{LoginReply}
-use Rattle.sessions.specs.declared.LoginReply.TheVariants as login
 use Rattle.sessions.specs.declared.NumberParts.{NumberParts}
-use Rattle.sessions.specs.declared.SessionAt.{SessionAt}
-use Rattle.sessions.specs.declared.SessionAt.TheVariants as session
 
 -- ── Sizes, in numbers ──
 -- a login state: the logins, whether a session is open, the fields created
@@ -75,12 +74,12 @@ closed a = serving.closed a
 unfoldable pub login_decided : List User → List LoginState → Bytes → Bytes → Result ℕ Change
 login_decided us ls n k = decide_login (record { tables = record { users = us; policy = [] }; login_states = ls; fields = [] }) n k
 
--- the number of a refusal, or the session's
-abbrev pub login_answer : Result ℕ Change → LoginReply
-login_answer (refused e) = login.Refused e
-login_answer (done (sets_login i a)) = login.Session (session_number i a)
-login_answer (done (shows c)) = login.Refused 0
-login_answer (done (stores i a f)) = login.Refused 0
+-- the session's number, or the refusal
+abbrev pub login_answer : Result ℕ Change → Result ℕ ℕ
+login_answer (refused e) = refused e
+login_answer (done (sets_login i a)) = done (session_number i a)
+login_answer (done (shows c)) = refused 0
+login_answer (done (stores i a f)) = refused 0
 
 -- the login states once it is decided
 abbrev pub logins_after : List LoginState → Result ℕ Change → List LoginState
@@ -90,8 +89,8 @@ logins_after ls (done (shows c)) = ls
 logins_after ls (done (stores i a f)) = ls
 
 -- a login of a name with a key: what is decided for it is answered and done, in meaning and in numbers
-pub record LoggedIn (tables : Bytes) (before : List ℕ) (name key : Bytes) (r : LoginReply) (after : List ℕ) : Type 0 where
-  pub answers : r ≡ login_answer (login_decided (users_in tables) (logins_in before) name key)
+pub record LoggedIn (tables : Bytes) (before : List ℕ) (name key : Bytes) (r : std.Result ℕ Refusal) (after : List ℕ) : Type 0 where
+  pub answers : numbered r ≡ login_answer (login_decided (users_in tables) (logins_in before) name key)
   pub leaves : logins_in after ≡ logins_after (logins_in before) (login_decided (users_in tables) (logins_in before) name key)
   pub numbers : after ≡ numbers_after (login_decided (users_in tables) (logins_in before) name key) before
 
@@ -108,10 +107,6 @@ session_is (Some u) i a n = is_session i a n
 unfoldable pub has_session : List User → List LoginState → ℕ → Bool
 has_session us ls n = session_is (user_at us (index_in n)) (index_in n) (get_or ls (index_in n) empty_login) n
 
-abbrev pub session_answer : Bool → ℕ → SessionAt
-session_answer true n = session.Of (index_in n)
-session_answer false n = session.Unknown
-
--- the user whose open session has the number n, by the arrays
-abbrev pub session_of : Bytes → List ℕ → ℕ → SessionAt
-session_of tables logins n = session_answer (has_session (users_in tables) (logins_in logins) n) n
+-- the index of the user whose open session has the number n, by the arrays
+abbrev pub session_of : Bytes → List ℕ → ℕ → Option ℕ
+session_of tables logins n = if has_session (users_in tables) (logins_in logins) n then Some (index_in n) else None

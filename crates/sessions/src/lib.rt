@@ -11,7 +11,8 @@ use layout::name::{NAME_ROW, name_from};
 use layout::table::row_count;
 use lexical::limits::{LOGIN_BITS, MAX_LOGINS};
 use lexical::slice::same_bytes;
-use tables::memory::{KEY, TABLES, USER, USERS, UserAt, find_user};
+use refusals::Refusal;
+use tables::memory::{KEY, TABLES, USER, USERS, find_user};
 
 // A login state: the logins, whether a session is open, the fields created.
 pub const LOGIN_ROW: usize = 3;
@@ -28,25 +29,11 @@ pub struct LoginState {
     pub created: u16,
 }
 
-// A login: the session's number, or a refusal's.
-#[derive(Clone, Copy)]
-pub enum LoginReply {
-    Session(u32),
-    Refused(usize),
-}
-
 // A number in the two parts that document 01 divides it into: a user's index, if there is such a user, and a count of logins.
 #[derive(Clone, Copy)]
 pub struct NumberParts {
     pub index: usize,
     pub logins: u16,
-}
-
-// The user index of an open session.
-#[derive(Clone, Copy)]
-pub enum SessionAt {
-    Of(usize),
-    Unknown,
 }
 
 // The login state at an index.
@@ -100,73 +87,68 @@ fn set_session(state: &mut LoginState, logins: u16, is_open: bool)
     state.is_open = is_open;
 }
 
-// The same for a caller that has the login state by value.
-fn with_session(state: LoginState, logins: u16, is_open: bool) -> LoginState
-    ensures { state_of result ≡ with_session (state_of state) logins is_open }
-{
-    let mut next = state;
-    set_session(&mut next, logins, is_open);
-    next
-}
-
 // A login: one more, and a session is open.
 fn entered(state: LoginState) -> LoginState
     requires { state.logins < max_logins }
     ensures { state_of result ≡ entered (state_of state) }
 {
-    with_session(state, state.logins + 1, true)
+    let mut next = state;
+    set_session(&mut next, state.logins + 1, true);
+    next
 }
 
 // A logout: the session is closed, the counts stay.
 pub fn closed(state: LoginState) -> LoginState
     ensures { state_of result ≡ closed (state_of state) }
 {
-    with_session(state, state.logins, false)
+    let mut next = state;
+    set_session(&mut next, state.logins, false);
+    next
 }
 
-// LOGIN: 12 user unknown or key wrong; 13 the user has a session; 18 the user has had all logins.
+// LOGIN: the session's number.
 pub fn login(
     tables: &[u8; TABLES],
     logins: &mut [u16; LOGINS],
     name: &[u8],
     key: &[u8],
-) -> LoginReply
+) -> Result<u32, Refusal>
     ensures { LoggedIn tables.now logins.old
         name.now key.now result logins.new }
 {
-    let UserAt::At(i) = find_user(tables, name) else {
-        return LoginReply::Refused(12);
+    let Some(i) = find_user(tables, name) else {
+        return Err(Refusal::WrongLogin);
     };
     if !same_bytes(name_from(tables, i * USER + KEY, NAME_ROW), key) {
-        return LoginReply::Refused(12); // as for an unknown user
+        return Err(Refusal::WrongLogin); // as for an unknown user
     }
     let state = state_at(logins, i);
     if state.is_open {
-        return LoginReply::Refused(13);
+        return Err(Refusal::HasSession);
     }
     if MAX_LOGINS <= state.logins {
-        return LoginReply::Refused(18);
+        return Err(Refusal::LoginsUsed);
     }
     let next = entered(state);
     put_state(logins, i, next);
-    LoginReply::Session(number(i, next))
+    Ok(number(i, next))
 }
 
 // The user whose open session has the number n: the one at its index, with its count of logins.
-pub fn session(tables: &[u8; TABLES], logins: &[u16; LOGINS], n: u32) -> SessionAt
+pub fn session(tables: &[u8; TABLES], logins: &[u16; LOGINS], n: u32) -> Option<usize>
     ensures { result ≡ session_of tables.now logins.now n }
 {
     let parts = split_number(n);
     let i = parts.index;
     if row_count(tables, USER, USERS) <= i {
-        return SessionAt::Unknown;
+        return None;
     }
     let state = state_at(logins, i);
     if !state.is_open {
-        return SessionAt::Unknown;
+        return None;
     }
     if state.logins != parts.logins {
-        return SessionAt::Unknown;
+        return None;
     }
-    SessionAt::Of(i)
+    Some(i)
 }

@@ -1,21 +1,16 @@
 -- The rows of steps, byte for byte: no byte beside what a step says.
-use Prim.Native.Nat.{ℕ}
 use mathlib.Core.Path.{◌≡◌, refl, sym, ap, ◌∙◌}
-use Rattle.std.specs.Prelude.{Some}
 use mathlib.Core.List.{[], ◌∷◌}
 use lib.ListN.{replicate}
 use Rattle.model.specs.Base.{Bytes, joined}
 use Rattle.model.specs.Limits.{max_listed}
-use Rattle.model.specs.Paths.{Step}
-use Rattle.model.proofs.Lists.{by_cases, none-some}
-use Rattle.model.proofs.Reading.{some_same}
 use Rattle.layout.specs.Layout.{key_row, name_in, encode_name, encode_counted, encode_keys, CanonicalKeys}
 use Rattle.layout.proofs.Canonical.{counted-encoded}
 use Rattle.steps.specs.declared.step.Operator.TheVariants.{Equals, In}
 use Rattle.steps.specs.declared.step.Kind.{Kind}
 use Rattle.steps.specs.declared.step.Kind.TheVariants.{Names, Wildcard, Environment}
-use Rattle.steps.specs.declared.step.StepRead.{StepRead}
-use Rattle.steps.specs.Steps.{names_slot, names_in, by_kind, byte_of, step_in, step_of, row_of, step_answer, encode_step, CanonicalStep}
+use Rattle.steps.specs.declared.step.Step as code
+use Rattle.steps.specs.Steps.{names_slot, names_in, by_kind, byte_of, step_in, step_of, row_of, encode_step, CanonicalStep}
 use Rattle.steps.proofs.StepRows.{step-written}
 
 pub names-encoded : (s : Bytes) → CanonicalKeys max_listed s → s ≡ encode_keys max_listed (names_in s)
@@ -45,11 +40,6 @@ one-encoded Wildcard h n = absurd h
 one-encoded (Environment Equals) h n = refl
 one-encoded (Environment In) h n = refl
 
-answered : (r : StepRead) (t : Step) (e : ℕ) → step_answer r ≡ Some (t, e) → step_of r.step ≡ t
-answered r t e h = by_cases r.ok
-    (λ ok. ap (λ (p : Step × ℕ). p.0) (some_same (rw ok at h)))
-    (λ no. none-some (rw no at h))
-
-pub one-canonical : (r : StepRead) (k : Kind) → Named k → (n : Bytes) (e : ℕ) → step_answer r ≡ Some (by_kind k (n ∷ []), e)
-    → row_of r.step ≡ byte_of k ∷ encode_keys max_listed (n ∷ []) → CanonicalStep (row_of r.step)
-one-canonical r k named n e h is = is ∙ one-encoded k named n ∙ ap encode_step (sym (answered r (by_kind k (n ∷ [])) e h) ∙ sym (step-written r.step))
+pub one-canonical : (t : code.Step) (k : Kind) → Named k → (n : Bytes) → step_of t ≡ by_kind k (n ∷ [])
+    → row_of t ≡ byte_of k ∷ encode_keys max_listed (n ∷ []) → CanonicalStep (row_of t)
+one-canonical t k named n h is = is ∙ one-encoded k named n ∙ ap encode_step (sym h ∙ sym (step-written t))

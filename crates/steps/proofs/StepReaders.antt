@@ -2,7 +2,7 @@
 use Prim.Native.Nat.{ℕ, zero, suc, ◌+◌, ◌-◌, ◌≤◌, ◌<◌}
 use mathlib.Core.Path.{◌≡◌, refl, sym, ap, ◌∙◌}
 use mathlib.Core.Bool.{Bool, true, false, not, ◌&&◌, and-true}
-use Rattle.std.specs.Prelude.{None, Some}
+use Rattle.std.specs.Prelude.{Option, None, Some, MatchOption}
 use mathlib.Core.List.{List, [], ◌∷◌, ◌++◌}
 use native.Mathlib.Omega.{arith}
 use lib.ListN.{length, get_or, take, drop, length-append, length-take, length-drop}
@@ -19,36 +19,23 @@ use Rattle.model.specs.Paths.{read_quoted, read_either, in_brackets, read_wildca
 use Rattle.model.proofs.Lists.{by_cases, never, none-some, all-imp, all_true, true-all, any-range}
 use Rattle.model.proofs.Reading.{within-bounds, either-some, span-passes}
 use Rattle.lexical.specs.declared.class.Class.TheVariants.{Name, Identifier, Plain}
-use Rattle.lexical.specs.declared.class.End.{End}
-use Rattle.lexical.specs.declared.class.End.TheVariants.{At, Bad}
 use Rattle.lexical.specs.Classes.{scan_end, read_between, text_answer}
 use Rattle.lexical.proofs.Runs.{within-above, span-at, byte-stands}
 use Rattle.lexical.proofs.Slices.{after-at, after-no}
 use Rattle.lexical.proofs.Between.{scan-bad, scan-at, scan-within, between-gives, between-leaves, quoted-between}
-use Rattle.steps.specs.Steps.{step_of, step_answer}
-use Rattle.steps.specs.declared.step.StepRead.{StepRead}
+use Rattle.steps.specs.Steps.{StepIs}
+use Rattle.steps.specs.declared.step.Step as code
 use Rattle.layout.proofs.Named.{push-whole}
 use Rattle.paths.proofs.InBrackets.{brackets-unopened, brackets-empty, brackets-unclosed, brackets-closed, brackets-leave, brackets-shorten}
 use Rattle.lexical.proofs.Readers.{placed-or, leaves-or, word-not, word-then, leaves_word, word-taken, leaves-if-word, leaves-some, leaves-bind, scanned, scanned-not, scanned-is, leaves-scanned}
 
 -- ── Answers ──
--- an answer that says whether f reads something
-module _ (f : Reader ℕ Step) (s : Bytes) (at : ℕ) (r : StepRead) (answer : step_answer r ≡ placed f s at) where
-  pub answer-none : r.ok ≡ false → f (drop at s) ≡ None
-  answer-none h = none-placed f s at (sym (rw h at answer))
-
-  pub answer-reads : LeavesEnd f → at ≤ length s → r.ok ≡ true → Reads f s at (step_of r.step) r.to
-  answer-reads leaves l h = reads-placed f s at leaves l _ r.to (sym (rw h at answer))
-
-  -- f is the first of two readers
-  module _ (g : Reader ℕ Step) where
-    pub first_reads : r.ok ≡ true → step_answer r ≡ placed (λ x. f x <|> g x) s at
-    unfolding ◌<|>◌
-    first_reads h = answer ∙ sym (placed-or f g s at ∙ rw (← answer, h))
-
-    pub first-none : r.ok ≡ false → placed g s at ≡ placed (λ x. f x <|> g x) s at
-    unfolding ◌<|>◌
-    first-none h = sym (placed-or f g s at ∙ rw (← answer, h))
+-- the answer r of f, or else that of g
+pub either-step : (f g : Reader ℕ Step) (s : Bytes) (at : ℕ) (r x : Option (code.Step × ℕ)) → StepIs r (placed f s at)
+    → MatchOption r (StepIs x (placed g s at)) (λ p. x ≡ Some p) → StepIs x (placed (λ b. f b <|> g b) s at)
+unfolding ◌<|>◌
+either-step f g s at None x h e = (e.0 ∙ sym (placed-or f g s at ∙ rw (← h.0)), e.1)
+either-step f g s at (Some p) x h e = rw e (sym (placed-or f g s at ∙ rw (← h.0)), h.1)
 
 -- ── Classes of bytes that a name may have ──
 -- a class with no byte from 0x7B on is part of another where the bytes below are
@@ -97,14 +84,14 @@ abbrev one_name : Bytes → Step
 one_name n = names (n ∷ [])
 
 -- `scan` answers x
-module _ (s : Bytes) (at : ℕ) (l : at ≤ length s) (x : End) (answer : x ≡ scan_end Identifier 1 max_key s at) where
-  pub identifier-misfit : x ≡ Bad → None ≡ placed read_identifier s at
+module _ (s : Bytes) (at : ℕ) (l : at ≤ length s) (x : Option ℕ) (answer : x ≡ scan_end Identifier 1 max_key s at) where
+  pub identifier-misfit : x ≡ None → None ≡ placed read_identifier s at
   unfolding read_identifier scanned is_key
   identifier-misfit i =
       scanned-not identifier_byte well_named one_name s at _ refl
       (rw (part-named identifier_byte identifier-name s at _ refl l max_key, scan-bad Identifier 1 max_key s at x answer i))
 
-  module _ (to : ℕ) (i : x ≡ At to) where
+  module _ (to : ℕ) (i : x ≡ Some to) where
     ends : to ≡ run_end identifier_byte s at
     ends = (scan-at Identifier 1 max_key s at x answer to i).0
 
@@ -138,7 +125,7 @@ module _ (o : Operator) (word : Bytes) (own : word ≡ operator_text o) (s : Byt
   environment-not h = word-not word _ s at h ∙ behind-word
 
   -- behind the word `scan` answers x
-  module _ (l : at ≤ length s) (h : is_some (after word (drop at s)) ≡ true) (x : End) (answer : x ≡ scan_end Plain 1 max_name s (at + length word)) where
+  module _ (l : at ≤ length s) (h : is_some (after word (drop at s)) ≡ true) (x : Option ℕ) (answer : x ≡ scan_end Plain 1 max_name s (at + length word)) where
     plain_fits : (to : ℕ) → to ≡ run_end plain_byte s (at + length word)
         → is_plain (take (to - (at + length word)) (drop (at + length word) s)) ≡ within 1 max_name (to - (at + length word))
     unfolding is_plain is_name
@@ -146,12 +133,12 @@ module _ (o : Operator) (word : Bytes) (own : word ≡ operator_text o) (s : Byt
         let m = (after-at word s at l h).1 in
         rw (part-named plain_byte plain-name s (at + length word) to is m max_name, part-passes plain_byte plain-name s (at + length word) to is m) (and-true _)
 
-    pub environment-misfit : x ≡ Bad → None ≡ placed (read_environment o) s at
+    pub environment-misfit : x ≡ None → None ≡ placed (read_environment o) s at
     environment-misfit i =
         scanned-not plain_byte is_plain (environment o) s (at + length word) _ refl (plain_fits _ refl ∙ scan-bad Plain 1 max_name s (at + length word) x answer i)
         ∙ word-then word _ s at l h ∙ behind-word
 
-    pub environment-is : (to : ℕ) → x ≡ At to
+    pub environment-is : (to : ℕ) → x ≡ Some to
         → Some (environment o (take max_key (take (to - (at + length word)) (drop (at + length word) s))), to) ≡ placed (read_environment o) s at
     environment-is to i =
         let m = (after-at word s at l h).1 in
@@ -212,23 +199,20 @@ module _ (s : Bytes) (at : ℕ) where
   unfolding read_either text placed
   either-placed = placed-or (read_quoted (0x27 ∷ [])) (read_quoted (0x22 ∷ [])) s at ∙ rw (quoted-between 0x27, quoted-between 0x22)
 
-  -- `between` answers x of single quotes
-  module _ (x : End) (answer : text_answer s at x ≡ placed (read_between Name 0x27 1 max_key) s at) where
-    pub either_first : (e : ℕ) → x ≡ At e → text_answer s at (At e) ≡ placed read_either s at
-    unfolding text_answer ◌<|>◌
-    either_first e i = sym (either-placed ∙ rw (← answer, i))
-
-    pub either_second : x ≡ Bad → (y : End) → text_answer s at y ≡ placed (read_between Name 0x22 1 max_key) s at → text_answer s at y ≡ placed read_either s at
-    unfolding text_answer ◌<|>◌
-    either_second i y a = a ∙ sym (either-placed ∙ rw (← answer, i))
+  -- `between` answers x of single quotes, or else y of double ones
+  pub either-quote : (x y : Option ℕ) → text_answer s at x ≡ placed (read_between Name 0x27 1 max_key) s at
+      → MatchOption x (text_answer s at y ≡ placed (read_between Name 0x22 1 max_key) s at) (λ e. y ≡ Some e) → text_answer s at y ≡ placed read_either s at
+  unfolding text_answer ◌<|>◌
+  either-quote None y a h = h ∙ sym (either-placed ∙ rw (← a))
+  either-quote (Some e) y a h = rw h (sym (either-placed ∙ rw (← a)))
 
   -- for a caller of `either_at`: what its answer says
-  module _ (x : End) (answer : text_answer s at x ≡ placed read_either s at) where
-    pub either-bad : x ≡ Bad → read_either (drop at s) ≡ None
+  module _ (x : Option ℕ) (answer : text_answer s at x ≡ placed read_either s at) where
+    pub either-bad : x ≡ None → read_either (drop at s) ≡ None
     unfolding text_answer
     either-bad i = none-placed _ s at (sym (rw i at answer))
 
-    pub either-at : at ≤ length s → (e : ℕ) → x ≡ At e → NameStands s at e
+    pub either-at : at ≤ length s → (e : ℕ) → x ≡ Some e → NameStands s at e
     unfolding text_answer
     either-at l e i =
         let r = reads-placed _ s at either-leaves l _ e (sym (rw i at answer)) in
@@ -307,20 +291,20 @@ module _ (s : Bytes) (at : ℕ) where
   pub bracketed-not : is_some (after (0x5B ∷ []) (drop at s)) ≡ false → None ≡ placed (in_brackets read_selector) s at
   bracketed-not h = sym (placed-none _ s at (brackets-unopened read_selector s at h))
 
-  -- behind the opening bracket `selector_at` answers r
-  module _ (o : is_some (after (0x5B ∷ []) (drop at s)) ≡ true) (r : StepRead) (answer : step_answer r ≡ placed read_selector s (at + 1)) where
-    pub bracketed-empty : r.ok ≡ false → None ≡ placed (in_brackets read_selector) s at
-    bracketed-empty i = sym (placed-none _ s at (brackets-empty read_selector s at o (answer-none read_selector s (at + 1) r answer i)))
+  module _ (o : is_some (after (0x5B ∷ []) (drop at s)) ≡ true) where
+    pub bracketed-empty : None ≡ placed read_selector s (at + 1) → None ≡ placed (in_brackets read_selector) s at
+    bracketed-empty i = sym (placed-none _ s at (brackets-empty read_selector s at o (none-placed read_selector s (at + 1) (sym i))))
 
-    module _ (i : r.ok ≡ true) where
-      selected : Reads read_selector s (at + 1) (step_of r.step) r.to
-      selected = answer-reads read_selector s (at + 1) r answer selector-leaves (byte-stands 0x5B s at o).0 i
+    -- t is read behind the opening bracket
+    module _ (t : Step) (e : ℕ) (i : Some (t, e) ≡ placed read_selector s (at + 1)) where
+      selected : Reads read_selector s (at + 1) t e
+      selected = reads-placed read_selector s (at + 1) selector-leaves (byte-stands 0x5B s at o).0 t e (sym i)
 
-      pub bracketed-unclosed : is_some (after (0x5D ∷ []) (drop r.to s)) ≡ false → None ≡ placed (in_brackets read_selector) s at
-      bracketed-unclosed j = sym (placed-none _ s at (brackets-unclosed read_selector s at o _ r.to selected j))
+      pub bracketed-unclosed : is_some (after (0x5D ∷ []) (drop e s)) ≡ false → None ≡ placed (in_brackets read_selector) s at
+      bracketed-unclosed j = sym (placed-none _ s at (brackets-unclosed read_selector s at o t e selected j))
 
-      pub bracketed-is : is_some (after (0x5D ∷ []) (drop r.to s)) ≡ true → Some (step_of r.step, r.to + 1) ≡ placed (in_brackets read_selector) s at
-      bracketed-is j = sym (placed-reads _ s at _ (r.to + 1) (brackets-closed read_selector s at o _ r.to selected j))
+      pub bracketed-is : is_some (after (0x5D ∷ []) (drop e s)) ≡ true → Some (t, e + 1) ≡ placed (in_brackets read_selector) s at
+      bracketed-is j = sym (placed-reads _ s at t (e + 1) (brackets-closed read_selector s at o t e selected j))
 
 -- ── A step ──
 -- behind the dot
@@ -342,11 +326,11 @@ step-shortens s t h = either-some _ _ _ h
     (λ i. omega (arith, word-taken (0x2E ∷ []) _ dot-leaves s t i))
 
 -- for a caller of `step_at`: what its answer says
-module _ (s : Bytes) (at : ℕ) (r : StepRead) (answer : step_answer r ≡ placed read_step s at) where
-  pub step-none : r.ok ≡ false → read_step (drop at s) ≡ None
-  step-none h = answer-none read_step s at r answer h
+module _ (s : Bytes) (at : ℕ) where
+  pub step-none : None ≡ placed read_step s at → read_step (drop at s) ≡ None
+  step-none h = none-placed read_step s at (sym h)
 
-  pub step-takes : at ≤ length s → r.ok ≡ true → Takes read_step s at (step_of r.step) r.to
-  step-takes l h =
-      let q = answer-reads read_step s at r answer step-leaves l h in
-      (omega (arith, step-shortens (drop at s) _ q.is, length-drop at s, length-drop r.to s, q.to), q)
+  pub step-takes : at ≤ length s → (t : Step) (e : ℕ) → Some (t, e) ≡ placed read_step s at → Takes read_step s at t e
+  step-takes l t e h =
+      let q = reads-placed read_step s at step-leaves l t e (sym h) in
+      (omega (arith, step-shortens (drop at s) _ q.is, length-drop at s, length-drop e s, q.to), q)

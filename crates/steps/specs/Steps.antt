@@ -1,6 +1,6 @@
 -- What a step of the code means, the bytes of steps, and the answers of their readers.
 use Rattle.std.specs.Prelude.{ℕ, ◌+◌, ◌*◌, ◌≡◌, List, [], ◌∷◌, eqb, get_or, drop, if◌then◌else◌}
-use Rattle.std.specs.Prelude.{Option, None, Some}
+use Rattle.std.specs.Prelude.{Option, option_map, IfSome}
 use Rattle.model.specs.Base.{Bytes}
 use Rattle.model.specs.Limits.{max_key, max_listed, max_depth}
 use Rattle.model.specs.Paths.{Step, names, wildcard, environment}
@@ -11,8 +11,6 @@ use Rattle.steps.specs.declared.step.Operator.TheVariants.{Equals, In}
 use Rattle.steps.specs.declared.step.Kind.{Kind}
 use Rattle.steps.specs.declared.step.Kind.TheVariants.{Names, Wildcard, Environment}
 use Rattle.steps.specs.declared.step.Step as code
-use Rattle.steps.specs.declared.step.StepRead.{StepRead}
-use Rattle.steps.specs.declared.policy.StepsRead.{StepsRead}
 
 -- ── Sizes, in bytes ──
 -- the names of a step: how many, and a row for each
@@ -101,14 +99,13 @@ CanonicalSteps s = CanonicalCounted CanonicalStep step_row max_depth s
 abbrev pub HoldsNames : Bytes → List Bytes → Type 0
 HoldsNames s ns = (names_in s ≡ ns) × (s ≡ encode_keys max_listed ns)
 
-abbrev pub step_answer : StepRead → Option (Step × ℕ)
-step_answer r = if r.ok then Some (step_of r.step, r.to) else None
+-- a step that was read, and the position behind it
+abbrev pub step_answer : Option (code.Step × ℕ) → Option (Step × ℕ)
+step_answer r = option_map (λ p. (step_of p.0, p.1)) r
 
-abbrev pub StepIs : StepRead → Option (Step × ℕ) → Type 0
-StepIs r x = (step_answer r ≡ x) × CanonicalStep (row_of r.step)
+abbrev pub StepIs : Option (code.Step × ℕ) → Option (Step × ℕ) → Type 0
+StepIs r x = (step_answer r ≡ x) × IfSome r (λ p. CanonicalStep (row_of p.0))
 
-abbrev pub steps_answer : StepsRead → Option paths.Steps
-steps_answer r = if r.ok then Some (steps_in r.slot) else None
-
-abbrev pub StepsAre : StepsRead → Option paths.Steps → Type 0
-StepsAre r x = (steps_answer r ≡ x) × CanonicalSteps r.slot
+-- a slot of steps that was read
+abbrev pub StepsAre : Option Bytes → Option paths.Steps → Type 0
+StepsAre r x = (option_map steps_in r ≡ x) × IfSome r CanonicalSteps

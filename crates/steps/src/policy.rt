@@ -19,26 +19,21 @@ pub const STEP: usize = 1 + NAMES;
 
 pub const STEPS: usize = 1 + MAX_DEPTH * STEP;
 
-#[derive(Clone, Copy)]
-pub struct StepsRead {
-    pub ok: bool,
-    pub slot: [u8; STEPS],
-}
+// The byte of a kind in a row.
+impl From<Kind> for u8 {
+    ghost from_gives = { λ kind b. b ≡ byte_of kind };
 
-fn kind_byte(kind: Kind) -> u8
-    ensures { result ≡ byte_of kind }
-{
-    match kind {
-        Kind::Names => 0,
-        Kind::Wildcard => 1,
-        Kind::Environment(operator) => match operator {
-            Operator::Equals => 2,
-            Operator::In => 3,
-        },
+    fn from(kind: Kind) -> u8 {
+        match kind {
+            Kind::Names => 0,
+            Kind::Wildcard => 1,
+            Kind::Environment(Operator::Equals) => 2,
+            Kind::Environment(Operator::In) => 3,
+        }
     }
 }
 
-// The kind of a step in a row.
+// The kind of a step in a row: named among the promises, so no impl of From.
 pub fn kind_of(b: u8) -> Kind
     ensures { result ≡ kind_of b }
 {
@@ -55,10 +50,8 @@ fn put_row(row: &mut [u8], step: Step)
     requires { length row.old ≡ step_row }
     ensures { row.new ≡ row_of step }
 {
-    let kind = step.kind;
-    let names = step.names;
-    row[0] = kind_byte(kind);
-    put(row, 1, &names);
+    row[0] = u8::from(step.kind);
+    put(row, 1, &step.names);
 }
 
 // One step more, where there is room for it.
@@ -88,15 +81,12 @@ fn put_list(out: &mut [u8], at: usize, names: &[u8]) -> usize
     requires { (names_slot ≤ length names.now) × (at + spelled_step < 2 ^ 64) }
     ensures { Wrote at (step_text (by_kind Kind.Names (names_in names.now))) out.old result out.new }
 {
-    let n = count(names, MAX_LISTED);
     let mut to = put_byte(out, at, b'[');
-    let mut i = 0;
-    while i < n {
+    for i in 0..count(names, MAX_LISTED) {
         if 0 < i {
             to = put_byte(out, to, b',');
         }
         to = put_quoted(out, to, b'\'', key_at(names, i));
-        i += 1;
     }
     put_byte(out, to, b']')
 }
@@ -141,65 +131,44 @@ pub fn put_steps(out: &mut [u8], at: usize, slot: &[u8]) -> usize
     ensures wrote { Wrote at (steps_text (steps_in slot.now)) out.old result out.new }
     ensures upper_bound { result ≤ at + spelled_steps }
 {
-    let n = count(slot, MAX_DEPTH);
     let mut to = put_byte(out, at, b'$');
-    let mut i = 0;
-    while i < n {
+    for i in 0..count(slot, MAX_DEPTH) {
         to = put_step(out, to, row_at(slot, STEP, i));
-        i += 1;
     }
     to
 }
 
-fn no_steps() -> StepsRead
-    ensures { StepsAre result None }
-{
-    StepsRead {
-        ok: false,
-        slot: [0; STEPS],
-    }
-}
-
 // One to six steps behind a `$`, in any spelling, that are the whole text.
-fn read_all(s: &[u8]) -> StepsRead
+fn read_all(s: &[u8]) -> Option<[u8; STEPS]>
     ensures { StepsAre result (read_path read_step s.now) }
 {
     if !is_at(s, 0, b'$') {
-        return no_steps();
+        return None;
     }
     let mut slot = [0u8; STEPS];
-    let mut n: usize = 0;
     let mut at = 1;
+    // A cursor: where a step ends, its reader says.
     while at < s.len() {
-        if MAX_DEPTH <= n {
-            return no_steps();
+        if MAX_DEPTH <= count(&slot, MAX_DEPTH) {
+            return None;
         }
-        let read = step_at(s, at);
-        if !read.ok {
-            return no_steps();
-        }
-        let step = read.step;
+        let (step, to) = step_at(s, at)?;
         push_step(&mut slot, step);
-        at = read.to;
-        n += 1;
+        at = to;
     }
-    StepsRead {
-        ok: 0 < n,
-        slot: slot,
+    if count(&slot, MAX_DEPTH) == 0 {
+        return None;
     }
+    Some(slot)
 }
 
-// A policy path that is not too long in the standard spelling.
-pub fn read_steps(s: &[u8]) -> StepsRead
+// A policy path that is not too long in the standard spelling, which is written into no bytes: where it ends is all that is asked.
+pub fn read_steps(s: &[u8]) -> Option<[u8; STEPS]>
     ensures { StepsAre result (steps_of s.now) }
 {
-    let path = read_all(s);
-    if path.ok {
-        let slot = path.slot;
-        let mut none = [0u8; 1];
-        if put_steps(&mut none[..0], 0, &slot) <= MAX_PATH_TEXT {
-            return path;
-        }
+    let slot = read_all(s)?;
+    if MAX_PATH_TEXT < put_steps(&mut [], 0, &slot) {
+        return None;
     }
-    no_steps()
+    Some(slot)
 }

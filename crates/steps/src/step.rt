@@ -4,12 +4,12 @@ ghost use Rattle.std.specs.Prelude.{None, Some};
 ghost use Rattle.rows.specs.Positions.{placed};
 ghost use Rattle.model.specs.Paths.{operator_text, read_either, in_brackets, read_wildcard, read_identifier, read_environment, read_dotted, read_list, read_selector, read_step};
 ghost use Rattle.lexical.specs.Classes.{text_answer};
-ghost use Rattle.steps.specs.Steps.{operator_of, names_in, by_kind, byte_of, row_of, step_answer, HoldsNames, StepIs};
+ghost use Rattle.steps.specs.Steps.{operator_of, by_kind, byte_of, step_of, row_of, HoldsNames, StepIs};
 ghost use Rattle.model.specs.Limits.{max_key, max_listed};
 ghost use Rattle.layout.specs.Layout.{encode_keys};
 
 use layout::name::{KEY_ROW, NAME_ROW};
-use lexical::class::{Class, End, between, is_digit, scan};
+use lexical::class::{Class, between, is_digit, scan};
 use lexical::limits::{MAX_BINDINGS, MAX_KEY, MAX_LISTED, MAX_NAME};
 use lexical::slice::{is_at, starts};
 use paths::key::push_key;
@@ -37,18 +37,11 @@ pub enum Kind {
     Environment(Operator),
 }
 
-// The names of a list, or the one of an environment step, stand beside the kind: how many, and four rows.
+// The names of a list, or the one of an environment step, stand beside the kind: how many, and four rows. Where a step is read, it is answered with the position behind it.
 #[derive(Clone, Copy)]
 pub struct Step {
     pub kind: Kind,
     pub names: [u8; NAMES],
-}
-
-#[derive(Clone, Copy)]
-pub struct StepRead {
-    pub ok: bool,
-    pub to: usize,
-    pub step: Step,
 }
 
 // A slot of one name.
@@ -60,180 +53,135 @@ pub fn one_name(name: &[u8]) -> [u8; NAMES]
     names
 }
 
-// A step that was read up to `to`.
-fn found(to: usize, kind: Kind, names: [u8; NAMES]) -> StepRead
-    ensures { (step_answer result ≡ Some (by_kind kind (names_in names), to)) × (row_of result.step ≡ byte_of kind ∷ names) }
+// A step of one name.
+fn one_named(kind: Kind, name: &[u8]) -> Step
+    ensures { (step_of result ≡ by_kind kind (take max_key name.now ∷ [])) × (row_of result ≡ byte_of kind ∷ encode_keys max_listed (take max_key name.now ∷ [])) }
 {
-    let step = Step {
-        kind: kind,
-        names: names,
-    };
-    StepRead {
-        ok: true,
-        to: to,
-        step: step,
-    }
-}
-
-// A step of one name that was read up to `to`.
-fn found_one(to: usize, kind: Kind, name: &[u8]) -> StepRead
-    ensures { (step_answer result ≡ Some (by_kind kind (take max_key name.now ∷ []), to)) × (row_of result.step ≡ byte_of kind ∷ encode_keys max_listed (take max_key name.now ∷ [])) }
-{
-    let names = one_name(name);
-    found(to, kind, names)
-}
-
-fn no_step() -> StepRead
-    ensures { StepIs result None }
-{
-    let step = Step {
-        kind: Kind::Wildcard,
-        names: [0; NAMES],
-    };
-    StepRead {
-        ok: false,
-        to: 0,
-        step: step,
+    Step {
+        kind,
+        names: one_name(name),
     }
 }
 
 // Any key.
-fn wildcard_at(s: &[u8], at: usize) -> StepRead
+fn wildcard_at(s: &[u8], at: usize) -> Option<(Step, usize)>
     requires { at ≤ length s.now }
     ensures { StepIs result (placed read_wildcard s.now at) }
 {
-    if is_at(s, at, b'*') {
-        return found(at + 1, Kind::Wildcard, [0; NAMES]);
+    if !is_at(s, at, b'*') {
+        return None;
     }
-    no_step()
+    let step = Step {
+        kind: Kind::Wildcard,
+        names: [0; NAMES],
+    };
+    Some((step, at + 1))
 }
 
 // An identifier, no longer than a key, that begins with no digit.
-fn identifier_at(s: &[u8], at: usize) -> StepRead
+fn identifier_at(s: &[u8], at: usize) -> Option<(Step, usize)>
     requires { at ≤ length s.now }
     ensures { StepIs result (placed read_identifier s.now at) }
 {
-    let End::At(to) = scan(s, at, Class::Identifier, 1, MAX_KEY) else {
-        return no_step();
-    };
+    let to = scan(s, at, Class::Identifier, 1, MAX_KEY)?;
     if is_digit(s[at]) {
-        return no_step();
+        return None;
     }
-    found_one(to, Kind::Names, &s[at..to])
+    Some((one_named(Kind::Names, &s[at..to]), to))
 }
 
 // The word of an operator, and the plain name of an environment step behind it.
-fn environment_at(s: &[u8], at: usize, word: &[u8], operator: Operator) -> StepRead
+fn environment_at(s: &[u8], at: usize, word: &[u8], operator: Operator) -> Option<(Step, usize)>
     requires { (at ≤ length s.now) × (word.now ≡ operator_text (operator_of operator)) }
     ensures { StepIs result (placed (read_environment (operator_of operator)) s.now at) }
 {
     if !starts(s, at, word) {
-        return no_step();
+        return None;
     }
     let from = at + word.len();
-    let End::At(to) = scan(s, from, Class::Plain, 1, MAX_NAME) else {
-        return no_step();
-    };
-    found_one(to, Kind::Environment(operator), &s[from..to])
+    let to = scan(s, from, Class::Plain, 1, MAX_NAME)?;
+    Some((one_named(Kind::Environment(operator), &s[from..to]), to))
 }
 
 // A name in either quote: where the closing one ends.
-fn either_at(s: &[u8], at: usize) -> End
+fn either_at(s: &[u8], at: usize) -> Option<usize>
     requires { at ≤ length s.now }
     ensures { text_answer s.now at result ≡ placed read_either s.now at }
 {
-    if let End::At(e) = between(s, at, b'\'', Class::Name, 1, MAX_KEY) {
-        return End::At(e);
-    }
-    between(s, at, b'"', Class::Name, 1, MAX_KEY)
+    between(s, at, b'\'', Class::Name, 1, MAX_KEY).or_else(|| between(
+        s,
+        at,
+        b'"',
+        Class::Name,
+        1,
+        MAX_KEY,
+    ))
 }
 
 // One to four names with commas between.
-fn list_at(s: &[u8], at: usize) -> StepRead
+fn list_at(s: &[u8], at: usize) -> Option<(Step, usize)>
     requires { at ≤ length s.now }
     ensures { StepIs result (placed read_list s.now at) }
 {
     let mut names = [0u8; NAMES];
     let mut from = at;
-    let mut n: usize = 0;
-    while n < MAX_LISTED {
-        let End::At(e) = either_at(s, from) else {
-            return no_step();
-        };
-        let a = from + 1;
-        let b = e - 1;
-        push_key(&mut names, &s[a..b], MAX_LISTED);
+    for _ in 0..MAX_LISTED {
+        let e = either_at(s, from)?;
+        push_key(&mut names, &s[from + 1..e - 1], MAX_LISTED);
         if !is_at(s, e, b',') {
-            return found(e, Kind::Names, names);
+            let step = Step {
+                kind: Kind::Names,
+                names,
+            };
+            return Some((step, e));
         }
         from = e + 1;
-        n += 1;
     }
-    no_step()
+    None
 }
 
 // What a step has between brackets.
-fn selector_at(s: &[u8], at: usize) -> StepRead
+fn selector_at(s: &[u8], at: usize) -> Option<(Step, usize)>
     requires { at ≤ length s.now }
     ensures { StepIs result (placed read_selector s.now at) }
 {
-    let any = wildcard_at(s, at);
-    if any.ok {
-        return any;
-    }
-    let equals = environment_at(s, at, b"=~", Operator::Equals);
-    if equals.ok {
-        return equals;
-    }
-    let inside = environment_at(s, at, b"in~", Operator::In);
-    if inside.ok {
-        return inside;
-    }
-    list_at(s, at)
+    wildcard_at(s, at)
+        .or_else(|| environment_at(s, at, b"=~", Operator::Equals))
+        .or_else(|| environment_at(s, at, b"in~", Operator::In))
+        .or_else(|| list_at(s, at))
 }
 
 // A wildcard or an identifier behind a dot.
-fn dotted_at(s: &[u8], at: usize) -> StepRead
+fn dotted_at(s: &[u8], at: usize) -> Option<(Step, usize)>
     requires { at ≤ length s.now }
     ensures { StepIs result (placed read_dotted s.now at) }
 {
     if !is_at(s, at, b'.') {
-        return no_step();
+        return None;
     }
     let from = at + 1;
-    let any = wildcard_at(s, from);
-    if any.ok {
-        return any;
-    }
-    identifier_at(s, from)
+    wildcard_at(s, from).or_else(|| identifier_at(s, from))
 }
 
 // A step in brackets.
-fn bracketed_at(s: &[u8], at: usize) -> StepRead
+fn bracketed_at(s: &[u8], at: usize) -> Option<(Step, usize)>
     requires { at ≤ length s.now }
     ensures { StepIs result (placed (in_brackets read_selector) s.now at) }
 {
     if !is_at(s, at, b'[') {
-        return no_step();
+        return None;
     }
-    let mut inner = selector_at(s, at + 1);
-    if inner.ok {
-        if is_at(s, inner.to, b']') {
-            inner.to += 1;
-            return inner;
-        }
+    let (step, to) = selector_at(s, at + 1)?;
+    if !is_at(s, to, b']') {
+        return None;
     }
-    no_step()
+    Some((step, to + 1))
 }
 
 // A step in any spelling.
-pub fn step_at(s: &[u8], at: usize) -> StepRead
+pub fn step_at(s: &[u8], at: usize) -> Option<(Step, usize)>
     requires { at ≤ length s.now }
     ensures { StepIs result (placed read_step s.now at) }
 {
-    let dotted = dotted_at(s, at);
-    if dotted.ok {
-        return dotted;
-    }
-    bracketed_at(s, at)
+    dotted_at(s, at).or_else(|| bracketed_at(s, at))
 }

@@ -1,12 +1,14 @@
 -- Who holds the keys of a path as environment values, and masks that leave out nobody for whom a policy path matches.
-use Prim.Native.Nat.{ℕ, zero, suc, ◌+◌, ◌*◌, ◌^◌, ◌≤◌, ◌<◌, min}
+use Prim.Native.Nat.{ℕ, zero, suc, ◌+◌, ◌*◌, ◌≤◌, ◌<◌, min}
 use mathlib.Core.Path.{◌≡◌, refl, sym, ◌∙◌}
 use mathlib.Core.Bool.{Bool, true, ◌&&◌, ◌||◌}
 use mathlib.Core.List.{List, [], ◌∷◌}
 use native.Mathlib.Omega.{arith}
 use borrow.Author.Tests.{eqb-true, eqb-false, ltb-true, ltb-false}
+use Rattle.std.specs.Prelude.{Option, None, Some}
+use Rattle.std.proofs.lemmas.List.{get_or_past}
 use lib.Dec.{eqb, ltb}
-use lib.ListN.{length, get_or, take, drop, set, replicate, get_or-replicate, length-replicate, length-set}
+use lib.ListN.{length, get_or, take, drop, set, replicate, length-replicate, length-set}
 use lib.Seq.{get_or-set_same, get_or-set_other}
 use Rattle.model.specs.Base.{Bytes, ◌≐◌}
 use Rattle.model.specs.Limits.{max_depth, max_users}
@@ -47,6 +49,11 @@ module _ (s v : Bytes) {m : ℕ} (counted : m ≡ user_count s) (j mask : ℕ) (
   holders-end h k = below_end (λ k. holds_value v (user_at (users_in s) k)) j mask left (λ k l. rw (user-none s counted k (omega arith))) k
 
 -- ── Who holds the keys of a path ──
+replicated : {A : Type 0} (z : A) (n i : ℕ) → get_or (replicate n z) i z ≡ z
+replicated z zero i = refl
+replicated z (suc n) zero = refl
+replicated z (suc n) (suc i) = replicated z n i
+
 -- the key in the row at i
 pub key-is : (s : Bytes) (i : ℕ) → i < min (get_or s 0 0) max_depth → {key : Bytes} → key ≡ name_in (take key_row (drop (i * key_row + 1) s)) → key ≡ get_or (path_in s) i []
 unfolding path_in
@@ -54,20 +61,24 @@ key-is s i h e = e ∙ sym (counted-at name_in key_row max_depth s i [] h)
 
 module _ (us : List User) (p : Keys) where
   -- nothing was found out yet
-  pub found_none : Found us p (replicate max_depth (2 ^ max_users))
+  pub found_none : Found us p (replicate max_depth None)
   found_none = record {
-    long = length-replicate max_depth (2 ^ max_users);
-    holders = λ i h small. absurd (omega (arith, get_or-replicate max_depth i (2 ^ max_users) 0 h));
+    long = length-replicate {A = Option ℕ} max_depth None;
+    holders = λ i mask known. let none = replicated {A = Option ℕ} None max_depth i in absurd (cc);
   }
 
   -- who holds the i-th key was found out
-  pub found-more : (found : List ℕ) → Found us p found → (i mask : ℕ) → i < max_depth
-      → ((k : ℕ) → bit_at mask k ≡ holds_value (get_or p i []) (user_at us k)) → Found us p (set found i mask)
+  pub found-more : (found : List (Option ℕ)) → Found us p found → (i mask : ℕ) → i < max_depth
+      → ((k : ℕ) → bit_at mask k ≡ holds_value (get_or p i []) (user_at us k)) → Found us p (set found i (Some mask))
   found-more found left i mask h e = record {
     long = simp length-set left.long;
-    holders = λ j below small k. by_cases (eqb j i)
-        (λ q. let is : j ≡ i = eqb-true j i q in rw (is, get_or-set_same found i mask 0 (omega (arith, left.long))) (e k))
-        (λ q. let other = get_or-set_other found i j mask 0 (eqb-false j i q) in rw other (left.holders j below (rw other at small) k));
+    holders = λ j m known k. by_cases (eqb j i)
+        (λ q.
+        let is : j ≡ i = eqb-true j i q in
+        let put = get_or-set_same found i (Some mask) None (omega (arith, left.long)) in
+        let same : m ≡ mask = cc in
+        rw (is, same) (e k))
+        (λ q. left.holders j m (rw (get_or-set_other found i j (Some mask) None (eqb-false j i q)) at known) k);
   }
 
 -- ── What was found out of one path, kept for another as far as the two share keys ──
@@ -79,33 +90,37 @@ shared-key (k ∷ p) (l ∷ q) zero h = by_cases (k ≐ l) (λ e. bytes_eq k l e
 shared-key (k ∷ p) (l ∷ q) (suc j) h = by_cases (k ≐ l) (λ e. shared-key p q j (omega (arith, rw e at h))) (λ e. absurd (omega (arith, rw e at h)))
 
 -- what is known was known before, and of those below i only the first n are
-pub record KeptFirst (n : ℕ) (before : List ℕ) (i : ℕ) (found : List ℕ) : Type 0 where
+pub record KeptFirst (n : ℕ) (before : List (Option ℕ)) (i : ℕ) (found : List (Option ℕ)) : Type 0 where
   pub long : length found ≡ max_depth
-  pub known : (j : ℕ) → get_or found j 0 < 2 ^ max_users → (get_or found j 0 ≡ get_or before j 0) × (j < i → j < n)
+  pub known : (j mask : ℕ) → get_or found j None ≡ Some mask → (get_or before j None ≡ Some mask) × (j < i → j < n)
 
-module _ (n : ℕ) (before : List ℕ) where
+module _ (n : ℕ) (before : List (Option ℕ)) where
   pub kept-all : length before ≡ max_depth → KeptFirst n before n before
-  kept-all h = record { long = h; known = λ j small. (refl, λ l. l) }
+  kept-all h = record { long = h; known = λ j mask is. (is, λ l. l) }
 
-  module _ (i : ℕ) (found : List ℕ) (left : KeptFirst n before i found) where
-    pub kept_next : i < max_depth → KeptFirst n before (i + 1) (set found i (2 ^ max_users))
+  module _ (i : ℕ) (found : List (Option ℕ)) (left : KeptFirst n before i found) where
+    pub kept_next : i < max_depth → KeptFirst n before (i + 1) (set found i None)
     kept_next h = record {
       long = simp length-set left.long;
-      known = λ j small. by_cases (eqb j i)
-          (λ q. let is : j ≡ i = eqb-true j i q in absurd (omega (arith, rw is at small, get_or-set_same found i (2 ^ max_users) 0 (omega (arith, left.long)))))
+      known = λ j mask is. by_cases (eqb j i)
+          (λ q.
+          let e : j ≡ i = eqb-true j i q in
+          let put = get_or-set_same found i None None (omega (arith, left.long)) in
+          absurd (cc))
           (λ q.
           let d = eqb-false j i q in
-          let other = get_or-set_other found i j (2 ^ max_users) 0 d in
-          let (same, first) = left.known j (rw other at small) in
-          (other ∙ same, λ l. first (omega arith)));
+          let (was, first) = left.known j mask (rw (get_or-set_other found i j None None d) at is) in
+          (was, λ l. first (omega arith)));
     }
 
     pub kept-end : max_depth ≤ i → (us : List User) (p q : Keys) → n ≤ shared p q → Found us p before → Found us q found
     kept-end h us p q same was = record {
       long = left.long;
-      holders = λ j below small k.
-          let (is, first) = left.known j small in
-          rw (is, ← shared-key p q j (omega (arith, first (omega arith)))) (was.holders j below (rw is at small) k);
+      holders = λ j mask is k.
+          let (known, first) = left.known j mask is in
+          let inside : j < max_depth = by_cases (ltb j max_depth) (λ b. ltb-true j max_depth b)
+          (λ b. let past = get_or_past found j None (omega (arith, left.long, ltb-false j max_depth b)) in absurd (cc)) in
+          rw (← shared-key p q j (omega (arith, first (omega arith)))) (was.holders j mask known k);
     }
 
 -- ── A mask that leaves out nobody for whom the steps match the path ──

@@ -1,8 +1,8 @@
--- The right that one line gives, whom a line may admit, and the line of a conflict.
-use Rattle.std.specs.Prelude.{ℕ, ◌<◌, ◌^◌, ◌≡◌, Bool, true, false, ◌&&◌, List, [], length, get_or}
+-- The right that one line gives, and whom a line may admit.
+use Rattle.std.specs.Prelude.{ℕ, ◌<◌, ◌≡◌, Bool, true, false, ◌&&◌, List, [], length, get_or}
 use Rattle.std.specs.Prelude.{Option, None, Some}
 use Rattle.model.specs.Base.{Bytes}
-use Rattle.model.specs.Limits.{max_depth, max_users}
+use Rattle.model.specs.Limits.{max_depth}
 use Rattle.model.specs.Fields.{Keys}
 use Rattle.model.specs.Paths.{Steps}
 use Rattle.model.specs.Tables.{User, Rule, user_at}
@@ -24,10 +24,10 @@ unfoldable pub holds_value : Bytes → Option User → Bool
 holds_value k None = false
 holds_value k (Some u) = has_value u.environment k
 
--- a number for each key of the path p: the mask of those who hold it, or, where that was not found out, a number that is no mask
-pub record Found (us : List User) (p : Keys) (found : List ℕ) : Type 0 where
+-- for each key of the path p the mask of those who hold it, where that was found out
+pub record Found (us : List User) (p : Keys) (found : List (Option ℕ)) : Type 0 where
   pub long : length found ≡ max_depth
-  pub holders : (i : ℕ) → i < max_depth → get_or found i 0 < 2 ^ max_users → (k : ℕ) → bit_at (get_or found i 0) k ≡ holds_value (get_or p i []) (user_at us k)
+  pub holders : (i mask : ℕ) → get_or found i None ≡ Some mask → (k : ℕ) → bit_at mask k ≡ holds_value (get_or p i []) (user_at us k)
 
 -- a mask of users that leaves out nobody for whom the steps match the path
 pub record Covers (us : List User) (ts : Steps) (p : Keys) (mask : ℕ) : Type 0 where
@@ -37,8 +37,3 @@ pub record Covers (us : List User) (ts : Steps) (p : Keys) (mask : ℕ) : Type 0
 -- the user u may write the path p by the line r
 unfoldable pub gives_write : User → Keys → Rule → Bool
 gives_write u p r = is_for u r && is_write r && matches u.environment r.path p
-
--- a line's number, or 0 where there is none
-abbrev pub line_number : Option ℕ → ℕ
-line_number None = 0
-line_number (Some n) = n

@@ -1,14 +1,13 @@
 -- What the bytes of the tables mean, whatever they are; and the bytes of tables.
 use Rattle.std.specs.Prelude.{ℕ, ◌+◌, ◌*◌, ◌/◌, ◌%◌, ◌≡◌, List, [], ◌∷◌, ◌++◌, eqb, length, get_or, take, drop, if◌then◌else◌}
-use Rattle.std.specs.Prelude.{Option, None, Some}
 use Rattle.layout.specs.Layout.{in_use, table, name_row, name_in, encode_name, encode_table, Canonical, CanonicalName, CanonicalTable}
 use Rattle.model.specs.Base.{Bytes}
 use Rattle.model.specs.Limits.{max_users, max_rules}
 use Rattle.model.specs.Tables.{User, Access, READ, WRITE, Rule, Tables}
+use Rattle.tables.specs.declared.memory.Access as code
+use Rattle.tables.specs.declared.memory.Access.TheVariants as kind
 use Rattle.steps.specs.Steps.{steps_slot, steps_in, encode_steps}
 use Rattle.steps.specs.Environments.{bindings_bytes, bindings_in, encode_bindings, CanonicalBindings}
-use Rattle.tables.specs.declared.memory.UserAt.{UserAt}
-use Rattle.tables.specs.declared.memory.UserAt.TheVariants.{At, Unknown}
 
 -- ── Sizes and places, in bytes ──
 -- a user: rows of the name, the role and the key, two bytes of the quota, and the environment lines
@@ -73,6 +72,11 @@ abbrev pub access_byte : Access → ℕ
 access_byte READ = 0
 access_byte WRITE = 1
 
+-- what the code calls a kind
+abbrev pub access_is : code.Access → Access
+access_is kind.Read = READ
+access_is kind.Write = WRITE
+
 -- a policy line
 unfoldable pub rule_in : Bytes → Rule
 rule_in row = record { role = name_in (take name_row row); access = access_in (get_or row access_at 0); path = steps_in (drop path_at row) }
@@ -91,11 +95,6 @@ rule_at i s = rule_in (take rule_row (drop (i * rule_row) s))
 -- the users' rows, and behind them the policy's
 unfoldable pub tables_in : Bytes → Tables
 tables_in s = record { users = users_in s; policy = policy_in (drop users_bytes s) }
-
--- the index of a user
-abbrev pub user_answer : Option (ℕ × User) → UserAt
-user_answer None = Unknown
-user_answer (Some t) = At t.0
 
 -- ── Every byte ──
 -- a quota: how many beside whole 256, and how many 256

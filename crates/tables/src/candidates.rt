@@ -16,24 +16,19 @@ use crate::memory::{TABLES, USER, bindings};
 use layout::counted;
 use layout::counted::count;
 use layout::table::row_at;
-use lexical::limits::{MAX_DEPTH, MAX_USERS};
+use lexical::limits::MAX_DEPTH;
 use masks::{both, first_places, with_bit};
 use matching::path::{asks, has_value};
 use paths::key::key_at;
 use steps::policy::STEP;
 
-// No mask: who holds a key was not asked yet.
-pub const NOT_ASKED: u64 = 1 << MAX_USERS;
-
 // What was found out of a path's keys, kept for a path that shares the first n of them: of the others it is forgotten.
-pub fn keep_first(found: &mut [u64; MAX_DEPTH], n: usize)
+pub fn keep_first(found: &mut [Option<u32>; MAX_DEPTH], n: usize)
     requires { length found.old ≡ max_depth }
     ensures { (us : List User) (p q : Keys) → n ≤ shared p q → Found us p found.old → Found us q found.new }
 {
-    let mut i = n;
-    while i < MAX_DEPTH {
-        found[i] = NOT_ASKED;
-        i += 1;
+    for i in n..MAX_DEPTH {
+        found[i] = None;
     }
 }
 
@@ -43,19 +38,17 @@ fn holders(tables: &[u8; TABLES], n: usize, key: &[u8]) -> u32
     ensures { (k : ℕ) → bit_at result k ≡ holds_value key.now (user_at (users_in tables.now) k) }
 {
     let mut held: u32 = 0;
-    let mut j: usize = 0;
-    while j < n {
+    for j in 0..n {
         if has_value(bindings(row_at(tables, USER, j)), key) {
             held = with_bit(held, j);
         }
-        j += 1;
     }
     held
 }
 
-// Who holds the i-th key of a path as a value: found out when it is first asked.
+// Who holds the i-th key of a path as a value: found out when it is first asked, which `None` says it was not.
 fn holders_at(
-    found: &mut [u64; MAX_DEPTH],
+    found: &mut [Option<u32>; MAX_DEPTH],
     tables: &[u8; TABLES],
     n: usize,
     path: &[u8],
@@ -66,19 +59,18 @@ fn holders_at(
     ensures by_index { (k : ℕ) → bit_at result k ≡ holds_value (get_or (path_in path.now) i []) (user_at (users_in tables.now) k) }
     ensures found_2 { Found (users_in tables.now) (path_in path.now) found.new }
 {
-    let held = found[i];
-    if held < NOT_ASKED {
-        return held as u32;
+    if let Some(held) = found[i] {
+        return held;
     }
     let mask = holders(tables, n, key_at(path, i));
-    found[i] = mask as u64;
+    found[i] = Some(mask);
     mask
 }
 
 // Those of a mask whom the i-th step of a policy path may admit: an environment step admits nobody who does not hold the key.
 fn admitted(
     mask: u32,
-    found: &mut [u64; MAX_DEPTH],
+    found: &mut [Option<u32>; MAX_DEPTH],
     tables: &[u8; TABLES],
     n: usize,
     steps: &[u8],
@@ -100,7 +92,7 @@ fn admitted(
 
 // Those of the n users whom a policy path that may match can admit: nobody is left out for whom it matches.
 pub fn candidates(
-    found: &mut [u64; MAX_DEPTH],
+    found: &mut [Option<u32>; MAX_DEPTH],
     tables: &[u8; TABLES],
     n: usize,
     steps: &[u8],
@@ -114,10 +106,8 @@ pub fn candidates(
 {
     let m = count(steps, MAX_DEPTH);
     let mut mask = first_places(n);
-    let mut i: usize = 0;
-    while i < m {
+    for i in 0..m {
         mask = admitted(mask, found, tables, n, steps, path, i);
-        i += 1;
     }
     mask
 }

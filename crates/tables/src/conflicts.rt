@@ -5,7 +5,6 @@ ghost use Rattle.model.specs.Rights.{conflicts_with};
 ghost use Rattle.model.specs.Opening.{conflict_from};
 ghost use Rattle.steps.specs.Steps.{steps_slot, steps_in};
 ghost use Rattle.tables.specs.Memory.{policy_bytes, policy_in};
-ghost use Rattle.tables.specs.Grants.{line_number};
 
 use crate::memory::{RULE, RULES, is_write, rule_path};
 use layout::table::{row_at, row_count};
@@ -16,38 +15,27 @@ pub fn has_conflict(policy: &[u8], n: usize, steps: &[u8]) -> bool
     requires { (length policy.now ≡ policy_bytes) × (steps_slot ≤ length steps.now) }
     ensures { result ≡ any (conflicts_with (steps_in steps.now)) (take n (policy_in policy.now)) }
 {
-    let all = row_count(policy, RULE, RULES);
-    let mut i: usize = 0;
-    while i < all {
-        if n <= i {
-            return false;
-        }
+    let first = n.min(row_count(policy, RULE, RULES));
+    for i in 0..first {
         let rule = row_at(policy, RULE, i);
-        if is_write(rule) {
-            if conflict(steps, rule_path(rule)) {
-                return true;
-            }
+        if is_write(rule) && conflict(steps, rule_path(rule)) {
+            return true;
         }
-        i += 1;
     }
     false
 }
 
-// The number of the first WRITE line in conflict with an earlier one, the head being line 1; 0 where there is none.
-pub fn first_conflict(policy: &[u8]) -> usize
+// The number of the first WRITE line in conflict with an earlier one, the head being line 1.
+pub fn first_conflict(policy: &[u8]) -> Option<usize>
     requires { length policy.now ≡ policy_bytes }
-    ensures { result ≡ line_number (conflict_from 2 [] (policy_in policy.now)) }
+    ensures { result ≡ conflict_from 2 [] (policy_in policy.now) }
 {
     let n = row_count(policy, RULE, RULES);
-    let mut i: usize = 0;
-    while i < n {
+    for i in 0..n {
         let rule = row_at(policy, RULE, i);
-        if is_write(rule) {
-            if has_conflict(policy, i, rule_path(rule)) {
-                return i + 2;
-            }
+        if is_write(rule) && has_conflict(policy, i, rule_path(rule)) {
+            return Some(i + 2);
         }
-        i += 1;
     }
-    0
+    None
 }

@@ -1,10 +1,11 @@
 // Users in rows of a name, a role, a key, a quota and environment lines; policy lines in rows of a role, an access and steps.
-ghost use Rattle.std.specs.Prelude.{◌≡◌, ◌≤◌, length, drop};
+ghost use Rattle.std.specs.Prelude.{◌≡◌, ℕ, ◌≤◌, length, drop};
+ghost use Rattle.std.specs.Option.{option_map};
 ghost use Rattle.model.specs.Rights.{is_write, is_for};
-ghost use Rattle.model.specs.Tables.{user_named};
+ghost use Rattle.model.specs.Tables.{User, user_named};
 ghost use Rattle.steps.specs.Steps.{steps_slot, steps_in};
 ghost use Rattle.steps.specs.Environments.{bindings_bytes, bindings_in};
-ghost use Rattle.tables.specs.Memory.{user_row, users_bytes, rule_row, policy_bytes, tables_bytes, user_in, users_in, rule_in, user_answer};
+ghost use Rattle.tables.specs.Memory.{user_row, users_bytes, rule_row, policy_bytes, tables_bytes, access_is, access_byte, user_in, users_in, rule_in};
 
 use layout::name::{NAME_ROW, name_from};
 use lexical::limits::{MAX_RULES, MAX_USERS};
@@ -42,11 +43,23 @@ pub const RULES: usize = MAX_RULES;
 // Users and their environment lines, and the policy.
 pub const TABLES: usize = POLICY + RULES * RULE;
 
-// The index of a user.
+// The kind of a policy line.
 #[derive(Clone, Copy)]
-pub enum UserAt {
-    At(usize),
-    Unknown,
+pub enum Access {
+    Read,
+    Write,
+}
+
+// Its byte in a row.
+impl From<Access> for u8 {
+    ghost from_gives = { λ a b. b ≡ access_byte (access_is a) };
+
+    fn from(access: Access) -> u8 {
+        match access {
+            Access::Read => 0,
+            Access::Write => 1,
+        }
+    }
 }
 
 // The policy's rows, which stand behind the users'.
@@ -83,23 +96,21 @@ pub fn rule_path(rule: &[u8]) -> &[u8]
     &rule[STEPS_AT..]
 }
 
-// The user of a name.
-pub fn find_user(users: &[u8], name: &[u8]) -> UserAt
+// The index of the user of a name.
+pub fn find_user(users: &[u8], name: &[u8]) -> Option<usize>
     requires { users_bytes ≤ length users.now }
-    ensures { result ≡ user_answer (user_named name.now (users_in users.now)) }
+    ensures { result ≡ option_map (λ (t : ℕ × User). t.0) (user_named name.now (users_in users.now)) }
 {
-    let mut i: usize = 0;
-    while i < USERS {
+    for i in 0..USERS {
         let at = i * USER;
         if users[at] == 0 {
-            return UserAt::Unknown;
+            return None;
         }
         if same_bytes(name_from(users, at, NAME_ROW), name) {
-            return UserAt::At(i);
+            return Some(i);
         }
-        i += 1;
     }
-    UserAt::Unknown
+    None
 }
 
 // Whether a line is of the kind WRITE.
@@ -107,7 +118,7 @@ pub fn is_write(rule: &[u8]) -> bool
     requires { length rule.now ≡ rule_row }
     ensures { result ≡ is_write (rule_in rule.now) }
 {
-    rule[ACCESS] == 1
+    rule[ACCESS] == u8::from(Access::Write)
 }
 
 // Whether a line is of the user's role or of every role.

@@ -65,7 +65,7 @@ fn put_rule(row: &mut [u8], role: &[u8], access: u8, steps: &[u8])
     put_name(&mut row[0..NAME_ROW], role);
 }
 
-// A policy line.
+// A policy line. The access is its byte, of which each but 1 means READ: a type of two kinds would ask more of a caller.
 pub fn push_rule(policy: &mut [u8], role: &[u8], access: u8, steps: &[u8])
     requires { (length policy.old ≡ policy_bytes) × (0 < length role.now) × (length steps.now ≡ steps_slot) }
     ensures policy_after { policy_in policy.new ≡ take max_rules (policy_in policy.old ++ record { role = take max_name role.now; access = access_in access; path = steps_in steps.now } ∷ []) }

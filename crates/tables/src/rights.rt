@@ -11,7 +11,7 @@ ghost use Rattle.matching.specs.Parts.{may_match};
 ghost use Rattle.tables.specs.Memory.{user_row, rule_row, policy_bytes, user_in, users_in, rule_in, rule_at, policy_in, rule_count, tables_in};
 ghost use Rattle.tables.specs.Grants.{gives_read, gives_write, reads_by_line, Found, Covers};
 
-use crate::candidates::{NOT_ASKED, candidates};
+use crate::candidates::candidates;
 use crate::memory::{
     RULE, RULES, TABLES, USER, USERS, bindings, is_for, is_write, policy_of, rule_path,
 };
@@ -39,8 +39,7 @@ pub fn may_write(policy: &[u8], user: &[u8], path: &[u8]) -> bool
     requires { (length policy.now ≡ policy_bytes) × (length user.now ≡ user_row) × (path_slot ≤ length path.now) }
     ensures { result ≡ may_write (policy_in policy.now) (user_in user.now) (path_in path.now) }
 {
-    let mut i: usize = 0;
-    while i < RULES {
+    for i in 0..RULES {
         let rule = row_at(policy, RULE, i);
         if is_empty(rule) {
             return false;
@@ -48,7 +47,6 @@ pub fn may_write(policy: &[u8], user: &[u8], path: &[u8]) -> bool
         if gives_write(rule, user, path) {
             return true;
         }
-        i += 1;
     }
     false
 }
@@ -79,6 +77,7 @@ fn with_readers(mask: u32, able: u32, tables: &[u8; TABLES], rule: &[u8], path: 
 {
     let mut marked = mask;
     let mut rest = difference(able, mask);
+    // From bit to bit, not from place to place.
     while rest != 0 {
         let j = first_bit(rest);
         if gives_read(rule, row_at(tables, USER, j), path) {
@@ -90,26 +89,25 @@ fn with_readers(mask: u32, able: u32, tables: &[u8; TABLES], rule: &[u8], path: 
 }
 
 // The next of the n lines, from a place on, that may match a path for somebody; n where none may. The lines before it let nobody read the path.
+// With `None` for none the last clause would be two: of the lines up to a place, and of those up to the end.
 fn next_line(policy: &[u8], n: usize, from: usize, path: &[u8]) -> usize
     requires { (length policy.now ≡ policy_bytes) × (path_slot ≤ length path.now) × (n ≡ rule_count policy.now) × (from ≤ n) }
     ensures lower_bound { (from ≤ result) × (result ≤ n) }
     ensures path_value { result < n → may_match (rule_at result policy.now).path (path_in path.now) ≡ true }
     ensures path_value_2 { (o : Option User) → reads_by (drop from (policy_in policy.now)) o (path_in path.now) ≡ reads_by (drop result (policy_in policy.now)) o (path_in path.now) }
 {
-    let mut i = from;
-    while i < n {
+    for i in from..n {
         let rule = row_at(policy, RULE, i);
         if may_match(rule_path(rule), path) {
             return i;
         }
-        i += 1;
     }
-    i
+    n
 }
 
 // The mask of those who may read a path. A line that matches for nobody is passed over once, not for each user;
 // who holds a key of the path is found out once, not for each line, and kept in `found`.
-pub fn readers_by(found: &mut [u64; MAX_DEPTH], tables: &[u8; TABLES], path: &[u8]) -> u32
+pub fn readers_by(found: &mut [Option<u32>; MAX_DEPTH], tables: &[u8; TABLES], path: &[u8]) -> u32
     requires path_slot_in_bounds { path_slot ≤ length path.now }
     requires found { Found (users_in tables.now) (path_in path.now) found.old }
     ensures value { result ≡ readers_of (tables_in tables.now) (path_in path.now) }
@@ -120,6 +118,7 @@ pub fn readers_by(found: &mut [u64; MAX_DEPTH], tables: &[u8; TABLES], path: &[u
     let n = row_count(policy, RULE, RULES);
     let mut mask: u32 = 0;
     let mut i = next_line(policy, n, 0, path);
+    // A cursor: `next_line` says how far.
     while i < n {
         let rule = row_at(policy, RULE, i);
         let able = candidates(found, tables, users, rule_path(rule), path);
@@ -134,6 +133,6 @@ pub fn readers(tables: &[u8; TABLES], path: &[u8]) -> u32
     requires { path_slot ≤ length path.now }
     ensures { result ≡ readers_of (tables_in tables.now) (path_in path.now) }
 {
-    let mut found = [NOT_ASKED; MAX_DEPTH];
+    let mut found = [None; MAX_DEPTH];
     readers_by(&mut found, tables, path)
 }

@@ -2,29 +2,27 @@
 use Prim.Native.Nat.{ℕ, suc, ◌≤◌, ◌<◌}
 use mathlib.Core.Path.{◌≡◌, refl, sym, ◌∙◌}
 use Rattle.std.specs.Prelude.{Option, None, Some}
-use mathlib.Core.Bool.{Bool, true, false, not, ◌&&◌}
+use Rattle.std.specs.Option.{option_map}
+use mathlib.Core.Bool.{Bool, true, false, ◌&&◌}
 use mathlib.Core.List.{List, [], ◌∷◌, ◌++◌}
-use native.Mathlib.Omega.{arith}
-use borrow.Author.Tests.{le-leb, lt-leb, not-true, not-false}
+use borrow.Author.Tests.{le-leb, lt-leb}
 use lib.ListN.{length, take, set}
 use lib.Seq.{take_all}
 use Rattle.model.specs.Base.{Bytes, text, any, first_from, is_some, ◌≐◌, number}
 use Rattle.model.specs.Limits.{max_key, max_name, max_users, max_quota, max_bindings, max_rules}
 use Rattle.model.specs.Names.{is_name, is_key, is_plain}
 use Rattle.model.specs.Paths.{Steps, steps_of}
-use Rattle.model.specs.Refusals.{Result, refused, ◌>>=◌, ◌>>◌, refuse◌if◌, ◌or◌}
-use Rattle.model.specs.Tables.{Binding, User, Access, READ, WRITE, Rule, user_named, every_role, users_table, same_binding, bound, environments_table, access_of, policy_table}
+use Rattle.model.specs.Refusals.{Result, refused, done, ◌>>=◌, ◌>>◌, refuse◌if◌, ◌or◌}
+use Rattle.model.specs.Tables.{Binding, User, Access, Rule, user_named, every_role, users_table, same_binding, bound, environments_table, access_of, policy_table}
 use Rattle.model.proofs.Lists.{by_cases, and_both}
 use Rattle.model.proofs.Spelling.{Named, name-named, key-named}
 use Rattle.layout.specs.Layout.{in_use}
-use Rattle.steps.specs.Steps.{steps_in, steps_answer}
-use Rattle.steps.specs.declared.policy.StepsRead.{StepsRead}
-use Rattle.tables.specs.Memory.{user_row, rule_row, user_in, users_in, access_in, access_byte, rule_in, policy_in}
+use Rattle.tables.specs.Memory.{user_row, rule_row, user_in, users_in, access_is, access_in, access_byte, rule_in, policy_in}
 use Rattle.layout.proofs.Used.{length-table}
-use Rattle.tabletext.specs.declared.row.RowRead.TheVariants.{Done, Refused}
-use Rattle.tabletext.specs.declared.row.AccessRead.{AccessRead}
-use Rattle.tabletext.specs.declared.row.AccessRead.TheVariants.{Is, Bad}
-use Rattle.tabletext.specs.Reading.{access_answer, row_answer, kept_or}
+use Rattle.refusals.specs.Numbers.{bare}
+use Rattle.tables.specs.declared.memory.Access as code
+use Rattle.tables.specs.declared.memory.Access.TheVariants as kind
+use Rattle.tabletext.specs.Reading.{kept_or}
 use Rattle.tabletext.proofs.Standing.{one_more}
 
 -- ── A test that was called: it failed, or it was passed ──
@@ -35,7 +33,7 @@ pub passed : {a b : Bool} → b ≡ a → b ≡ true → a ≡ true
 passed h e = sym h ∙ e
 
 -- ── A line's outcome, and what the code says of it: where it is refused, what was so stays so ──
-pub refuses : {A : Type 0} (a : A) {x : Result ℕ A} {e : ℕ} → x ≡ refused e → (Refused e ≡ row_answer x) × (a ≡ kept_or a x)
+pub refuses : {A : Type 0} (a : A) {x : Result ℕ A} {e : ℕ} → x ≡ refused e → (refused e ≡ bare x) × (a ≡ kept_or a x)
 unfolding kept_or
 refuses a h = rw h (refl, refl)
 
@@ -92,7 +90,7 @@ module _ (val : Bytes → Bytes) (us : List User) where
           pub user-added : {name role key : Bytes} {vs : List User}
               → m < max_users → name ≡ val (text "user") → role ≡ val (text "role") → key ≡ val (text "key")
               → vs ≡ take max_users (us ++ record { name = take max_name name; role = take max_name role; key = take max_name key; quota = quota; environment = [] } ∷ [])
-              → (Done ≡ row_answer (users_table.row val us)) × (vs ≡ kept_or us (users_table.row val us))
+              → (done tt ≡ bare (users_table.row val us)) × (vs ≡ kept_or us (users_table.row val us))
           unfolding users_table ◌>>◌ ◌>>=◌ refuse◌if◌ ◌or◌ user_named is_some kept_or
           user-added h n r k e =
               let (two, key) = and_both _ _ names in
@@ -133,7 +131,7 @@ module _ (val : Bytes → Bytes) (us : List User) where
         -- the line that was pushed is this one
         pub binding-added : {name value : Bytes} {vs : List User} → m < max_bindings → name ≡ val (text "name") → value ≡ val (text "value")
             → vs ≡ set us i (bound u (record { name = take max_name name; value = take max_key value }))
-            → (Done ≡ row_answer (environments_table.row val us)) × (vs ≡ kept_or us (environments_table.row val us))
+            → (done tt ≡ bare (environments_table.row val us)) × (vs ≡ kept_or us (environments_table.row val us))
         unfolding environments_table ◌>>◌ ◌>>=◌ refuse◌if◌ ◌or◌ kept_or
         binding-added h n v e =
             let (two, value) = and_both _ _ names in
@@ -142,29 +140,14 @@ module _ (val : Bytes → Bytes) (us : List User) where
 
 -- ── Policy ──
 -- what an answer says of an access
-module _ {m n : Bytes} (is : m ≡ n) {r : AccessRead} (h : r ≡ access_answer (access_of m)) where
-  pub access-unknown : r ≡ Bad → access_of n ≡ None
-  access-unknown e = rw (← is) (go (access_of m) h)
-    where
-      go : (o : Option Access) → r ≡ access_answer o → o ≡ None
-      go None h = refl
-      go (Some a) h = let z : ◌≡◌ {A = ℕ} 0 1 = cc in absurd (omega arith)
+module _ {m n : Bytes} (is : m ≡ n) {r : Option code.Access} (h : option_map access_is r ≡ access_of m) where
+  pub access-told : {o : Option code.Access} → r ≡ o → access_of n ≡ option_map access_is o
+  access-told e = rw (← is, ← h, e)
 
-  pub access-known : {b : ℕ} → r ≡ Is b → (access_of n ≡ Some (access_in b)) × (b ≡ access_byte (access_in b))
-  access-known {b} e = rw (← is) (go (access_of m) h)
-    where
-      go : (o : Option Access) → r ≡ access_answer o → (o ≡ Some (access_in b)) × (b ≡ access_byte (access_in b))
-      go None h = let z : ◌≡◌ {A = ℕ} 0 1 = cc in absurd (omega arith)
-      go (Some READ) h = let z : 0 ≡ b = cc in rw (← z) (refl, refl)
-      go (Some WRITE) h = let z : 1 ≡ b = cc in rw (← z) (refl, refl)
-
--- and of a path
-module _ (r : StepsRead) {m n : Bytes} (is : m ≡ n) (h : steps_answer r ≡ steps_of m) where
-  pub path-unread : not r.ok ≡ true → steps_of n ≡ None
-  path-unread e = rw (← is, ← h, not-true r.ok e)
-
-  pub path-read : not r.ok ≡ false → steps_of n ≡ Some (steps_in r.slot)
-  path-read e = rw (← is, ← h, not-false r.ok e)
+-- its byte says which it is
+pub access-byte : (a : code.Access) → access_in (access_byte (access_is a)) ≡ access_is a
+access-byte kind.Read = refl
+access-byte kind.Write = refl
 
 pub rules-counted : (s : Bytes) {m : ℕ} → m ≡ length (in_use rule_row max_rules s) → m ≡ length (policy_in s)
 unfolding policy_in
@@ -194,7 +177,7 @@ module _ (val : Bytes → Bytes) (rs : List Rule) where
         -- the line that was pushed is this one
         pub rule-added : {name : Bytes} {vs : List Rule} → m < max_rules → name ≡ val (text "role")
             → vs ≡ take max_rules (rs ++ record { role = take max_name name; access = a; path = p } ∷ [])
-            → (Done ≡ row_answer (policy_table.row val rs)) × (vs ≡ kept_or rs (policy_table.row val rs))
+            → (done tt ≡ bare (policy_table.row val rs)) × (vs ≡ kept_or rs (policy_table.row val rs))
         unfolding policy_table ◌>>◌ ◌>>=◌ refuse◌if◌ ◌or◌ kept_or
         rule-added h n e =
             rw (role, access, path, ← counted, lt-leb max_rules m h) (refl, rw (e, one_more max_rules rs _ counted h, n, whole (name-named _ role)))

@@ -13,12 +13,12 @@ use Rattle.model.specs.Table.{Table}
 use Rattle.model.specs.Tables.{User, Rule, Tables}
 use Rattle.tables.specs.Memory.{users_bytes, users_in, policy_in, tables_in}
 use Rattle.tables.proofs.Users.{users-first}
-use Rattle.tabletext.specs.declared.row.RowRead.{RowRead}
-use Rattle.tabletext.specs.Reading.{row_answer, kept_or, in_users, in_policy}
+use Rattle.refusals.specs.Numbers.{bare}
+use Rattle.tabletext.specs.Reading.{kept_or, in_users, in_policy}
 
 -- ── A result with what was read put into a whole ──
 module _ {A B : Type 0} (f : A → B) where
-  answer-in : (q : Result ℕ A) → row_answer q ≡ row_answer (q >>= λ a. done (f a))
+  answer-in : (q : Result ℕ A) → bare q ≡ bare (q >>= λ a. done (f a))
   unfolding ◌>>=◌
   answer-in (refused e) = refl
   answer-in (done a) = refl
@@ -34,11 +34,11 @@ unfolding tables_in
 tables-joined us rs l = rw (← users-first (us ++ rs), take_at us rs users_bytes l, drop_at us rs users_bytes l)
 
 -- what a line added to one of them, it added to both
-module _ (val : Bytes → Bytes) (s part : Bytes) {r : RowRead} where
+module _ (val : Bytes → Bytes) (s part : Bytes) {r : Result ℕ (Unit {0})} where
   pub row-users : (t : Table (List User)) → length part ≡ users_bytes
-      → r ≡ row_answer (t.row val (users_in (take users_bytes s)))
+      → r ≡ bare (t.row val (users_in (take users_bytes s)))
       → users_in part ≡ kept_or (users_in (take users_bytes s)) (t.row val (users_in (take users_bytes s)))
-      → (r ≡ row_answer ((in_users t).row val (tables_in s)))
+      → (r ≡ bare ((in_users t).row val (tables_in s)))
       × (tables_in (part ++ drop users_bytes s) ≡ kept_or (tables_in s) ((in_users t).row val (tables_in s)))
   unfolding in_users tables_in
   row-users t l a k =
@@ -48,9 +48,9 @@ module _ (val : Bytes → Bytes) (s part : Bytes) {r : RowRead} where
 
   pub row-policy : (t : Table (List Rule)) → users_bytes ≤ length s
       → let old = take (length s - users_bytes) (drop users_bytes s) in
-      r ≡ row_answer (t.row val (policy_in old))
+      r ≡ bare (t.row val (policy_in old))
       → policy_in part ≡ kept_or (policy_in old) (t.row val (policy_in old))
-      → (r ≡ row_answer ((in_policy t).row val (tables_in s)))
+      → (r ≡ bare ((in_policy t).row val (tables_in s)))
       × (tables_in (replaced users_bytes (length s - users_bytes) part s) ≡ kept_or (tables_in s) ((in_policy t).row val (tables_in s)))
   unfolding in_policy tables_in
   row-policy t l a k =

@@ -1,11 +1,10 @@
 -- A table's text by positions: the columns of its head, and what its lines add from a position on.
 use Prim.Native.Nat.{ℕ, ◌+◌, ◌-◌, ◌≤◌, ◌<◌}
-use mathlib.Core.Path.{◌≡◌, refl, sym, ◌∙◌}
+use mathlib.Core.Path.{◌≡◌, refl, sym, ap, ◌∙◌}
 use mathlib.Core.Bool.{Bool, true, false}
 use mathlib.Core.List.{List, [], ◌∷◌}
 use native.Mathlib.Nat.{sub-zero}
 use native.Mathlib.Numerals.{add-one}
-use native.Mathlib.Omega.{arith}
 use lib.Dec.{ltb}
 use lib.ListN.{length, get_or, take, drop}
 use borrow.Author.Tests.{eq-eqb, ne_eqb, ltb-true, ltb-false}
@@ -17,10 +16,12 @@ use Rattle.model.specs.Table.{Table, ended, lines, split, under, same_length, in
 use Rattle.model.proofs.Lists.{by_cases}
 use Rattle.lexical.specs.Classes.{is_not}
 use Rattle.lines.proofs.Lines.{line-ended, line-broken, lines-over}
-use Rattle.tabletext.specs.declared.row.RowRead.{RowRead}
-use Rattle.tabletext.specs.declared.row.RowRead.TheVariants as row_read
-use Rattle.tabletext.specs.declared.read.TableRead.TheVariants as table-read
-use Rattle.tabletext.specs.Reading.{row_answer, kept_or, if_done, rows_as_far, lines_as_far, tables_as_far, ReadsTable}
+use Rattle.std.specs.Prelude as std
+use Rattle.std.specs.Prelude.{Ok, Err}
+use Rattle.refusals.specs.declared.Refusal.{Refusal}
+use Rattle.refusals.specs.declared.Refusal.TheVariants.{Head, Row}
+use Rattle.refusals.specs.Numbers.{number_of, numbered, bare}
+use Rattle.tabletext.specs.Reading.{kept_or, if_done, rows_as_far, lines_as_far, tables_as_far, ReadsTable}
 
 -- ── A head has the columns cs from the column j on ──
 abbrev pub has_from : List Bytes → List Bytes → ℕ → Bool
@@ -53,13 +54,13 @@ module _ {A : Type 0} (t : Table A) (hs : List Bytes) (a : A) (l : Bytes) {m n :
 
 -- ── What an answer says of a row ──
 module _ {A : Type 0} where
-  answer-refused : (q : Result ℕ A) (e : ℕ) → row_read.Refused e ≡ row_answer q → q ≡ refused e
+  answer-refused : (q : Result ℕ A) (e : ℕ) → refused e ≡ bare q → q ≡ refused e
   answer-refused (refused d) e h = cc
-  answer-refused (done b) e h = let z : ◌≡◌ {A = ℕ} 0 1 = cc in absurd (omega arith)
+  answer-refused (done b) e h = cc
 
-  answer-done : (q : Result ℕ A) (a : A) → row_read.Done ≡ row_answer q → q ≡ done (kept_or a q)
+  answer-done : (q : Result ℕ A) (a : A) → done tt ≡ bare q → q ≡ done (kept_or a q)
   unfolding kept_or
-  answer-done (refused d) a h = let z : ◌≡◌ {A = ℕ} 0 1 = cc in absurd (omega arith)
+  answer-done (refused d) a h = cc
   answer-done (done b) a h = refl
 
 -- ── A table's text ──
@@ -70,7 +71,7 @@ pub record Left {A : Type 0} (t : Table A) (a₀ : A) (s : Bytes) (hs : List Byt
 
 -- the head ends at e: the text is over there, or the head is another one, or it is the table's
 module _ {A : Type 0} (t : Table A) (a : A) (s : Bytes) (e : ℕ) (is : e ≡ run_end (is_not 0x0A) s 0) where
-  pub head-broken : e ≡ length s → ReadsTable t a s (table-read.Refused 1 0) a
+  pub head-broken : e ≡ length s → ReadsTable t a s (Err (record { refusal = Head; line = 0 })) a
   unfolding read_table read_lines tables_as_far lines_as_far
   head-broken q =
       by_cases (ltb 0 (length s))
@@ -81,7 +82,7 @@ module _ {A : Type 0} (t : Table A) (a : A) (s : Bytes) (e : ℕ) (is : e ≡ ru
     head-ended : lines s ≡ ended (take e s) ∷ lines (drop (e + 1) s)
     head-ended = line-ended s 0 e is ends ∙ rw sub-zero
 
-    pub head-other : is_head t (split (take e s)) ≡ false → ReadsTable t a s (table-read.Refused 1 0) a
+    pub head-other : is_head t (split (take e s)) ≡ false → ReadsTable t a s (Err (record { refusal = Head; line = 0 })) a
     unfolding read_table read_lines tables_as_far lines_as_far ◌>>◌ refuse◌if◌
     head-other f = rw (head-ended, f) (refl, refl)
 
@@ -91,27 +92,27 @@ module _ {A : Type 0} (t : Table A) (a : A) (s : Bytes) (e : ℕ) (is : e ≡ ru
 
 -- what is left at a line: nothing; a line that the text's end breaks; one that ends at e, with the answer r and with b after it
 module _ {A : Type 0} (t : Table A) (a₀ : A) (s : Bytes) (hs : List Bytes) (n at : ℕ) (a : A) (left : Left t a₀ s hs n at a) where
-  pub left-none : length s ≤ at → ReadsTable t a₀ s table-read.Done a
+  pub left-none : length s ≤ at → ReadsTable t a₀ s (Ok tt) a
   unfolding read_rows rows_as_far
   left-none h = rw (left.answer, left.added, lines-over s at h) (refl, refl)
 
   module _ (e : ℕ) (is : e ≡ run_end (is_not 0x0A) s at) where
-    pub left-broken : at < length s → e ≡ length s → ReadsTable t a₀ s (table-read.Refused 2 n) a
+    pub left-broken : at < length s → e ≡ length s → ReadsTable t a₀ s (Err (record { refusal = Row; line = n })) a
     unfolding read_rows rows_as_far read_row in_line if_done ◌>>=◌
     left-broken p q = rw (left.answer, left.added, line-broken s at e is p q) (refl, refl)
 
-    module _ (ends : e < length s) (r : RowRead) (b : A)
-        (answer : r ≡ row_answer (read_row t hs a (ended (take (e - at) (drop at s)))))
+    module _ (ends : e < length s) (r : std.Result (Unit {0}) Refusal) (b : A)
+        (answer : numbered r ≡ bare (read_row t hs a (ended (take (e - at) (drop at s)))))
         (kept : b ≡ kept_or a (read_row t hs a (ended (take (e - at) (drop at s))))) where
-      pub left-refused : (d : ℕ) → r ≡ row_read.Refused d → ReadsTable t a₀ s (table-read.Refused d n) b
+      pub left-refused : (d : Refusal) → r ≡ Err d → ReadsTable t a₀ s (Err (record { refusal = d; line = n })) b
       unfolding read_rows rows_as_far in_line if_done kept_or ◌>>=◌
       left-refused d told =
-          let q = answer-refused (read_row t hs a (ended (take (e - at) (drop at s)))) d (sym told ∙ answer) in
+          let q = answer-refused (read_row t hs a (ended (take (e - at) (drop at s)))) (number_of d) (sym (ap numbered told) ∙ answer) in
           rw (kept, left.answer, left.added, line-ended s at e is ends, q) (refl, refl)
 
-      pub left-done : r ≡ row_read.Done → Left t a₀ s hs (n + 1) (e + 1) b
+      pub left-done : r ≡ Ok tt → Left t a₀ s hs (n + 1) (e + 1) b
       unfolding read_rows rows_as_far in_line if_done ◌>>=◌
       left-done told =
-          let q = answer-done (read_row t hs a (ended (take (e - at) (drop at s)))) a (sym told ∙ answer) in
+          let q = answer-done (read_row t hs a (ended (take (e - at) (drop at s)))) a (sym (ap numbered told) ∙ answer) in
           let line = line-ended s at e is ends in
           record { answer = left.answer ∙ rw (line, q, ← kept, add-one n); added = left.added ∙ rw (line, q, ← kept) }

@@ -3,6 +3,7 @@ use Prim.Native.Nat.{ℕ, zero, suc, ◌+◌, ◌*◌, ◌-◌, ◌≤◌, ◌<�
 use mathlib.Core.Path.{◌≡◌, refl, sym, ap, ◌∙◌}
 use mathlib.Core.Bool.{Bool, false}
 use Rattle.std.specs.Prelude.{Option, None, Some}
+use Rattle.std.specs.Option.{option_map}
 use mathlib.Core.List.{List, [], ◌∷◌, ◌++◌, append_assoc}
 use native.Mathlib.Nat.{add-sub_cancel_left, le_of_suc-le-suc}
 use native.Mathlib.Omega.{arith}
@@ -22,26 +23,24 @@ use Rattle.model.proofs.Lists.{by_cases, none-some, elem_below}
 use Rattle.model.proofs.Reading.{some_same}
 use Rattle.layout.specs.Layout.{in_use, is_empty, name_row, name_in, Keeps}
 use Rattle.steps.specs.Environments.{binding_row, bindings_bytes, binding_in, bindings_in, CanonicalBindings}
-use Rattle.tables.specs.declared.memory.UserAt.{UserAt}
-use Rattle.tables.specs.declared.memory.UserAt.TheVariants.{At, Unknown}
-use Rattle.tables.specs.Memory.{user_row, users_bytes, role_at, key_at, quota_at, lines_at, user_in, users_in, user_answer, CanonicalUser, CanonicalUsers}
+use Rattle.tables.specs.Memory.{user_row, users_bytes, role_at, key_at, quota_at, lines_at, user_in, users_in, CanonicalUser, CanonicalUsers}
 use Rattle.tables.proofs.Users.{user-some}
 
 -- ── What the answer of a search says ──
 -- the user of the name n was looked for: there is none, or there is one at i
-module _ (us : List User) {m n : Bytes} (is : m ≡ n) {r : UserAt} (h : r ≡ user_answer (user_named m us)) where
-  pub user-unknown : r ≡ Unknown → user_named n us ≡ None
+module _ (us : List User) {m n : Bytes} (is : m ≡ n) {r : Option ℕ} (h : r ≡ option_map (λ (t : ℕ × User). t.0) (user_named m us)) where
+  pub user-unknown : r ≡ None → user_named n us ≡ None
   user-unknown e = rw (← is) (go (user_named m us) h)
     where
-      go : (o : Option (ℕ × User)) → r ≡ user_answer o → o ≡ None
+      go : (o : Option (ℕ × User)) → r ≡ option_map (λ (t : ℕ × User). t.0) o → o ≡ None
       go None h = refl
-      go (Some t) h = let z : ◌≡◌ {A = ℕ} 0 1 = cc in absurd (omega arith)
+      go (Some t) h = cc
 
-  pub user-known : {i : ℕ} → r ≡ At i → (u : User) × (user_named n us ≡ Some (i, u))
+  pub user-known : {i : ℕ} → r ≡ Some i → (u : User) × (user_named n us ≡ Some (i, u))
   user-known {i} e = rw (← is) (go (user_named m us) h)
     where
-      go : (o : Option (ℕ × User)) → r ≡ user_answer o → (u : User) × (o ≡ Some (i, u))
-      go None h = let z : ◌≡◌ {A = ℕ} 0 1 = cc in absurd (omega arith)
+      go : (o : Option (ℕ × User)) → r ≡ option_map (λ (t : ℕ × User). t.0) o → (u : User) × (o ≡ Some (i, u))
+      go None h = absurd (cc)
       go (Some t) h = (t.1, let z : t.0 ≡ i = cc in rw z)
 
 -- ── The row of a user: what stands before the lines, and the lines ──

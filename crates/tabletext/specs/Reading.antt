@@ -1,27 +1,15 @@
 -- The three tables as tables of one memory, and what the answers say.
 use Rattle.std.specs.Prelude.{ℕ, ◌≡◌, List, [], ◌∷◌, if◌then◌else◌}
-use Rattle.std.specs.Prelude.{Option, None, Some}
+use Rattle.std.specs.Prelude as std
 use Rattle.model.specs.Base.{Bytes}
 use Rattle.model.specs.Refusals.{Result, refused, done, ◌>>=◌}
 use Rattle.model.specs.Table.{Table, Line, ended, broken, lines, split, under, is_head, read_row, read_table}
-use Rattle.model.specs.Tables.{User, Access, Rule, Tables, users_table, environments_table, policy_table}
-use Rattle.tables.specs.Memory.{access_byte}
-use Rattle.tabletext.specs.declared.row.RowRead.{RowRead}
-use Rattle.tabletext.specs.declared.row.RowRead.TheVariants as row_read
-use Rattle.tabletext.specs.declared.row.AccessRead.{AccessRead}
-use Rattle.tabletext.specs.declared.row.AccessRead.TheVariants as access-read
+use Rattle.model.specs.Tables.{User, Rule, Tables, users_table, environments_table, policy_table}
+use Rattle.refusals.specs.declared.Refusal.{Refusal}
+use Rattle.refusals.specs.Numbers.{number_of, answer_by, numbered, bare}
 use Rattle.tabletext.specs.declared.read.Table as code
 use Rattle.tabletext.specs.declared.read.Table.TheVariants.{Users, Environments, Policy}
-use Rattle.tabletext.specs.declared.read.TableRead.{TableRead}
-use Rattle.tabletext.specs.declared.read.TableRead.TheVariants as table-read
-
-abbrev pub access_answer : Option Access → AccessRead
-access_answer None = access-read.Bad
-access_answer (Some a) = access-read.Is (access_byte a)
-
-abbrev pub row_answer : {A : Type 0} → Result ℕ A → RowRead
-row_answer (refused e) = row_read.Refused e
-row_answer (done a) = row_read.Done
+use Rattle.tabletext.specs.declared.read.TableFault.{TableFault}
 
 -- what was read, or what there was before a refusal
 unfoldable pub kept_or : {E A : Type 0} → A → Result E A → A
@@ -33,8 +21,8 @@ abbrev pub values_in : Bytes → Bytes → Bytes → Bytes
 values_in head line = under (split head) (split line)
 
 -- what a line adds to what there was before: the answer, and what there is then
-abbrev pub Adds : {A : Type 0} → (A → Result ℕ A) → A → RowRead → A → Type 0
-Adds row before r after = (r ≡ row_answer (row before)) × (after ≡ kept_or before (row before))
+abbrev pub Adds : {A : Type 0} → (A → Result ℕ A) → A → std.Result (Unit {0}) Refusal → A → Type 0
+Adds row before r after = (numbered r ≡ bare (row before)) × (after ≡ kept_or before (row before))
 
 -- a table of users, or of policy lines, in the tables that hold both
 unfoldable pub in_users : Table (List User) → Table Tables
@@ -54,9 +42,9 @@ table_of Users = in_users users_table
 table_of Environments = in_users environments_table
 table_of Policy = in_policy policy_table
 
-abbrev pub table_answer : {A : Type 0} → Result (ℕ × ℕ) A → TableRead
-table_answer (refused e) = table-read.Refused e.0 e.1
-table_answer (done a) = table-read.Done
+-- a refusal's number with its line
+abbrev pub in_line_of : TableFault → ℕ × ℕ
+in_line_of f = (number_of f.refusal, f.line)
 
 -- ── What the lines before the first refusal added ──
 unfoldable pub if_done : {A : Type 0} → A → (A → A) → Result ℕ A → A
@@ -77,5 +65,5 @@ module _ {A : Type 0} (t : Table A) where
   tables_as_far a s = lines_as_far a (lines s)
 
 -- a table's text: the answer r, and what the lines before a refusal made of what there was
-abbrev pub ReadsTable : {A : Type 0} → Table A → A → Bytes → TableRead → A → Type 0
-ReadsTable t a₀ s r a = (r ≡ table_answer (read_table t a₀ s)) × (a ≡ tables_as_far t a₀ s)
+abbrev pub ReadsTable : {A : Type 0} → Table A → A → Bytes → std.Result (Unit {0}) TableFault → A → Type 0
+ReadsTable t a₀ s r a = (answer_by in_line_of r ≡ bare (read_table t a₀ s)) × (a ≡ tables_as_far t a₀ s)

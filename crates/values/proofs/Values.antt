@@ -5,31 +5,24 @@ use Rattle.std.specs.Prelude.{Option, None, Some}
 use mathlib.Core.Bool.{true, false, ◌&&◌, and-false, true≢false}
 use mathlib.Core.List.{[], ◌∷◌}
 use native.Mathlib.Omega.{arith}
-use borrow.Author.Tests.{le-leb, eqb-true, eqb-false, ne_eqb, not-true}
+use borrow.Author.Tests.{le-leb, ne_eqb}
 use lib.Dec.{leb, eqb}
 use lib.IntN.{ℤ, pos, negsuc, ◌-ℤ◌, +ℤ_idl}
 use lib.ListN.{length, get_or, take, drop}
-use mir.Syntax.{w32}
+use mir.Syntax.{w32, w64}
 use mir.Val.{SFits, to_z, of_z}
 use mir.Facts.{to_z_pos, to_z-of_z}
-use Rattle.rows.specs.Positions.{Reads, LeavesEnd, behind, placed, run_end}
+use Rattle.rows.specs.Positions.{Reader, Reads, LeavesEnd, behind, placed, run_end}
 use Rattle.rows.proofs.Positions.{here, over, run-within, placed-reads, placed-none, none-placed, reads-placed}
 use Rattle.model.specs.Base.{Bytes, text, ◌>>=◌, ◌>>◌, ◌<|>◌, check, after, is_some, within, is_digit, is_decimal, worth, number}
-use Rattle.model.specs.Values.{Value, string, whole, read_string, read_pos, read_neg, read_value, value_text, Opened}
-use Rattle.model.proofs.Lists.{by_cases, or-neither}
+use Rattle.model.specs.Values.{Value, truth, string, whole, read_string, read_pos, read_neg, read_value, value_text, Opened}
+use Rattle.model.proofs.Lists.{by_cases}
 use Rattle.model.proofs.Reading.{within-yes}
 use Rattle.model.proofs.Spelling.{value-spells}
 use Rattle.lexical.specs.declared.class.Class.TheVariants.{Text}
-use Rattle.lexical.specs.declared.class.End.{End}
-use Rattle.lexical.specs.declared.class.End.TheVariants as end
 use Rattle.values.specs.declared.value.Scalar.{Scalar}
-use Rattle.values.specs.declared.value.Start.{Start}
-use Rattle.values.specs.declared.value.Start.TheVariants as start
-use Rattle.values.specs.declared.value.ValueAt.{ValueAt}
-use Rattle.values.specs.declared.value.ValueAt.TheVariants.{At, Bad}
 use Rattle.lexical.specs.Classes.{read_between, text_answer}
-use Rattle.values.specs.Scalars.{value_in, value_answer, InText, AnswerInText}
-use Rattle.values.specs.Starts.{begins, read_word, read_as}
+use Rattle.values.specs.Scalars.{value_in, read_word, value_answer}
 use Rattle.lexical.proofs.Runs.{span-at, byte-stands, rest_of}
 use Rattle.lexical.proofs.Between.{string-between, between-at}
 use Rattle.lexical.proofs.Slices.{after-at, after-no}
@@ -39,7 +32,7 @@ use Rattle.lexical.proofs.Decimals.{number-some, number-none}
 pub told : {A B : Type 0} (answer : A → B) {r v : A} {b : B} → answer r ≡ b → r ≡ v → b ≡ answer v
 told answer h e = sym h ∙ ap answer e
 
--- ── A number as an i32: cast, and negated ──
+-- ── A number as an i32: cast, and negated as an i64 ──
 module _ (n : ℕ) (h : n ≤ 2147483647) where
   pub cast_fits : SFits w32 (pos n)
   cast_fits = record { sfits = omega arith }
@@ -47,16 +40,25 @@ module _ (n : ℕ) (h : n ≤ 2147483647) where
   cast_is : to_z w32 n ≡ pos n
   cast_is = to_z_pos w32 (omega arith)
 
-minus : (n : ℕ) → (n ≡ 0 → ⊥) → n ≤ 2147483647 → pos 0 -ℤ to_z w32 n ≡ negsuc (n - 1)
+minus : (n : ℕ) → (n ≡ 0 → ⊥) → n ≤ 2147483648 → pos 0 -ℤ to_z w64 n ≡ negsuc (n - 1)
 minus zero f h = absurd (f refl)
-minus (suc k) f h = rw (cast_is (suc k) h) (+ℤ_idl (negsuc k) ∙ ap negsuc (omega arith))
+minus (suc k) f h = let is : to_z w64 (suc k) ≡ pos (suc k) = to_z_pos w64 (omega arith) in rw is (+ℤ_idl (negsuc k) ∙ ap negsuc (omega arith))
 
-module _ (n : ℕ) (f : n ≡ 0 → ⊥) (h : n ≤ 2147483647) where
-  pub minus-fits : SFits w32 (pos 0 -ℤ to_z w32 n)
+module _ (n : ℕ) (f : n ≡ 0 → ⊥) (h : n ≤ 2147483648) where
+  pub big_fits : SFits w64 (pos n)
+  big_fits = record { sfits = omega arith }
+
+  pub minus-fits : SFits w64 (pos 0 -ℤ to_z w64 n)
   minus-fits = rw (minus n f h) (record { sfits = omega arith })
 
-  pub minus_is : to_z w32 (of_z w32 (pos 0 -ℤ to_z w32 n)) ≡ negsuc (n - 1)
-  minus_is = to_z-of_z minus-fits ∙ minus n f h
+  small_is : to_z w64 (of_z w64 (pos 0 -ℤ to_z w64 n)) ≡ negsuc (n - 1)
+  small_is = to_z-of_z minus-fits ∙ minus n f h
+
+  pub small_fits : SFits w32 (to_z w64 (of_z w64 (pos 0 -ℤ to_z w64 n)))
+  small_fits = rw small_is (record { sfits = omega arith })
+
+  pub minus_is : to_z w32 (of_z w32 (to_z w64 (of_z w64 (pos 0 -ℤ to_z w64 n)))) ≡ negsuc (n - 1)
+  minus_is = to_z-of_z small_fits ∙ small_is
 
 -- ── A number at a position ──
 -- the digits from `at` on, which end at `to`
@@ -122,28 +124,36 @@ unfolding ◌<|>◌
 or-none None = refl
 or-none (Some a) = refl
 
--- a byte that is another one
-other_byte : (q b : ℕ) → eqb b q ≡ false → eqb q b ≡ false
-other_byte q b h = ne_eqb q b (λ e. eqb-false b q h (sym e))
-
 digit_not : (b : ℕ) → is_digit b ≡ true → (q : ℕ) → is_digit q ≡ false → eqb q b ≡ false
 digit_not b h q n = ne_eqb q b (λ e. true≢false (sym h ∙ ap is_digit (sym e) ∙ n))
 
--- where the first byte is of a kind, no reader but that kind's reads anything
-pub value-by-start : (k : Start) (b : ℕ) (s : Bytes) → begins k b ≡ true → read_value (b ∷ s) ≡ read_as k (b ∷ s)
-unfolding Opened begins read_word read_as
-value-by-start start.True b s h = rw (eqb-true b 0x74 h) (simp or-none)
-value-by-start start.False b s h = rw (eqb-true b 0x66 h) (simp or-none)
-value-by-start start.Text b s h = rw (eqb-true b 0x22 h) (simp or-none)
-value-by-start start.Positive b s h =
+-- each first byte has its own reader: no other reads anything
+pub true-first : (s : Bytes) → read_value (0x74 ∷ s) ≡ read_word (text "true") (truth true) (0x74 ∷ s)
+unfolding Opened read_word
+true-first s = simp or-none
+
+pub false-first : (s : Bytes) → read_value (0x66 ∷ s) ≡ read_word (text "false") (truth false) (0x66 ∷ s)
+unfolding Opened read_word
+false-first s = simp or-none
+
+pub quote-first : (s : Bytes) → read_value (0x22 ∷ s) ≡ read_string (0x22 ∷ s)
+unfolding Opened
+quote-first s = simp or-none
+
+pub minus-first : (s : Bytes) → read_value (0x2D ∷ s) ≡ read_neg (0x2D ∷ s)
+unfolding Opened
+minus-first s = refl
+
+pub digit-first : (b : ℕ) (s : Bytes) → is_digit b ≡ true → read_value (b ∷ s) ≡ read_pos (b ∷ s)
+unfolding Opened
+digit-first b s h =
     rw (digit_not b h 0x74 refl, digit_not b h 0x66 refl, digit_not b h 0x22 refl, digit_not b h 0x2D refl) (or-none (read_pos (b ∷ s)))
-value-by-start start.Negative b s h = rw (eqb-true b 0x2D h)
-value-by-start start.Other b s h =
-    let (n₁, m) = or-neither _ (eqb b 0x2D) (not-true _ h) in
-    let (n₂, d) = or-neither _ (is_digit b) n₁ in
-    let (n₃, q) = or-neither _ (eqb b 0x22) n₂ in
-    let (t, f) = or-neither (eqb b 0x74) (eqb b 0x66) n₃ in
-    rw (other_byte 0x74 b t, other_byte 0x66 b f, other_byte 0x22 b q, d, other_byte 0x2D b m)
+
+-- no value begins with any other byte
+pub other-first : (b : ℕ) → (b ≡ 0x74 → ⊥) → (b ≡ 0x66 → ⊥) → (b ≡ 0x22 → ⊥) → (b ≡ 0x2D → ⊥) → is_digit b ≡ false → (s : Bytes) → read_value (b ∷ s) ≡ None
+unfolding Opened
+other-first b t f q m d s =
+    rw (ne_eqb 0x74 b (λ e. t (sym e)), ne_eqb 0x66 b (λ e. f (sym e)), ne_eqb 0x22 b (λ e. q (sym e)), d, ne_eqb 0x2D b (λ e. m (sym e)))
 
 module _ (s : Bytes) (at : ℕ) where
   pub word-is : at ≤ length s → (w : Bytes) (v : Value) → is_some (after w (drop at s)) ≡ true → Some (v, at + length w) ≡ placed (read_word w v) s at
@@ -164,19 +174,19 @@ module _ (s : Bytes) (at : ℕ) where
       go None = refl
       go (Some t) = refl
 
-  module _ (x : End) (answer : text_answer s at x ≡ placed (read_between Text 0x22 0 32) s at) where
-    pub string-not : x ≡ end.Bad → None ≡ placed read_string s at
+  module _ (x : Option ℕ) (answer : text_answer s at x ≡ placed (read_between Text 0x22 0 32) s at) where
+    pub string-not : x ≡ None → None ≡ placed read_string s at
     unfolding text_answer ◌>>=◌
     string-not i = sym (string-placed ∙ rw (told (text_answer s at) answer i))
 
-    pub string-is : (e : ℕ) → x ≡ end.At e → Some (string (take (e - 1 - (at + 1)) (drop (at + 1) s)), e) ≡ placed read_string s at
+    pub string-is : (e : ℕ) → x ≡ Some e → Some (string (take (e - 1 - (at + 1)) (drop (at + 1) s)), e) ≡ placed read_string s at
     unfolding text_answer ◌>>=◌
     string-is e i =
         let n : e - 1 - (at + 1) ≡ e - 2 - at = omega arith in
         sym (string-placed ∙ rw (told (text_answer s at) answer i, n))
 
     -- the part of the text that the string is
-    pub string-inside : at ≤ length s → (e : ℕ) → x ≡ end.At e → (at + 1 ≤ e - 1) × (e - 1 ≤ length s)
+    pub string-inside : at ≤ length s → (e : ℕ) → x ≡ Some e → (at + 1 ≤ e - 1) × (e - 1 ≤ length s)
     string-inside h e i = let b = between-at Text 0x22 0 32 s at x answer h e i in (omega (arith, b.at_least), omega (arith, b.reads.to))
 
   -- ── What the function `value_at` answers ──
@@ -184,21 +194,18 @@ module _ (s : Bytes) (at : ℕ) where
   unfolding Opened
   value-over h = sym (placed-none read_value s at (rw (over s at h)))
 
-  -- what the reader of the first byte's kind answers is the value
-  pub value-is : at < length s → (r k : Start) → begins r (get_or s at 0) ≡ true → r ≡ k → placed (read_as k) s at ≡ placed read_value s at
+  -- what the reader of the first byte answers is the value
+  pub value-is : at < length s → (f : Reader ℕ Value) → ((r : Bytes) → read_value (get_or s at 0 ∷ r) ≡ f (get_or s at 0 ∷ r)) → placed f s at ≡ placed read_value s at
   unfolding placed
-  value-is h r k b e = ap (behind s) (rw (here 0 s at h) (sym (value-by-start k _ _ (rw e at b))))
+  value-is h f own = ap (behind s) (rw (here 0 s at h) (sym (own _)))
 
 -- ── For a caller of the function `value_at`: what its answer says ──
 pub value-leaves : LeavesEnd read_value
 value-leaves s t h = rest_of s (value_text t.0) t.1 (value-spells s t h).1
 
-module _ (s : Bytes) (at : ℕ) (r : ValueAt) (answer : value_answer s r ≡ placed read_value s at) where
-  pub value-bad : r ≡ Bad → read_value (drop at s) ≡ None
+module _ (s : Bytes) (at : ℕ) (r : Option (Scalar × ℕ)) (answer : value_answer s r ≡ placed read_value s at) where
+  pub value-bad : r ≡ None → read_value (drop at s) ≡ None
   value-bad i = none-placed read_value s at (told (value_answer s) answer i)
 
-  pub value-reads : at ≤ length s → (v : Scalar) (e : ℕ) → r ≡ At v e → Reads read_value s at (value_in s v) e
+  pub value-reads : at ≤ length s → (v : Scalar) (e : ℕ) → r ≡ Some (v, e) → Reads read_value s at (value_in s v) e
   value-reads h v e i = reads-placed read_value s at value-leaves h (value_in s v) e (told (value_answer s) answer i)
-
-pub value-inside : (s : Bytes) (r : ValueAt) → AnswerInText r s → (v : Scalar) (e : ℕ) → r ≡ At v e → InText v s
-value-inside s r k v e i = rw i at k

@@ -1,6 +1,7 @@
 -- The fields that are shown, from a place on: the steps of a loop over the slots, and what the place of the first of them says.
 use Prim.Native.Nat.{ℕ, suc, ◌+◌, ◌*◌, ◌≤◌, ◌<◌}
 use mathlib.Core.Path.{◌≡◌, refl, sym, ap, ◌∙◌}
+use Rattle.std.specs.Prelude.{Option, None, Some}
 use mathlib.Core.Bool.{true, false}
 use mathlib.Core.List.{List, [], ◌∷◌, map}
 use native.Mathlib.Numerals.{add-one}
@@ -16,10 +17,9 @@ use Rattle.model.specs.Limits.{max_fields}
 use Rattle.model.specs.Values.{read_value, value_text}
 use Rattle.model.specs.Fields.{Fields}
 use Rattle.model.proofs.Spelling.{value-spells}
-use Rattle.model.proofs.Lists.{by_cases}
+use Rattle.model.proofs.Lists.{by_cases, none-some}
+use Rattle.model.proofs.Reading.{some_same}
 use Rattle.values.specs.declared.value.Scalar.{Scalar}
-use Rattle.values.specs.declared.value.ValueAt.{ValueAt}
-use Rattle.values.specs.declared.value.ValueAt.TheVariants.{At, Bad}
 use Rattle.values.specs.Scalars as scalars
 use Rattle.values.proofs.Values.{value-reads}
 use Rattle.record.specs.Slots.{slot_bytes, text_in, value_in, field_in}
@@ -28,12 +28,12 @@ use Rattle.writer.specs.declared.saved.Shown.{Shown}
 use Rattle.writer.specs.Selected.{is_shown, shown_from}
 
 -- what is read at the start of the text t of the slot s is how the slot's value is written
-module _ (s t : Bytes) (is : t ≡ text_in s) (r : ValueAt) (answer : scalars.value_answer t r ≡ placed read_value t 0) where
-  pub held_none : r ≡ Bad → text "false" ≡ value_text (value_in s)
+module _ (s t : Bytes) (is : t ≡ text_in s) (r : Option (Scalar × ℕ)) (answer : scalars.value_answer t r ≡ placed read_value t 0) where
+  pub held_none : r ≡ None → text "false" ≡ value_text (value_in s)
   unfolding value_text
   held_none i = rw (← value_none s t is r answer i)
 
-  module _ (v : Scalar) (e : ℕ) (i : r ≡ At v e) where
+  module _ (v : Scalar) (e : ℕ) (i : r ≡ Some (v, e)) where
     abbrev reads : Reads read_value t 0 (scalars.value_in t v) e
     reads = value-reads t 0 r answer (omega arith) v e i
 
@@ -62,12 +62,12 @@ module _ (s : Bytes) (j : ℕ) (h : j < max_fields) (passed : j ≤ length (in_u
 
 -- ── The place of the first of them that is shown ──
 module _ (s : Bytes) (v : Shown) (j : ℕ) where
-  pub shown-over : length (in_use slot_bytes max_fields s) ≤ j → shown_from v j (slots_from j s) ≡ max_fields
+  pub shown-over : length (in_use slot_bytes max_fields s) ≤ j → shown_from v j (slots_from j s) ≡ None
   unfolding shown_from
   shown-over h = rw (over (in_use slot_bytes max_fields s) j h)
 
   module _ (h : j < max_fields) (passed : j ≤ length (in_use slot_bytes max_fields s)) {slot : Bytes} (at : slot ≡ take slot_bytes (drop (j * slot_bytes) s)) where
-    pub shown-stop : is_empty slot ≡ true → shown_from v j (slots_from j s) ≡ max_fields
+    pub shown-stop : is_empty slot ≡ true → shown_from v j (slots_from j s) ≡ None
     shown-stop e = shown-over (used-last slot_bytes max_fields s j h passed at e)
 
     module _ (e : is_empty slot ≡ false) where
@@ -75,34 +75,33 @@ module _ (s : Bytes) (v : Shown) (j : ℕ) where
       unfolding shown_from
       shown-step n = rw (slot-left s j h passed at e, n, add-one)
 
-      pub shown-here : is_shown v slot ≡ true → shown_from v j (slots_from j s) ≡ j
+      pub shown-here : is_shown v slot ≡ true → shown_from v j (slots_from j s) ≡ Some j
       unfolding shown_from
       shown-here y = rw (slot-left s j h passed at e, y)
 
 -- ── What that place, counted from i, says of the slots that are shown ──
 module _ (v : Shown) where
-  -- it is past the last place where none is shown
-  none_from_lem : (i : ℕ) (rs : List Bytes) → i + length rs ≤ max_fields → shown_from v i rs ≡ max_fields → keep (is_shown v) rs ≡ []
+  -- there is none where none is shown
+  none_from_lem : (i : ℕ) (rs : List Bytes) → shown_from v i rs ≡ None → keep (is_shown v) rs ≡ []
   unfolding keep shown_from
-  none_from_lem i [] l h = refl
-  none_from_lem i (r ∷ rs) l h = by_cases (is_shown v r)
-      (λ e. absurd (omega (arith, rw e at h)))
-      (λ e. rw e (none_from_lem (suc i) rs (omega arith) (rw e at h)))
+  none_from_lem i [] h = refl
+  none_from_lem i (r ∷ rs) h = by_cases (is_shown v r)
+      (λ e. none-some (sym (rw e at h)))
+      (λ e. rw e (none_from_lem (suc i) rs (rw e at h)))
 
   -- else the first stands there, d slots further on, and the others stand behind it
-  record FirstFrom (i : ℕ) (rs : List Bytes) : Type 0 where
+  record FirstFrom (i n : ℕ) (rs : List Bytes) : Type 0 where
     d : ℕ
-    place : shown_from v i rs ≡ i + d
+    place : n ≡ i + d
     within : d < length rs
     is : keep (is_shown v) rs ≡ get_or rs d [] ∷ keep (is_shown v) (drop (suc d) rs)
 
-  first-from : (i : ℕ) (rs : List Bytes) → (shown_from v i rs ≡ max_fields → ⊥) → FirstFrom i rs
+  first-from : (i n : ℕ) (rs : List Bytes) → shown_from v i rs ≡ Some n → FirstFrom i n rs
   unfolding keep shown_from
-  first-from i [] h = absurd (h refl)
-  first-from i (r ∷ rs) h = by_cases (is_shown v r)
-      (λ e. record { d = 0; place = rw e (omega arith); within = omega arith; is = rw e })
-      (λ e. let t = first-from (suc i) rs (λ k. h (rw e k)) in
-      record { d = suc t.d; place = rw e (omega (arith, t.place)); within = omega (arith, t.within); is = rw e t.is })
+  first-from i n [] h = none-some h
+  first-from i n (r ∷ rs) h = by_cases (is_shown v r)
+      (λ e. let p : i ≡ n = some_same (rw e at h) in record { d = 0; place = omega arith; within = omega arith; is = rw e })
+      (λ e. let t = first-from (suc i) n rs (rw e at h) in record { d = suc t.d; place = omega (arith, t.place); within = omega (arith, t.within); is = rw e t.is })
 
 -- ── Of a table: the fields from the place i on that are shown ──
 abbrev pub fields_from : ℕ → Shown → Bytes → Fields
@@ -115,14 +114,13 @@ pub record Next (s : Bytes) (v : Shown) (i n : ℕ) : Type 0 where
   pub within : n < length (in_use slot_bytes max_fields s)
   pub is : {slot : Bytes} → slot ≡ take slot_bytes (drop (n * slot_bytes) s) → fields_from i v s ≡ field_in slot ∷ fields_from (n + 1) v s
 
-module _ (s : Bytes) (v : Shown) (i n : ℕ) (l : i ≤ length (in_use slot_bytes max_fields s)) (at : n ≡ shown_from v i (slots_from i s)) where
-  pub none-next : n ≡ max_fields → fields_from i v s ≡ []
-  none-next h =
-      rw (none_from_lem v i (slots_from i s) (rw length-drop (omega (arith, used-fit slot_bytes max_fields s))) (sym at ∙ h))
+module _ (s : Bytes) (v : Shown) (i : ℕ) where
+  pub none-next : None ≡ shown_from v i (slots_from i s) → fields_from i v s ≡ []
+  none-next at = rw (none_from_lem v i (slots_from i s) (sym at))
 
-  pub next : (n ≡ max_fields → ⊥) → Next s v i n
-  next h =
-      let r = first-from v i (slots_from i s) (λ k. h (at ∙ k)) in
+  pub next : i ≤ length (in_use slot_bytes max_fields s) → (n : ℕ) → Some n ≡ shown_from v i (slots_from i s) → Next s v i n
+  next l n at =
+      let r = first-from v i n (slots_from i s) (sym at) in
       let p : i + suc r.d ≡ n + 1 = omega (arith, r.place) in
       let q : i + r.d ≡ n = omega (arith, r.place) in
       let w : n < length (in_use slot_bytes max_fields s) = omega (arith, rw length-drop at r.within) in

@@ -1,5 +1,5 @@
 -- Fields that are shown: all, or those that one user may read.
-use Rattle.std.specs.Prelude.{ℕ, suc, ◌+◌, ◌*◌, ◌<◌, Bool, true, List, [], ◌∷◌, map, if◌then◌else◌}
+use Rattle.std.specs.Prelude.{ℕ, suc, ◌+◌, ◌*◌, ◌<◌, Bool, true, List, [], ◌∷◌, map, if◌then◌else◌, Option, None, Some}
 use Rattle.model.specs.Base.{Bytes, keep}
 use Rattle.model.specs.Limits.{max_key, max_depth, max_fields, max_users}
 use Rattle.model.specs.Fields.{Fields}
@@ -41,7 +41,7 @@ is_shown (To i) slot = bit_at (mask_in slot) i
 unfoldable pub shown_in : Shown → Bytes → Fields
 shown_in v s = map field_in (keep (is_shown v) (in_use slot_bytes max_fields s))
 
--- the place, counted from i, of the first slot that is shown; behind the last place where there is none
-unfoldable pub shown_from : Shown → ℕ → List Bytes → ℕ
-shown_from v i [] = max_fields
-shown_from v i (slot ∷ rest) = let r = shown_from v (suc i) rest in if is_shown v slot then i else r
+-- the place, counted from i, of the first slot that is shown, if there is one
+unfoldable pub shown_from : Shown → ℕ → List Bytes → Option ℕ
+shown_from v i [] = None
+shown_from v i (slot ∷ rest) = let r = shown_from v (suc i) rest in if is_shown v slot then Some i else r

@@ -16,7 +16,7 @@ use lexical::limits::{MAX_DEPTH, MAX_KEY};
 use masks::has_bit;
 use record::slot::{mask_of, value_text};
 use record::table::{RECORD, SLOTS, VALUE_ROOM, slot_at};
-use values::value::{ValueAt, value_at};
+use values::value::value_at;
 
 // No saved text of all slots is longer, whatever they hold.
 pub const MOST_SAVED: usize = SLOTS * (SAVED_FIELD + 1);
@@ -42,23 +42,21 @@ fn is_shown(shown: Shown, slot: &[u8]) -> bool
     }
 }
 
-// The place of the first field from i on that is shown, or the number of slots.
-fn next_shown(table: &[u8; RECORD], shown: Shown, i: usize) -> usize
+// The place of the first field from i on that is shown, if there is one.
+fn next_shown(table: &[u8; RECORD], shown: Shown, i: usize) -> Option<usize>
     requires { (i ≤ length (in_use slot_bytes max_fields table.now)) × Placed shown }
     ensures { result ≡ shown_from shown i (drop i (in_use slot_bytes max_fields table.now)) }
 {
-    let mut j = i;
-    while j < SLOTS {
+    for j in i..SLOTS {
         let slot = slot_at(table, j);
         if is_empty(slot) {
-            return SLOTS;
+            return None;
         }
         if is_shown(shown, slot) {
-            return j;
+            return Some(j);
         }
-        j += 1;
     }
-    SLOTS
+    None
 }
 
 // The value of a slot: what is read of its text is how the value is written.
@@ -68,7 +66,7 @@ fn put_held(out: &mut [u8], at: usize, slot: &[u8]) -> usize
     ensures upper_bound { result ≤ at + value_room }
 {
     let text = value_text(slot);
-    let ValueAt::At(_, end) = value_at(text, 0) else {
+    let Some((_, end)) = value_at(text, 0) else {
         return put(out, at, b"false");
     };
     put(out, at, &text[..end])
@@ -80,22 +78,18 @@ pub fn put_saved(out: &mut [u8], at: usize, table: &[u8; RECORD], shown: Shown) 
     ensures wrote { Wrote at (saved (shown_in shown table.now)) out.old result out.new }
     ensures upper_bound { result ≤ at + most_saved }
 {
-    let mut i = next_shown(table, shown, 0);
-    if i == SLOTS {
+    let Some(mut i) = next_shown(table, shown, 0) else {
         return put(out, at, b"{}");
-    }
+    };
     let first = slot_at(table, i);
     let mut to = put_byte(out, at, b'{');
     to = put_descent(out, to, first, 0);
     to = put_held(out, to, first);
-    loop {
-        let next = next_shown(table, shown, i + 1);
-        if next == SLOTS {
-            return put_braces(out, to, count(slot_at(table, i), MAX_DEPTH));
-        }
+    while let Some(next) = next_shown(table, shown, i + 1) {
         let slot = slot_at(table, next);
         to = put_turn(out, to, slot_at(table, i), slot);
         to = put_held(out, to, slot);
         i = next;
     }
+    put_braces(out, to, count(slot_at(table, i), MAX_DEPTH))
 }

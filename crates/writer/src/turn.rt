@@ -19,14 +19,12 @@ pub fn put_descent(out: &mut [u8], at: usize, path: &[u8], from: usize) -> usize
 {
     let n = count(path, MAX_DEPTH);
     let mut to = at;
-    let mut i = from;
-    while i < n {
+    for i in from..n {
         to = put_byte(out, to, b'"');
         to = put(out, to, key_at(path, i));
         to = put_byte(out, to, b'"');
         to = put_byte(out, to, b':');
-        i += 1;
-        if i < n {
+        if i + 1 < n {
             to = put_byte(out, to, b'{');
         }
     }
@@ -38,10 +36,9 @@ pub fn put_braces(out: &mut [u8], at: usize, n: usize) -> usize
     requires { at + n < 2 ^ 64 }
     ensures { Wrote at (replicate n 0x7D) out.old result out.new }
 {
-    let mut i: usize = 0;
-    while i < n {
+    // Byte by byte and not by `fill`: what has no room in the buffer is left out, which `put_byte` sees to.
+    for i in 0..n {
         put_byte(out, at + i, b'}');
-        i += 1;
     }
     at + n
 }

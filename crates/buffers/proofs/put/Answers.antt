@@ -17,5 +17,5 @@ copy-requires c = simp (length-take, length-drop) (omega arith)
 
 pub returns : goal.returns
 returns c =
-    let n = c.least-n in
+    let n = c.min-n in
     (refl, written-copied _ _ _ _ _ n.ensures c.copy.ensures)

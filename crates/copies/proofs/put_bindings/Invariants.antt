@@ -1,4 +1,4 @@
-use Prim.Native.Nat.{◌+◌, ◌*◌, ◌-◌, ◌≤◌}
+use Prim.Native.Nat.{◌+◌, ◌*◌, ◌≤◌}
 use mathlib.Core.Path.{◌≡◌}
 use lib.ListN.{length}
 use Rattle.writer.proofs.Remains.{Remains}
@@ -9,7 +9,4 @@ use Rattle.copies.proofs.put_bindings.Given as goal
 
 abbrev pub invariant-loop-i : goal.invariant-loop-i
 invariant-loop-i l =
-    (l.n ≤ max_bindings) × (l.i ≤ l.n) × (l.to ≤ l.at + binding_row * l.i) × (length l.out ≡ length l.initial.out) × Remains l.at (bindings_from l.lines 0) l.initial.out l.to (bindings_from l.lines l.i) l.out
-
-abbrev pub decreases-loop-i : goal.decreases-loop-i
-decreases-loop-i l = l.n - l.i
+    (l.n ≤ max_bindings) × (l.to ≤ l.at + binding_row * l.i) × (length l.out ≡ length l.initial.out) × Remains l.at (bindings_from l.lines 0) l.initial.out l.to (bindings_from l.lines l.i) l.out

@@ -1,4 +1,4 @@
-use Prim.Native.Nat.{◌+◌, ◌*◌, ◌-◌, ◌≤◌}
+use Prim.Native.Nat.{◌+◌, ◌*◌, ◌≤◌}
 use mathlib.Core.Path.{◌≡◌}
 use lib.ListN.{length}
 use Rattle.copies.specs.Heads.{rule_text}
@@ -9,8 +9,5 @@ use Rattle.copies.proofs.put_rules.Given as goal
 
 abbrev pub invariant-loop-i : goal.invariant-loop-i
 invariant-loop-i l =
-    (l.i ≤ l.n) × (l.to ≤ l.at + rule_text * l.i) × (length l.out ≡ length l.initial.out)
+    (l.to ≤ l.at + rule_text * l.i) × (length l.out ≡ length l.initial.out)
     × Remains l.at (rules_from (user_in l.user) l.policy 0) l.initial.out l.to (rules_from (user_in l.user) l.policy l.i) l.out
-
-abbrev pub decreases-loop-i : goal.decreases-loop-i
-decreases-loop-i l = l.n - l.i

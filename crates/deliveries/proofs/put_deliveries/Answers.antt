@@ -1,6 +1,9 @@
+use Prim.Native.Nat.{◌<◌}
 use mathlib.Core.Path.{◌≡◌, refl}
 use native.Mathlib.Omega.{arith}
 use borrow.Author.Rules.{rules}
+use lib.ListN.{length-take}
+use Rattle.std.proofs.lemmas.List.{get_or-take}
 use Rattle.model.specs.Base.{joined}
 use Rattle.buffers.proofs.Writers.{wrote_none, wrote-both}
 use Rattle.deliveries.proofs.Delivered.{lines_more}
@@ -8,20 +11,22 @@ use Rattle.deliveries.proofs.put_deliveries.Goals as goal
 
 -- Each turn writes the line for one number, behind the lines for those before it.
 
-pub loop-k-init : goal.loop-k-init
+pub loop-n-init : goal.loop-n-init
 unfolding joined
-loop-k-init c = (search rules, search rules, refl, wrote_none _ _)
+loop-n-init c = (search rules, refl, wrote_none _ _)
 
-pub loop-k-preserved : goal.loop-k-preserved
-loop-k-preserved c =
-    let l = c.loop-k in
-    let line = c.put_delivery-to.ensures in
+pub loop-n-preserved : goal.loop-n-preserved
+loop-n-preserved c =
+    let l = c.loop-n in
     let a = c.args in
-    let more = lines_more a.pushed.now a.list.now l.k (search rules) in
-    (search rules, omega (arith, c.put_delivery-to.ensures.upper_bound), search rules, rw more (wrote-both _ _ _ _ _ _ _ _ l.invariant.3 c.put_delivery-to.ensures.wrote))
+    let line = c.put_delivery-to.ensures in
+    let below : l.n-index < a.told = omega (arith, length-take a.told a.list.now) in
+    let more = lines_more a.pushed.now a.list.now l.n-index (omega arith) in
+    (omega (arith, line.upper_bound), search rules, rw more (wrote-both _ _ _ _ _ _ _ _ l.invariant.2 (rw get_or-take at line.wrote)))
 
 pub returns : goal.returns
 returns c =
-    let l = c.loop-k in
-    let all : l.k ≡ c.args.told = omega arith in
-    record { wrote = rw (← all) l.invariant.3; upper_bound = omega (arith, l.invariant.1) }
+    let l = c.loop-n in
+    let a = c.args in
+    let all : l.n-index ≡ a.told = omega (arith, length-take a.told a.list.now) in
+    record { wrote = rw (← all) l.invariant.2; upper_bound = omega (arith, l.invariant.0) }

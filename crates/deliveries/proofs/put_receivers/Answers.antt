@@ -9,12 +9,12 @@ use Rattle.deliveries.proofs.put_receivers.Goals as goal
 -- Each turn stores the number of one user's session, if that user receives the push; the numbers of the later users remain to be stored.
 
 pub loop-j-init : goal.loop-j-init
-loop-j-init c = (search rules, search rules, refl, listed_start _ _ _ _ c.requires)
+loop-j-init c = (search rules, refl, listed_start _ _ _ _ c.requires)
 
 pub returns-then-none_from : goal.returns-then-none_from
 returns-then-none_from c =
     let l = c.loop-j in
-    listed-none _ _ _ _ l.told l.j l.list l.invariant.3 (sym c.none_from.ensures ∙ c.if-none_from.true)
+    listed-none _ _ _ _ l.told l.j l.list l.invariant.2 (sym c.none_from.ensures ∙ c.if-none_from.true)
 
 pub loop-j-preserved : goal.loop-j-preserved
 loop-j-preserved c =
@@ -23,12 +23,12 @@ loop-j-preserved c =
     let test = c.receives.ensures in
     elim c.if-receives.branch [
       | then-receives w ↦
-          let more = listed_more _ _ _ _ l.told l.j _ l.invariant.3 below test w.if-receives.true w.state_at.ensures w.number.ensures in
-          rw (w.list-is, w.told-is) (search rules, omega arith, simp length-set l.invariant.2, more)
+          let more = listed_more _ _ _ _ l.told l.j _ l.invariant.2 below test w.if-receives.true w.state_at.ensures w.number.ensures in
+          rw (w.list-is, w.told-is) (omega arith, simp length-set l.invariant.1, more)
       | else-receives w ↦
-          let same = listed_same _ _ _ _ l.told l.j _ l.invariant.3 below test w.if-receives.false in
-          rw (w.list-is, w.told-is) (search rules, omega arith, l.invariant.2, same)
+          let same = listed_same _ _ _ _ l.told l.j _ l.invariant.2 below test w.if-receives.false in
+          rw (w.list-is, w.told-is) (omega arith, l.invariant.1, same)
     ]
 
 pub returns : goal.returns
-returns c = let l = c.loop-j in listed-all _ _ _ _ l.told l.j l.list l.invariant.3 (search rules)
+returns c = let l = c.loop-j in listed-all _ _ _ _ l.told l.j l.list l.invariant.2 (search rules)

@@ -1,13 +1,9 @@
-use Prim.Native.Nat.{◌-◌, ◌≤◌}
+use Prim.Native.Nat.{◌≤◌}
 use mathlib.Core.Path.{◌≡◌}
 use lib.ListN.{length}
-use Rattle.model.specs.Limits.{max_users}
 use Rattle.deliveries.proofs.Received.{ListedFrom}
 use Rattle.deliveries.proofs.put_receivers.Given as goal
 
 abbrev pub invariant-loop-j : goal.invariant-loop-j
 invariant-loop-j l =
-    (l.j ≤ max_users) × (l.told ≤ l.j) × (length l.list ≡ length l.initial.list) × ListedFrom l.logins l.i l.mask l.initial.list l.told l.j l.list
-
-abbrev pub decreases-loop-j : goal.decreases-loop-j
-decreases-loop-j l = max_users - l.j
+    (l.told ≤ l.j) × (length l.list ≡ length l.initial.list) × ListedFrom l.logins l.i l.mask l.initial.list l.told l.j l.list

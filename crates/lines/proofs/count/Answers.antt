@@ -1,22 +1,8 @@
-use borrow.Author.Rules.{rules}
-use native.Mathlib.Omega.{arith}
-use Rattle.lines.proofs.Cells.{count-more, count_same, count-over}
-use Rattle.lines.proofs.count.Goals.{then-line-i-eq59, else-line-i-eq59}
+use Rattle.std.proofs.Common.{rules, tests}
+use Rattle.std.proofs.lemmas.Iterator.Consumers.{count_from_yields_List}
+use Rattle.lines.proofs.Cells.{values-of}
 use Rattle.lines.proofs.count.Goals as goal
 
--- The values counted and those of what is left are one more than the line has, since the value at i is counted and not passed.
-
-pub loop-i-init : goal.loop-i-init
-loop-i-init c = (search rules, omega arith, omega arith)
-
-pub loop-i-preserved : goal.loop-i-preserved
-loop-i-preserved c =
-    let line = c.args.line.now in
-    let i = c.loop-i.i in
-    elim c.if-line-i-eq59.branch [
-      | then-line-i-eq59 w ↦ (search rules, omega arith, omega (arith, count-more line i (search rules) w.if-line-i-eq59.true))
-      | else-line-i-eq59 w ↦ (search rules, omega arith, omega (arith, count_same line i (search rules) w.if-line-i-eq59.false))
-    ]
-
 pub returns : goal.returns
-returns c = omega (arith, count-over c.args.line.now c.loop-i.i c.loop-i-test.false)
+returns c =
+    count_from_yields_List _ _ c.count.ensures.ran (values-of _ _ c.split.ensures.rest c.split.ensures.done c.split.ensures.closure (λ x r q k. search (rules, tests)))

@@ -1,75 +1,24 @@
-use Prim.Native.Nat.{◌+◌, ◌≤◌}
-use mathlib.Core.Path.{refl, sym, ◌∙◌}
-use native.Mathlib.Omega.{arith}
-use borrow.Author.Rules.{rules}
-use lib.ListN.{length}
-use Rattle.rows.proofs.Positions.{run-within}
-use Rattle.lines.proofs.Cells.{under-here, under_last, under-short, under_more}
-use Rattle.lines.proofs.value_under.Goals.{After-until-end, After-until-to, Else-to-line}
+use Rattle.std.proofs.Common.{◌≡◌, Option, Some, None, Bor, ap, ◌∙◌, rules, tests}
+use Rattle.std.specs.Option.{MatchOption, IsSomeAnd, option_map}
+use Rattle.std.proofs.lemmas.Iterator.{YieldsList-from_zip}
+use Rattle.std.proofs.lemmas.Iterator.Consumers.{YieldsList-at}
+use Rattle.std.proofs.lemmas.Iterator.Search.{find_from_yields_List}
+use Rattle.model.specs.Base.{Bytes, ◌≐◌}
+use Rattle.lines.proofs.Cells.{values-of, under-is, or-none}
 use Rattle.lines.proofs.value_under.Goals as goal
 
--- Each turn leaves the value under the name, behind a column that has another name.
+-- the value of the pair that was found, if one was
+second-is : (P : Bor Bytes × Bor Bytes → Bor Bytes → Type 0) (o : Option (Bor Bytes × Bor Bytes)) (r : Option (Bor Bytes)) (q : Option (Bytes × Bytes)) → MatchOption o (r ≡ None) (λ p. IsSomeAnd r (P p)) → ((p : Bor Bytes × Bor Bytes) (x : Bor Bytes) → P p x → x ≡ p.1) → option_map (λ p. (p.0.now, p.1.now)) o ≡ q → option_map (λ x. x.now) r ≡ option_map (λ (p : Bytes × Bytes). p.1) q
+second-is P None r q h k e = rw h (ap (option_map (λ (p : Bytes × Bytes). p.1)) e)
+second-is P (Some p) None q h k e = absurd h
+second-is P (Some p) (Some x) q h k e = rw (k p x h) (ap (option_map (λ (p : Bytes × Bytes). p.1)) e)
 
--- where the column ends, and where the value does
-column : (c : After-until-end)
-    → (c.loop-at.at ≤ c.until-end.result) × (c.until-end.result ≤ length c.args.head.now)
-column c = run-within _ _ _ _ c.until-end.ensures c.loop-at.invariant.0
-
-value : (c : After-until-to)
-    → (c.loop-at.from ≤ c.until-to.result) × (c.until-to.result ≤ length c.args.line.now)
-value c = run-within _ _ _ _ c.until-to.ensures c.loop-at.invariant.1
-
--- both are followed by a `;`
-inside : (c : Else-to-line)
-    → (c.until-end.result + 1 ≤ length c.args.head.now)
-    × (c.until-to.result + 1 ≤ length c.args.line.now)
-inside c =
-    (omega (arith, (run-within _ _ _ _ c.until-end.ensures c.loop-at.invariant.0), c.if-end-head.false), omega (arith, (run-within _ _ _ _ c.until-to.ensures c.loop-at.invariant.1), c.if-to-line.false))
-
-pub loop-at-init : goal.loop-at-init
-loop-at-init c = (search rules, search rules, refl)
-
-pub slice_bounds-same-count : goal.slice_bounds-same-count
-slice_bounds-same-count c = (column (goal.at.slice_bounds-same-count c).After-until-end).0
-
-pub slice_bounds-same-start : goal.slice_bounds-same-start
-slice_bounds-same-start c = (column (goal.at.slice_bounds-same-start c).After-until-end).0
-
-pub slice_bounds-same-end : goal.slice_bounds-same-end
-slice_bounds-same-end c = (column (goal.at.slice_bounds-same-end c).After-until-end).1
-
-pub slice_bounds-result-count : goal.slice_bounds-result-count
-slice_bounds-result-count c = (value (goal.at.slice_bounds-result-count c).After-until-to).0
-
-pub slice_bounds-result-start : goal.slice_bounds-result-start
-slice_bounds-result-start c = (value (goal.at.slice_bounds-result-start c).After-until-to).0
-
-pub slice_bounds-result-end : goal.slice_bounds-result-end
-slice_bounds-result-end c = (value (goal.at.slice_bounds-result-end c).After-until-to).1
-
-pub returns-then-same : goal.returns-then-same
-returns-then-same c =
-    sym (c.loop-at.invariant.2 ∙ under-here _ _ _ _ c.until-end.ensures _ _ _ c.until-to.ensures (sym c.same.ensures ∙ c.if-same.true))
-
-pub returns-then-end-head : goal.returns-then-end-head
-returns-then-end-head c =
-    sym (c.loop-at.invariant.2 ∙ under_last _ _ _ _ c.until-end.ensures _ _ _ c.until-to.ensures (sym c.same.ensures ∙ c.if-same.false) (search rules))
-
-pub returns-then-to-line : goal.returns-then-to-line
-returns-then-to-line c =
-    sym (c.loop-at.invariant.2 ∙ under-short _ _ _ _ c.until-end.ensures _ _ _ c.until-to.ensures (sym c.same.ensures ∙ c.if-same.false) (search rules))
-
-pub overflow_add-at : goal.overflow_add-at
-overflow_add-at c = omega (arith, inside c)
-
-pub overflow_add-from : goal.overflow_add-from
-overflow_add-from c = omega (arith, inside c)
-
-pub loop-at-smaller : goal.loop-at-smaller
-loop-at-smaller c = omega (arith, inside c, column (goal.at.loop-at-smaller c).After-until-end)
-
-pub loop-at-preserved : goal.loop-at-preserved
-loop-at-preserved c =
-    let (h, l) = inside c in
-    let next = under_more _ _ _ _ c.until-end.ensures _ _ _ c.until-to.ensures (sym c.same.ensures ∙ c.if-same.false) (omega arith) (omega arith) in
-    (omega arith, omega arith, c.loop-at.invariant.2 ∙ next)
+pub returns : goal.returns
+returns c =
+    let found = find_from_yields_List (λ p. p.0 ≐ c.args.name.now) c.find.new.self _ c.find.result c.find.ensures.ran
+    (YieldsList-from_zip
+    (YieldsList-at c.zip.ensures.first (values-of _ _ c.split-columns.ensures.rest c.split-columns.ensures.done c.split-columns.ensures.closure (λ x b q k. search (rules, tests))))
+    (YieldsList-at c.zip.ensures.second (values-of _ _ c.split-values.ensures.rest c.split-values.ensures.done c.split-values.ensures.closure (λ x b q k. search (rules, tests)))))
+    (λ x b q k. search (rules, tests)) in
+    or-none _ _ _ c.unwrap_or_default.ensures (second-is _ c.find.result c.map.result _ c.map.ensures.cases (λ p x k. search (rules, tests)) found)
+    ∙ under-is _ _ _

@@ -4,8 +4,8 @@ use Rattle.requests.proofs.behind.Goals as goal
 
 -- The line goes on behind the word if it begins with it.
 
-pub returns-then-not-starts : goal.returns-then-not-starts
-returns-then-not-starts c = after-no _ _ (sym c.starts.ensures ∙ c.if-not-starts.true)
+pub returns-then-starts : goal.returns-then-starts
+returns-then-starts c = after-yes _ _ (sym c.starts.ensures ∙ c.if-starts.true)
 
-pub returns : goal.returns
-returns c = after-yes _ _ (sym c.starts.ensures ∙ c.if-not-starts.false)
+pub returns-else-starts : goal.returns-else-starts
+returns-else-starts c = after-no _ _ (sym c.starts.ensures ∙ c.if-starts.false)

@@ -6,36 +6,36 @@ use lib.ListN.{length, drop}
 use Rattle.rows.proofs.Parts.{tail-part}
 use Rattle.model.specs.Base.{text, after, check, ◌>>◌}
 use Rattle.model.specs.Requests.{read_login}
-use Rattle.requests.proofs.ByPositions.{word-ends, word-other, other_word, UserEnds, user-last, user-ends}
-use Rattle.requests.proofs.login_line.Goals.{Else-cut-line, In-At}
+use Rattle.requests.proofs.ByPositions.{word-ends, other_word, UserEnds, user-last, user-ends}
+use Rattle.requests.proofs.login_line.Goals.{Else-cut-line, In_ok-from}
 use Rattle.requests.proofs.login_line.Goals as goal
 
 -- The line is cut where the user ends, and both sides are names: each exit is what one of these tests says of the model's reader.
 
 -- the line begins with `LOGIN;`, and the user ends inside of it
-begins : (c : In-At)
+begins : (c : In_ok-from)
     → let line = c.args.line.now in
-    let from = c.in-At.from in
+    let from = c.in_ok-from.from in
     (after (text "LOGIN;") line ≡ Some (drop from line)) × (from ≤ length line)
 unfolding text
-begins c = word-ends _ _ _ c.behind.ensures c.in-At.is
+begins c = word-ends _ _ _ c.behind.ensures c.in_ok-from.was
 
 ends : (c : Else-cut-line)
-    → UserEnds c.args.line.now c.in-At.from c.until-cut.result
+    → UserEnds c.args.line.now c.in_ok-from.from c.until-cut.result
 unfolding text
 ends c =
-    let (word, long) = word-ends _ _ _ c.behind.ensures c.in-At.is in
+    let (word, long) = word-ends _ _ _ c.behind.ensures c.in_ok-from.was in
     user-ends _ _ word _ c.until-cut.ensures long c.if-cut-line.false
 
-pub returns-in_default : goal.returns-in_default
+pub returns-in_err-from : goal.returns-in_err-from
 unfolding read_login text
-returns-in_default c = λ p. record { asks = other_word (text "LOGIN;") _ _ (word-other _ _ _ c.behind.ensures c.in_default.is); stands = tt }
+returns-in_err-from c = λ p. rw c.from_residual.ensures (record { asks = other_word (text "LOGIN;") _ _ c.in_err-from.ensures; stands = tt })
 
 pub until-cut-requires : goal.until-cut-requires
 until-cut-requires c = (begins c).1
 
 pub returns-then-cut-line : goal.returns-then-cut-line
-returns-then-cut-line c = λ p. record { asks = user-last _ _ (begins (goal.at.returns-then-cut-line c).In-At).0 _ c.until-cut.ensures c.if-cut-line.true; stands = tt }
+returns-then-cut-line c = λ p. record { asks = user-last _ _ (begins (goal.at.returns-then-cut-line c).In_ok-from).0 _ c.until-cut.ensures c.if-cut-line.true; stands = tt }
 
 pub slice_bounds-is_name-count : goal.slice_bounds-is_name-count
 slice_bounds-is_name-count c = (ends c).starts

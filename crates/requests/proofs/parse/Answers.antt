@@ -8,54 +8,48 @@ use Rattle.model.specs.Limits.{max_line}
 use Rattle.model.specs.Requests.{read_login, read_get, read_push, read_logout, readers, first_of, request_of}
 use Rattle.requests.proofs.FirstOf.{first_reads, first-fails, last-reads, too_long_lem, short}
 use Rattle.requests.proofs.ByPositions.{slot_same}
-use Rattle.requests.proofs.parse.Goals.{In-Bad, In-Bad-get}
+use Rattle.requests.proofs.parse.Goals.{In_default, In_default-get_line}
 use Rattle.requests.proofs.parse.Goals as goal
 
--- The readers are tried in the model's order: the first answer that is not Bad is the line's, and the ones before it read nothing.
+-- The readers are tried in the model's order: the first request that one reads is the line's, and the ones before it read nothing.
 
--- a line that is no longer than a line may be is decided by the readers; and once one is Bad, by those behind it
+-- a line that is no longer than a line may be is decided by the readers; and where the first reads nothing, by those behind it
 by-readers : (line : Bytes)
     → length line ≤ max_line
     → first_of (read_login ∷ read_get ∷ read_push ∷ read_logout ∷ []) line ≡ request_of line
 unfolding readers
 by-readers line h = short line h
 
-no-login : (c : In-Bad)
+no-login : (c : In_default)
     → let line = c.args.line.now in
     first_of (read_get ∷ read_push ∷ read_logout ∷ []) line ≡ request_of line
-no-login c =
-    first-fails (c.login_line-login.ensures []) _ (by-readers _ c.if-line-gt-MAX_LINE.false) c.in-Bad.is
+no-login c = first-fails _ (by-readers _ c.if-line-gt-MAX_LINE.false) (c.in_default.ensures [])
 
-no-get : (c : In-Bad-get)
+no-get : (c : In_default-get_line)
     → let line = c.args.line.now in
     first_of (read_push ∷ read_logout ∷ []) line ≡ request_of line
-no-get c =
-    first-fails (c.get_line-get.ensures []) _ (first-fails (c.login_line-login.ensures []) _ (by-readers _ c.if-line-gt-MAX_LINE.false) c.in-Bad.is) c.in-Bad-get.is
+no-get c = first-fails _ (first-fails _ (by-readers _ c.if-line-gt-MAX_LINE.false) (c.in_default.ensures [])) (c.in_default-get_line.ensures [])
 
 pub returns-then-line-gt-MAX_LINE : goal.returns-then-line-gt-MAX_LINE
 returns-then-line-gt-MAX_LINE c = record { reads_as = record { asks = too_long_lem _ (search rules); stands = tt }; slot_after = refl }
 
-pub returns-in_default : goal.returns-in_default
-returns-in_default c =
-    let login = c.login_line-login.ensures in
-    record { reads_as = first_reads (login _) _ (by-readers _ c.if-line-gt-MAX_LINE.false) c.in_default.is; slot_after = slot_same login refl }
+pub returns-in-Some : goal.returns-in-Some
+returns-in-Some c =
+    let login = c.in-Some.ensures in
+    record { reads_as = first_reads _ (by-readers _ c.if-line-gt-MAX_LINE.false) (login _); slot_after = slot_same login refl }
 
-pub returns-in_default-get : goal.returns-in_default-get
-returns-in_default-get c =
-    let get = c.get_line-get.ensures in
-    record { reads_as = first_reads (get _) _ (no-login (goal.at.returns-in_default-get c).In-Bad) c.in_default-get.is; slot_after = slot_same get refl }
+pub returns-in-Some-get_line : goal.returns-in-Some-get_line
+returns-in-Some-get_line c =
+    let get = c.in-Some-get_line.ensures in
+    record { reads_as = first_reads _ (no-login (goal.at.returns-in-Some-get_line c).In_default) (get _); slot_after = slot_same get refl }
 
-pub returns-in_default-push : goal.returns-in_default-push
-returns-in_default-push c =
-    let push = c.push_line-push.ensures.reads_as in
-    let kept = c.push_line-push.ensures.slot_after in
-    record { reads_as = first_reads push _ (no-get (goal.at.returns-in_default-push c).In-Bad-get) c.in_default-push.is; slot_after = kept }
+pub returns-in-Some-push_line-clause-reads_as : goal.returns-in-Some-push_line-clause-reads_as
+returns-in-Some-push_line-clause-reads_as c =
+    first_reads _ (no-get (goal.at.returns-in-Some-push_line-clause-reads_as c).In_default-get_line) c.in-Some-push_line.ensures.reads_as
 
 pub returns : goal.returns
 returns c =
-    let bad = c.in-Bad-push.is in
+    let push = c.in_default-push_line.ensures in
+    let left = first-fails _ (no-get (goal.at.returns c).In_default-get_line) push.reads_as in
     let logout = c.logout_line.ensures in
-    let push = c.push_line-push.ensures.reads_as in
-    let kept = c.push_line-push.ensures.slot_after in
-    let left = first-fails push _ (no-get (goal.at.returns c).In-Bad-get) bad in
-    record { reads_as = last-reads (logout _) left; slot_after = slot_same logout (rw bad at kept) }
+    record { reads_as = last-reads left (logout _); slot_after = slot_same logout push.slot_after }

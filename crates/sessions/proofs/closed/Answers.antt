@@ -5,4 +5,4 @@ use Rattle.sessions.proofs.closed.Goals as goal
 
 pub returns : goal.returns
 unfolding state_of with_session closed
-returns c = c.with_session.ensures
+returns c = c.set_session.ensures

@@ -15,4 +15,4 @@ one_more a = rw (add-one a.logins)
 
 pub returns : goal.returns
 unfolding state_of
-returns c = c.with_session.ensures ∙ one_more _
+returns c = c.set_session.ensures ∙ one_more _

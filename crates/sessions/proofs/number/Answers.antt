@@ -11,9 +11,6 @@ use Rattle.sessions.proofs.number.Goals as goal
 
 -- The index stands above the bits of the logins, and 32 bits have room for both.
 
-pub overflow_cast-result : goal.overflow_cast-result
-overflow_cast-result c = search rules
-
 pub returns : goal.returns
 unfolding session_number state_of
 returns c =

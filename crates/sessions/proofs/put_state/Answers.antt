@@ -1,18 +1,11 @@
 use mathlib.Core.Path.{◌≡◌}
-use native.Mathlib.Omega.{arith}
-use lib.ListN.{length, length-set}
+use lib.ListN.{length}
 use borrow.Author.Rules.{rules}
 use Rattle.sessions.specs.Logins.{login_numbers, state_of}
 use Rattle.sessions.proofs.States.{state-put}
 use Rattle.sessions.proofs.put_state.Goals as goal
 
 -- Three numbers are stored where the row of the index stands; the flag is stored as 1 or 0.
-
-pub bounds-numbers-at-2 : goal.bounds-numbers-at-2
-bounds-numbers-at-2 c = simp length-set (omega arith)
-
-pub bounds-numbers-at-3 : goal.bounds-numbers-at-3
-bounds-numbers-at-3 c = simp length-set (omega arith)
 
 pub returns : goal.returns
 unfolding state_of

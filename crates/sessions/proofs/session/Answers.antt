@@ -3,7 +3,7 @@ use native.Mathlib.Omega.{arith}
 use borrow.Author.Tests.{not-true, not-false}
 use Rattle.sessions.specs.Logins.{logins_in, state_of}
 use Rattle.sessions.specs.declared.NumberParts.{NumberParts}
-use Rattle.sessions.specs.declared.SessionAt.TheVariants.{Of}
+use Rattle.std.specs.Prelude.{Some}
 use Rattle.sessions.proofs.States.{session-none, session-below, session-closed, session-other, session-open}
 use Rattle.sessions.proofs.session.Goals as goal
 
@@ -38,4 +38,4 @@ returns c =
     let a = c.args in
     let is_open = not-false _ c.if-not-state.false in
     let found = session-open _ (logins_in a.logins.now) a.n c.split_number-parts.ensures c.row_count.ensures c.if-row_count-i.false c.state_at-state.ensures is_open (omega arith) in
-    rw found (ap (λ (q : NumberParts). Of q.index) c.split_number-parts.ensures)
+    rw found (ap (λ (q : NumberParts). Some q.index) c.split_number-parts.ensures)

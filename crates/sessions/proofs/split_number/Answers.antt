@@ -1,7 +1,6 @@
 use Prim.Native.Nat.{ℕ}
 use mathlib.Core.Path.{ap}
-use lib.Bits.{and_mask, mask_lt}
-use borrow.Author.Rules.{rules}
+use lib.Bits.{and_mask}
 use Rattle.model.specs.Serving.{index_in, count_in}
 use Rattle.sessions.proofs.States.{login_bits}
 use Rattle.sessions.proofs.split_number.Goals as goal
@@ -11,9 +10,3 @@ use Rattle.sessions.proofs.split_number.Goals as goal
 pub returns : goal.returns
 unfolding index_in count_in
 returns c = ap (λ (logins : ℕ). record { index = index_in c.args.n; logins = logins }) (and_mask c.args.n login_bits)
-
-pub overflow_cast-result : goal.overflow_cast-result
-overflow_cast-result c = search rules
-
-pub overflow_cast-result-2 : goal.overflow_cast-result-2
-overflow_cast-result-2 c = record { fits = mask_lt c.args.n login_bits }

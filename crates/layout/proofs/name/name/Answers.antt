@@ -14,4 +14,4 @@ pub returns : goal.returns
 unfolding name_in
 returns c =
     let row = c.args.row.now in
-    rw add-sub_cancel_left (take-clipped (get_or row 0 0) c.least-end.result (drop 1 row) (omega (arith, c.least-end.ensures, length-drop 1 row)))
+    rw add-sub_cancel_left (take-clipped (get_or row 0 0) c.min-end.result (drop 1 row) (omega (arith, c.min-end.ensures, length-drop 1 row)))

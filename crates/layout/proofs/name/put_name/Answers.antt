@@ -17,6 +17,6 @@ shape_of-row c = c.put.auto.out ∙ simp length-set
 
 pub returns : goal.returns
 returns c =
-    let n = c.least-n in
+    let n = c.min-n in
     let name = c.args.name.now in
     rw (← take-clipped _ n.result name n.ensures, ← n.ensures) (c.put.ensures.1 ∙ written-cons 0 _ _ _)

@@ -12,8 +12,8 @@ overflow_add-count_from c =
 
 pub overflow_mul-result : goal.overflow_mul-result
 overflow_mul-result c =
-    let l : c.least.result ≤ c.args.most = omega arith in
+    let l : c.min.result ≤ c.args.most = omega arith in
     omega (arith, mul-le-mul_right c.args.size l, c.requires.0.1)
 
 pub returns : goal.returns
-returns c = rw (c.least.ensures, c.count_from.ensures)
+returns c = rw (c.min.ensures, c.count_from.ensures)

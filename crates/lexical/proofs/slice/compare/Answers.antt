@@ -1,36 +1,29 @@
+use Prim.Native.Nat.{compare}
 use mathlib.Core.Path.{◌≡◌, sym, ap, ◌∙◌}
-use native.Mathlib.Omega.{arith}
 use borrow.Author.Rules.{rules}
-use Rattle.model.specs.Fields.{and_then, order_key}
-use Rattle.lexical.specs.Orders.{order_of, big_endian}
-use Rattle.lexical.proofs.Slices.{compare-less, compare_same, compare-more}
+use lib.ListN.{drop}
+use Rattle.model.specs.Fields.{and_then, lex, order_key}
+use Rattle.lexical.specs.Orders.{order_of, word_bytes}
+use Rattle.lexical.proofs.Slices.{compare_same, different-first, cmp-order}
 use Rattle.lexical.proofs.Words.{order-words}
+use Rattle.lexical.proofs.slice.compare.Goals.{After-word-y}
 use Rattle.lexical.proofs.slice.compare.Goals as goal
 
--- Short texts byte by byte; else the first eight bytes decide as numbers, or what stands behind them.
+-- Short texts byte by byte; else the first words decide as numbers, or what stands behind them.
+
+by-words : (c : After-word-y) → order_key c.args.a.now c.args.b.now ≡ and_then (compare c.word-x.result c.word-y.result) (lex compare (drop word_bytes c.args.a.now) (drop word_bytes c.args.b.now))
+unfolding order_key
+by-words c = rw (c.word-x.ensures, c.word-y.ensures)
+    (order-words word_bytes c.args.a.now c.args.b.now (search rules) (search rules) (λ i. (c.type_inv.a i).fits) (λ i. (c.type_inv.b i).fits))
 
 pub returns-then-x-y : goal.returns-then-x-y
-unfolding order_key and_then
 returns-then-x-y c =
-    let words = order-words 8 c.args.a.now c.args.b.now (search rules) (search rules) (λ i. (c.shared_slice_known-1.given i).fits) (λ i. (c.shared_slice_known-2-1.given i).fits) in
-    let l = rw (c.word-x.ensures, c.word-y.ensures) at c.if-x-y.true in
-    sym (ap order_of (rw (compare-less _ _ l) at words))
-
-pub returns-then-y-x : goal.returns-then-y-x
-unfolding order_key and_then
-returns-then-y-x c =
-    let words = order-words 8 c.args.a.now c.args.b.now (search rules) (search rules) (λ i. (c.shared_slice_known-1.given i).fits) (λ i. (c.shared_slice_known-2-1.given i).fits) in
-    let l = rw (c.word-x.ensures, c.word-y.ensures) at c.if-y-x.true in
-    sym (ap order_of (rw (compare-more _ _ l) at words))
+    c.cmp.ensures ∙ cmp-order _ _ ∙ sym (ap order_of (by-words (goal.at.returns-then-x-y c).After-word-y ∙ different-first _ _ c.if-x-y.true _))
 
 pub returns : goal.returns
-unfolding order_key and_then
-returns c =
-    let words = order-words 8 c.args.a.now c.args.b.now (search rules) (search rules) (λ i. (c.shared_slice_known-1.given i).fits) (λ i. (c.shared_slice_known-2-1.given i).fits) in
-    let e : big_endian 8 c.args.a.now ≡ big_endian 8 c.args.b.now =
-    omega (arith, c.word-x.ensures, c.word-y.ensures) in
-    c.compare_from-2.ensures ∙ sym (ap order_of (rw (compare_same _ _ e) at words))
+unfolding and_then
+returns c = c.compare_from-2.ensures ∙ sym (ap order_of (by-words (goal.at.returns c).After-word-y ∙ rw (compare_same _ _ c.if-x-y.false)))
 
-pub returns-then-least-lt-WORD : goal.returns-then-least-lt-WORD
+pub returns-then-min-lt-WORD : goal.returns-then-min-lt-WORD
 unfolding order_key
-returns-then-least-lt-WORD c = search rules
+returns-then-min-lt-WORD c = search rules

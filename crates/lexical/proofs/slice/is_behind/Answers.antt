@@ -20,7 +20,7 @@ unfolding order_key
 returns-then-v-w c =
     let a = c.args.a.now in
     let b = c.args.b.now in
-    let at = c.least-second.result in
+    let at = c.min-second.result in
     let e = sym c.word-x.ensures ∙ c.if-x-y.false ∙ c.word-y.ensures in
     rw (c.word-v.ensures, c.word-w.ensures, tail-part at a, tail-part at b)
     (second-behind word_bytes a b (search rules) (search rules) (λ i. (c.shared_slice_known-1.given i).fits) (λ i. (c.shared_slice_known-2-1.given i).fits)
@@ -32,7 +32,7 @@ unfolding order_key
 returns c =
     let a = c.args.a.now in
     let b = c.args.b.now in
-    let at = c.least-second.result in
+    let at = c.min-second.result in
     let e = sym c.word-x.ensures ∙ c.if-x-y.false ∙ c.word-y.ensures in
     let f = rw (tail-part at a, tail-part at b) at (sym c.word-v.ensures ∙ c.if-v-w.false ∙ c.word-w.ensures) in
     c.is_behind_from-2.ensures ∙ rw (second-same word_bytes a b (search rules) (search rules) (λ i. (c.shared_slice_known-1.given i).fits) (λ i. (c.shared_slice_known-2-1.given i).fits)

@@ -1,5 +1,4 @@
 use mathlib.Core.Path.{sym, ap, ◌∙◌}
-use borrow.Author.Rules.{rules}
 use native.Mathlib.Nat.{add-zero}
 use native.Mathlib.Omega.{arith}
 use lib.ListN.{length-drop}
@@ -13,19 +12,19 @@ pub returns-then-s-at : goal.returns-then-s-at
 returns-then-s-at c = sym (after-short _ _ (simp length-drop (omega arith)))
 
 pub loop-i-init : goal.loop-i-init
-loop-i-init c = (search rules, omega arith, rw add-zero)
+loop-i-init c = (omega arith, rw add-zero)
 
 pub returns-then-s-at-2 : goal.returns-then-s-at-2
 unfolding is_some
 returns-then-s-at-2 c =
     let l = c.loop-i in
-    sym (ap is_some (l.invariant.2 ∙ after_stop _ _ _ l.i (search rules) (search rules) c.if-s-at-2.true))
+    sym (ap is_some (l.invariant.1 ∙ after_stop _ _ _ l.i (omega arith) (omega arith) c.if-s-at-2.true))
 
 pub loop-i-preserved : goal.loop-i-preserved
 loop-i-preserved c =
     let l = c.loop-i in
-    (search rules, search rules, l.invariant.2 ∙ after-step _ _ _ l.i (search rules) (search rules) c.if-s-at-2.false)
+    (l.invariant.0, l.invariant.1 ∙ after-step _ _ _ l.i (omega arith) (omega arith) c.if-s-at-2.false)
 
 pub returns : goal.returns
 unfolding is_some
-returns c = let l = c.loop-i in sym (ap is_some (l.invariant.2 ∙ after-end _ _ _ l.i (search rules)))
+returns c = let l = c.loop-i in sym (ap is_some (l.invariant.1 ∙ after-end _ _ _ l.i (omega arith)))

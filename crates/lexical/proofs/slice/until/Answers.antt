@@ -1,23 +1,19 @@
-use mathlib.Core.Path.{refl, sym, ◌∙◌}
-use borrow.Author.Rules.{rules}
+use mathlib.Core.Path.{◌≡◌, sym, ◌∙◌}
+use native.Mathlib.Omega.{arith}
+use lib.ListN.{length}
 use Rattle.rows.proofs.Positions.{run_step, run-stop, run-over}
 use Rattle.lexical.proofs.Runs.{is-it, is-other}
 use Rattle.lexical.proofs.slice.until.Goals as goal
 
 -- The byte that next stands from `at` on is the one that next stands from i on.
 
-pub loop-i-init : goal.loop-i-init
-loop-i-init c = (search rules, refl)
-
 pub returns-then-s-i : goal.returns-then-s-i
-returns-then-s-i c =
-    let l = c.loop-i in
-    sym (l.invariant.1 ∙ run-stop _ _ 0 l.i (search rules) (is-it _ _ c.if-s-i.true))
+returns-then-s-i c = sym (c.loop-i.invariant ∙ run-stop _ _ 0 _ c.loop-i-test.true (is-it _ _ c.if-s-i.true))
 
 pub loop-i-preserved : goal.loop-i-preserved
-loop-i-preserved c =
-    let l = c.loop-i in
-    (search rules, l.invariant.1 ∙ run_step _ _ 0 l.i (search rules) (is-other _ _ c.if-s-i.false))
+loop-i-preserved c = c.loop-i.invariant ∙ run_step _ _ 0 _ c.loop-i-test.true (is-other _ _ c.if-s-i.false)
 
 pub returns : goal.returns
-returns c = sym (c.loop-i.invariant.1 ∙ run-over _ _ _ c.loop-i-test.false)
+returns c =
+    let e : length c.args.s.now ≡ c.loop-i.i = omega arith in
+    e ∙ sym (c.loop-i.invariant ∙ run-over _ _ _ c.loop-i-test.false)

@@ -1,4 +1,4 @@
-use mathlib.Core.Path.{refl, sym, ◌∙◌}
+use mathlib.Core.Path.{sym, ◌∙◌}
 use borrow.Author.Rules.{rules}
 use Rattle.model.specs.Limits.{max_listed}
 use Rattle.layout.specs.Layout.{key_row, name_in}
@@ -8,21 +8,18 @@ use Rattle.matching.proofs.conflict.share.Goals as goal
 
 -- Each turn leaves the question for the names behind the one that it looked for.
 
-pub loop-i-init : goal.loop-i-init
-loop-i-init c = (search rules, refl)
-
 pub returns-then-has_name : goal.returns-then-has_name
 unfolding names_in
 returns-then-has_name c =
     let l = c.loop-i in
-    sym (l.invariant.1 ∙ any_step name_in key_row max_listed _ _ l.i (search rules) c.key_at.ensures c.has_name.ensures ∙ rw c.if-has_name.true)
+    sym (l.invariant ∙ any_step name_in key_row max_listed _ _ l.i (search rules) c.key_at.ensures c.has_name.ensures ∙ rw c.if-has_name.true)
 
 pub loop-i-preserved : goal.loop-i-preserved
 unfolding names_in
 loop-i-preserved c =
     let l = c.loop-i in
-    (search rules, l.invariant.1 ∙ any_step name_in key_row max_listed _ _ l.i (search rules) c.key_at.ensures c.has_name.ensures ∙ rw c.if-has_name.false)
+    l.invariant ∙ any_step name_in key_row max_listed _ _ l.i (search rules) c.key_at.ensures c.has_name.ensures ∙ rw c.if-has_name.false
 
 pub returns : goal.returns
 unfolding names_in
-returns c = let l = c.loop-i in sym (l.invariant.1 ∙ any-over name_in key_row max_listed _ _ l.i (search rules))
+returns c = let l = c.loop-i in sym (l.invariant ∙ any-over name_in key_row max_listed _ _ l.i (search rules))

@@ -1,4 +1,3 @@
-use Prim.Native.Nat.{◌-◌, ◌≤◌}
 use mathlib.Core.Path.{◌≡◌}
 use lib.ListN.{drop}
 use Rattle.model.specs.Base.{any, among}
@@ -6,7 +5,4 @@ use Rattle.steps.specs.Steps.{names_in}
 use Rattle.matching.proofs.conflict.share.Given as goal
 
 abbrev pub invariant-loop-i : goal.invariant-loop-i
-invariant-loop-i l = (l.i ≤ l.n) × (any (λ x. among x (names_in l.b)) (names_in l.a) ≡ any (λ x. among x (names_in l.b)) (drop l.i (names_in l.a)))
-
-abbrev pub decreases-loop-i : goal.decreases-loop-i
-decreases-loop-i l = l.n - l.i
+invariant-loop-i l = any (λ x. among x (names_in l.b)) (names_in l.a) ≡ any (λ x. among x (names_in l.b)) (drop l.i (names_in l.a))

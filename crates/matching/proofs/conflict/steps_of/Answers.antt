@@ -5,7 +5,6 @@ use Rattle.layout.specs.Layout.{counted}
 use Rattle.steps.specs.Steps.{step_of, steps_in}
 use Rattle.layout.proofs.Counts.{counted-all}
 use Rattle.steps.proofs.StepPushes.{key-step-turn}
-use borrow.Author.Rules.{rules}
 use native.Mathlib.Omega.{arith}
 use Rattle.matching.proofs.conflict.steps_of.Goals as goal
 
@@ -13,16 +12,16 @@ use Rattle.matching.proofs.conflict.steps_of.Goals as goal
 
 pub loop-i-init : goal.loop-i-init
 unfolding steps_in counted as_steps
-loop-i-init c = (search rules, refl, refl)
+loop-i-init c = (refl, refl)
 
 pub loop-i-preserved : goal.loop-i-preserved
 unfolding step_of
 loop-i-preserved c =
     let push = c.push_step in
     let l = c.loop-i in
-    let turn = key-step-turn _ l.i (omega arith) (steps_in l.steps) (steps_in push.new.slot) l.invariant.2 _ c.key_at.ensures _ c.one_name-names.ensures.0 push.ensures.slot_after in
-    (search rules, push.auto.slot ∙ l.invariant.1, turn)
+    let turn = key-step-turn _ l.i (omega arith) (steps_in l.steps) (steps_in push.new.slot) l.invariant.1 _ c.key_at.ensures _ c.one_name-names.ensures.0 push.ensures.slot_after in
+    (push.auto.slot ∙ l.invariant.0, turn)
 
 pub returns : goal.returns
 unfolding path_in
-returns c = let l = c.loop-i in l.invariant.2 ∙ ap as_steps (counted-all _ _ _ _ l.i (omega arith))
+returns c = let l = c.loop-i in l.invariant.1 ∙ ap as_steps (counted-all _ _ _ _ l.i (omega arith))

@@ -1,4 +1,3 @@
-use Prim.Native.Nat.{◌-◌, ◌≤◌}
 use mathlib.Core.Path.{◌≡◌}
 use lib.ListN.{length, take}
 use Rattle.model.specs.Paths.{as_steps}
@@ -7,7 +6,4 @@ use Rattle.steps.specs.Steps.{steps_slot, steps_in}
 use Rattle.matching.proofs.conflict.steps_of.Given as goal
 
 abbrev pub invariant-loop-i : goal.invariant-loop-i
-invariant-loop-i l = (l.i ≤ l.n) × (length l.steps ≡ steps_slot) × (steps_in l.steps ≡ as_steps (take l.i (path_in l.slot)))
-
-abbrev pub decreases-loop-i : goal.decreases-loop-i
-decreases-loop-i l = l.n - l.i
+invariant-loop-i l = (length l.steps ≡ steps_slot) × (steps_in l.steps ≡ as_steps (take l.i (path_in l.slot)))

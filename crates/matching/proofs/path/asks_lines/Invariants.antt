@@ -1,4 +1,3 @@
-use Prim.Native.Nat.{◌-◌, ◌≤◌}
 use mathlib.Core.Path.{◌≡◌}
 use lib.ListN.{drop}
 use Rattle.model.specs.Base.{any}
@@ -7,7 +6,4 @@ use Rattle.matching.specs.Parts.{asks}
 use Rattle.matching.proofs.path.asks_lines.Given as goal
 
 abbrev pub invariant-loop-i : goal.invariant-loop-i
-invariant-loop-i l = (l.i ≤ l.depth) × (any asks (steps_in l.steps) ≡ any asks (drop l.i (steps_in l.steps)))
-
-abbrev pub decreases-loop-i : goal.decreases-loop-i
-decreases-loop-i l = l.depth - l.i
+invariant-loop-i l = any asks (steps_in l.steps) ≡ any asks (drop l.i (steps_in l.steps))

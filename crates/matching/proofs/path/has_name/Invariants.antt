@@ -1,4 +1,3 @@
-use Prim.Native.Nat.{◌-◌, ◌≤◌}
 use mathlib.Core.Path.{◌≡◌}
 use lib.ListN.{drop}
 use Rattle.model.specs.Base.{among}
@@ -6,7 +5,4 @@ use Rattle.steps.specs.Steps.{names_in}
 use Rattle.matching.proofs.path.has_name.Given as goal
 
 abbrev pub invariant-loop-i : goal.invariant-loop-i
-invariant-loop-i l = (l.i ≤ l.n) × (among l.key (names_in l.names) ≡ among l.key (drop l.i (names_in l.names)))
-
-abbrev pub decreases-loop-i : goal.decreases-loop-i
-decreases-loop-i l = l.n - l.i
+invariant-loop-i l = among l.key (names_in l.names) ≡ among l.key (drop l.i (names_in l.names))

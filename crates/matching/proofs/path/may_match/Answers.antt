@@ -1,5 +1,4 @@
-use mathlib.Core.Path.{refl, sym, ◌∙◌}
-use borrow.Author.Tests.{not-true, not-false}
+use mathlib.Core.Path.{sym, ◌∙◌}
 use borrow.Author.Rules.{rules}
 use Rattle.matching.specs.Parts.{may_match}
 use Rattle.matching.proofs.Matched.{paired-unlike, paired-step, paired-end}
@@ -11,9 +10,6 @@ pub returns-then-count-n : goal.returns-then-count-n
 unfolding may_match
 returns-then-count-n c = sym (paired-unlike _ _ _ (rw (c.count.ensures, c.count-n.ensures) at c.if-count-n.true))
 
-pub loop-i-init : goal.loop-i-init
-loop-i-init c = (search rules, refl)
-
 pub may_admit-requires : goal.may_admit-requires
 may_admit-requires c = c.row_at.ensures.1
 
@@ -21,18 +17,16 @@ pub returns-then-not-may_admit : goal.returns-then-not-may_admit
 unfolding may_match
 returns-then-not-may_admit c =
     let l = c.loop-i in
-    sym (l.invariant.1 ∙ paired-step _ _ _ l.i (search rules) (search rules) c.row_at.ensures.0 c.key_at.ensures c.may_admit.ensures
-    ∙ rw (not-true c.may_admit.result c.if-not-may_admit.true-raw))
+    sym (l.invariant ∙ paired-step _ _ _ l.i (search rules) (search rules) c.row_at.ensures.0 c.key_at.ensures c.may_admit.ensures
+    ∙ rw c.if-not-may_admit.true)
 
 pub loop-i-preserved : goal.loop-i-preserved
 unfolding may_match
 loop-i-preserved c =
-    let l = c.loop-i in (
-      search rules,
-      l.invariant.1 ∙ paired-step _ _ _ l.i (search rules) (search rules) c.row_at.ensures.0 c.key_at.ensures c.may_admit.ensures
-          ∙ rw (not-false c.may_admit.result c.if-not-may_admit.false-raw),
-    )
+    let l = c.loop-i in
+    l.invariant ∙ paired-step _ _ _ l.i (search rules) (search rules) c.row_at.ensures.0 c.key_at.ensures c.may_admit.ensures
+    ∙ rw c.if-not-may_admit.false
 
 pub returns : goal.returns
 unfolding may_match
-returns c = let l = c.loop-i in sym (l.invariant.1 ∙ paired-end _ _ _ l.i (search rules) (search rules))
+returns c = let l = c.loop-i in sym (l.invariant ∙ paired-end _ _ _ l.i (search rules) (search rules))

@@ -1,4 +1,3 @@
-use Prim.Native.Nat.{◌-◌, ◌≤◌}
 use mathlib.Core.Path.{◌≡◌}
 use lib.ListN.{drop}
 use Rattle.paths.specs.Layout.{path_in}
@@ -8,7 +7,4 @@ use Rattle.matching.proofs.path.may_match.Given as goal
 
 abbrev pub invariant-loop-i : goal.invariant-loop-i
 invariant-loop-i l =
-    (l.i ≤ l.n) × (may_match (steps_in l.steps) (path_in l.slot) ≡ may_match (drop l.i (steps_in l.steps)) (drop l.i (path_in l.slot)))
-
-abbrev pub decreases-loop-i : goal.decreases-loop-i
-decreases-loop-i l = l.n - l.i
+    may_match (steps_in l.steps) (path_in l.slot) ≡ may_match (drop l.i (steps_in l.steps)) (drop l.i (path_in l.slot))

@@ -18,17 +18,17 @@ small c =
     quota-small _ i c.row_at.ensures.0 c.quota-sum.ensures (omega (arith, byte (i * user_row + quota_at))) (omega (arith, byte (i * user_row + (quota_at + 1))))
 
 pub row_at-requires : goal.row_at-requires
-row_at-requires c = user-inside _ c.row_count-n.ensures c.loop-i.i c.loop-i-test.true (search rules)
+row_at-requires c = user-inside _ c.row_count-i-end.ensures c.loop-i.i c.loop-i-test.true (search rules)
 
 pub overflow_add-sum : goal.overflow_add-sum
 overflow_add-sum c =
-    omega (arith, small c, user-inside _ c.row_count-n.ensures c.loop-i.i c.loop-i-test.true (search rules))
+    omega (arith, small c, user-inside _ c.row_count-i-end.ensures c.loop-i.i c.loop-i-test.true (search rules))
 
 pub loop-i-preserved : goal.loop-i-preserved
 loop-i-preserved c =
     let l = c.loop-i in
-    let left = quota-left _ c.row_count-n.ensures l.i c.loop-i-test.true c.row_at.ensures.0 c.quota-sum.ensures in
-    (search rules, omega (arith, small c), omega (arith, left))
+    let left = quota-left _ c.row_count-i-end.ensures l.i c.loop-i-test.true c.row_at.ensures.0 c.quota-sum.ensures in
+    (omega (arith, small c), omega (arith, left))
 
 pub returns : goal.returns
-returns c = let l = c.loop-i in omega (arith, quotas-over _ c.row_count-n.ensures l.i (search rules))
+returns c = let l = c.loop-i in omega (arith, quotas-over _ c.row_count-i-end.ensures l.i (search rules))

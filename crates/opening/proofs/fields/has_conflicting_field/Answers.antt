@@ -1,5 +1,5 @@
 use Prim.Native.Nat.{◌+◌}
-use mathlib.Core.Path.{◌≡◌, refl, sym, ◌∙◌}
+use mathlib.Core.Path.{◌≡◌, sym, ◌∙◌}
 use mathlib.Core.Bool.{◌||◌}
 use lib.ListN.{drop}
 use native.Mathlib.Omega.{arith}
@@ -22,20 +22,17 @@ turn : (c : After-has_conflict)
     any p (fields_in a.table.now) ≡ (c.has_conflict.result || any p (drop (i + 1) (fields_in a.table.now)))
 turn c =
     let l = c.loop-i in
-    l.invariant.1 ∙ conflicts-left _ c.count-n.ensures l.i c.loop-i-test.true _ c.slot_at.ensures.0 c.steps_of-steps.ensures c.has_conflict.ensures
-
-pub loop-i-init : goal.loop-i-init
-loop-i-init c = (search rules, refl)
+    l.invariant ∙ conflicts-left _ c.count-i-end.ensures l.i c.loop-i-test.true _ c.slot_at.ensures.0 c.steps_of-steps.ensures c.has_conflict.ensures
 
 pub slot_at-requires : goal.slot_at-requires
-slot_at-requires c = omega (arith, c.count-n.ensures, fields_fit c.args.table.now)
+slot_at-requires c = omega (arith, c.count-i-end.ensures, fields_fit c.args.table.now)
 
 pub returns-then-has_conflict : goal.returns-then-has_conflict
 returns-then-has_conflict c = sym (turn (goal.at.returns-then-has_conflict c).After-has_conflict ∙ rw c.if-has_conflict.true)
 
 pub loop-i-preserved : goal.loop-i-preserved
-loop-i-preserved c = (search rules, turn (goal.at.loop-i-preserved c).After-has_conflict ∙ rw c.if-has_conflict.false)
+loop-i-preserved c = turn (goal.at.loop-i-preserved c).After-has_conflict ∙ rw c.if-has_conflict.false
 
 pub returns : goal.returns
 unfolding any
-returns c = let l = c.loop-i in sym (l.invariant.1 ∙ rw (fields-over _ c.count-n.ensures l.i (search rules)))
+returns c = let l = c.loop-i in sym (l.invariant ∙ rw (fields-over _ c.count-i-end.ensures l.i (search rules)))

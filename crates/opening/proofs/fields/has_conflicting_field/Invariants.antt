@@ -1,4 +1,3 @@
-use Prim.Native.Nat.{◌-◌, ◌≤◌}
 use mathlib.Core.Path.{◌≡◌}
 use lib.ListN.{drop}
 use Rattle.model.specs.Base.{any}
@@ -8,7 +7,4 @@ use Rattle.opening.proofs.Conflicting.{conflicts}
 use Rattle.opening.proofs.fields.has_conflicting_field.Given as goal
 
 abbrev pub invariant-loop-i : goal.invariant-loop-i
-invariant-loop-i l = (l.i ≤ l.n) × (any (conflicts (policy_in l.policy)) (fields_in l.table) ≡ any (conflicts (policy_in l.policy)) (drop l.i (fields_in l.table)))
-
-abbrev pub decreases-loop-i : goal.decreases-loop-i
-decreases-loop-i l = l.n - l.i
+invariant-loop-i l = any (conflicts (policy_in l.policy)) (fields_in l.table) ≡ any (conflicts (policy_in l.policy)) (drop l.i (fields_in l.table))

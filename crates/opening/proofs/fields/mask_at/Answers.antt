@@ -10,18 +10,11 @@ use Rattle.opening.proofs.fields.mask_at.Goals as goal
 pub slot_at-slot-requires : goal.slot_at-slot-requires
 slot_at-slot-requires c = omega (arith, c.requires.i_in_bounds, fields_fit c.args.table.now)
 
-pub slot_at-requires : goal.slot_at-requires
-slot_at-requires c =
-    omega (arith, c.previous.ensures, c.requires.i_in_bounds, fields_fit c.args.table.now)
-
-pub keep_first-requires : goal.keep_first-requires
-keep_first-requires c = c.requires.found.long
-
 pub readers_by-requires : goal.readers_by-requires
 readers_by-requires c =
     let s = c.args.table.now in
-    let place = c.previous.ensures in
-    let last = rw place at (slot-path s _ c.previous.result c.slot_at.ensures.0 (omega (arith, place, c.requires.i_in_bounds))) in
+    let place = c.saturating_sub.ensures in
+    let last = rw place at (slot-path s _ c.saturating_sub.result c.slot_at.ensures.0 (omega (arith, place, c.requires.i_in_bounds))) in
     record { path_slot_in_bounds = search rules; found = c.keep_first.ensures _ _ _ (le_of_eq c.shared_keys.ensures) (rw last c.requires.found) }
 
 pub returns : goal.returns

@@ -1,4 +1,4 @@
-use Prim.Native.Nat.{◌-◌, ◌≤◌}
+use Prim.Native.Nat.{◌-◌}
 use mathlib.Core.Path.{◌≡◌}
 use Rattle.layout.specs.Layout.{Keeps}
 use Rattle.tables.specs.Memory.{users_in, tables_in}
@@ -9,8 +9,5 @@ use Rattle.opening.proofs.fields.set_masks.Given as goal
 
 abbrev pub invariant-loop-i : goal.invariant-loop-i
 invariant-loop-i l =
-    (l.i ≤ l.n) × (fields_in l.table ≡ fields_in l.initial.table) × (masks_in l.table ≡ masks_below (tables_in l.tables) (fields_in l.initial.table) (masks_in l.initial.table) l.i) × Keeps CanonicalFields l.initial.table l.table
+    (fields_in l.table ≡ fields_in l.initial.table) × (masks_in l.table ≡ masks_below (tables_in l.tables) (fields_in l.initial.table) (masks_in l.initial.table) l.i) × Keeps CanonicalFields l.initial.table l.table
     × Found (users_in l.tables) (field_at (l.i - 1) (fields_in l.initial.table)).path l.found
-
-abbrev pub decreases-loop-i : goal.decreases-loop-i
-decreases-loop-i l = l.n - l.i

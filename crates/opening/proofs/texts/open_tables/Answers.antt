@@ -1,4 +1,5 @@
 use mathlib.Core.Path.{◌≡◌}
+use Rattle.std.proofs.lemmas.Result.{err_from_is_err_and}
 use Rattle.tables.specs.Memory.{tables_in}
 use Rattle.tables.proofs.Encoded.{tables-none}
 use Rattle.opening.proofs.Zeros.{no-tables}
@@ -13,54 +14,45 @@ use Rattle.opening.proofs.texts.open_tables.Goals as goal
 start : (c : After-read_table) → tables_in c.args.tables.now ≡ no_tables
 start c = rw c.requires.tables_value no-tables
 
-pub returns-in-Refused : goal.returns-in-Refused
-returns-in-Refused c =
-    let zeros = start (goal.at.returns-in-Refused c).After-read_table in
-    let first = c.read_table.ensures in
+pub returns-in_err-in_text : goal.returns-in_err-in_text
+returns-in_err-in_text c =
+    let zeros = start (goal.at.returns-in_err-in_text c).After-read_table in
+    let p = err_from_is_err_and c.from_residual.result c.from_residual.ensures.1 in
     record {
-      tables_after = users-refused _ _ _ zeros first.reads_table c.in-Refused.is;
-      canonical_tables = first.keeps (tables-none c.requires.tables_value);
+      tables_after = rw (p.1, p.2) (users-refused _ _ _ zeros _ c.read_table.ensures.reads_table _ c.in_text.ensures c.in_err-in_text.was);
+      canonical_tables = c.read_table.ensures.keeps (tables-none c.requires.tables_value);
     }
 
-pub returns-in-Refused-read_table : goal.returns-in-Refused-read_table
-returns-in-Refused-read_table c =
-    let zeros = start (goal.at.returns-in-Refused-read_table c).After-read_table in
-    let first = c.read_table.ensures in
-    let second = c.read_table-2.ensures in
+pub returns-in_err-in_text-2 : goal.returns-in_err-in_text-2
+returns-in_err-in_text-2 c =
+    let zeros = start (goal.at.returns-in_err-in_text-2 c).After-read_table in
+    let p = err_from_is_err_and c.from_residual-in_err-in_text-2.result c.from_residual-in_err-in_text-2.ensures.1 in
     record {
-      tables_after = environments-refused _ _ _ zeros first.reads_table c.in_default.is second.reads_table c.in-Refused-read_table.is;
-      canonical_tables = second.keeps (first.keeps (tables-none c.requires.tables_value));
+      tables_after = rw (p.1, p.2) (environments-refused _ _ _ zeros _ c.read_table.ensures.reads_table _ c.in_text.ensures c.in_ok-in_text.was _ c.read_table-2.ensures.reads_table _ c.in_text-2.ensures c.in_err-in_text-2.was);
+      canonical_tables = c.read_table-2.ensures.keeps (c.read_table.ensures.keeps (tables-none c.requires.tables_value));
     }
 
-pub returns-in-Refused-read_table-2 : goal.returns-in-Refused-read_table-2
-returns-in-Refused-read_table-2 c =
-    let zeros = start (goal.at.returns-in-Refused-read_table-2 c).After-read_table in
-    let first = c.read_table.ensures in
-    let second = c.read_table-2.ensures in
-    let third = c.read_table-3.ensures in
+pub returns-in_err-in_text-3 : goal.returns-in_err-in_text-3
+returns-in_err-in_text-3 c =
+    let zeros = start (goal.at.returns-in_err-in_text-3 c).After-read_table in
+    let p = err_from_is_err_and c.from_residual-in_err-in_text-3.result c.from_residual-in_err-in_text-3.ensures.1 in
     record {
-      tables_after = policy-refused _ _ _ zeros first.reads_table c.in_default.is second.reads_table c.in_default-read_table.is _ third.reads_table c.in-Refused-read_table-2.is;
-      canonical_tables = third.keeps (second.keeps (first.keeps (tables-none c.requires.tables_value)));
+      tables_after = rw (p.1, p.2) (policy-refused _ _ _ zeros _ c.read_table.ensures.reads_table _ c.in_text.ensures c.in_ok-in_text.was _ c.read_table-2.ensures.reads_table _ c.in_text-2.ensures c.in_ok-in_text-2.was _ _ c.read_table-3.ensures.reads_table _ c.in_text-3.ensures c.in_err-in_text-3.was);
+      canonical_tables = c.read_table-3.ensures.keeps (c.read_table-2.ensures.keeps (c.read_table.ensures.keeps (tables-none c.requires.tables_value)));
     }
 
-pub returns-then-n-ne0 : goal.returns-then-n-ne0
-returns-then-n-ne0 c =
-    let zeros = start (goal.at.returns-then-n-ne0 c).After-read_table in
-    let first = c.read_table.ensures in
-    let second = c.read_table-2.ensures in
-    let third = c.read_table-3.ensures in
+pub returns-in-Some : goal.returns-in-Some
+returns-in-Some c =
+    let zeros = start (goal.at.returns-in-Some c).After-read_table in
     record {
-      tables_after = in-conflict _ _ _ zeros first.reads_table c.in_default.is second.reads_table c.in_default-read_table.is _ third.reads_table c.in_default-read_table-2.is c.conflict_in-n.ensures c.if-n-ne0.true;
-      canonical_tables = third.keeps (second.keeps (first.keeps (tables-none c.requires.tables_value)));
+      tables_after = in-conflict _ _ _ zeros _ c.read_table.ensures.reads_table _ c.in_text.ensures c.in_ok-in_text.was _ c.read_table-2.ensures.reads_table _ c.in_text-2.ensures c.in_ok-in_text-2.was _ _ c.read_table-3.ensures.reads_table _ c.in_text-3.ensures c.in_ok-in_text-3.was c.conflict_in.ensures c.in-Some.is;
+      canonical_tables = c.read_table-3.ensures.keeps (c.read_table-2.ensures.keeps (c.read_table.ensures.keeps (tables-none c.requires.tables_value)));
     }
 
 pub returns : goal.returns
 returns c =
     let zeros = start (goal.at.returns c).After-read_table in
-    let first = c.read_table.ensures in
-    let second = c.read_table-2.ensures in
-    let third = c.read_table-3.ensures in
     record {
-      tables_after = accepted _ _ _ zeros first.reads_table c.in_default.is second.reads_table c.in_default-read_table.is _ third.reads_table c.in_default-read_table-2.is c.conflict_in-n.ensures c.if-n-ne0.false;
-      canonical_tables = third.keeps (second.keeps (first.keeps (tables-none c.requires.tables_value)));
+      tables_after = accepted _ _ _ zeros _ c.read_table.ensures.reads_table _ c.in_text.ensures c.in_ok-in_text.was _ c.read_table-2.ensures.reads_table _ c.in_text-2.ensures c.in_ok-in_text-2.was _ _ c.read_table-3.ensures.reads_table _ c.in_text-3.ensures c.in_ok-in_text-3.was c.conflict_in.ensures c.in_default.is;
+      canonical_tables = c.read_table-3.ensures.keeps (c.read_table-2.ensures.keeps (c.read_table.ensures.keeps (tables-none c.requires.tables_value)));
     }

@@ -17,7 +17,7 @@ use Rattle.paths.proofs.field.put_path.Goals as goal
 
 pub loop-i-init : goal.loop-i-init
 unfolding joined
-loop-i-init c = (search rules, search rules, refl, wrote_none _ _)
+loop-i-init c = (search rules, refl, wrote_none _ _)
 
 pub put_quoted-to-requires : goal.put_quoted-to-requires
 put_quoted-to-requires c = let k = name-length max_key _ c.key_at.ensures (simp length-take (omega arith)) in omega arith
@@ -37,8 +37,8 @@ loop-i-preserved c =
     let quoted = c.put_quoted-to.ensures in
     let end = wrote-both _ _ _ _ _ _ _ _ quoted c.put_byte-to-in-loop-i-2.ensures in
     let key = wrote-both _ _ _ _ _ _ _ _ c.put_byte-to-in-loop-i.ensures end in
-    let all = wrote-both _ _ _ _ _ _ _ _ l.invariant.3 key in
-    (search rules, omega (arith, simp length-append at quoted.0), search rules, rw (spelled_step_lem name_in key_row max_depth key_text s l.i (search rules), ← name) all)
+    let all = wrote-both _ _ _ _ _ _ _ _ l.invariant.2 key in
+    (omega (arith, simp length-append at quoted.0), search rules, rw (spelled_step_lem name_in key_row max_depth key_text s l.i (search rules), ← name) all)
 
 pub returns : goal.returns
 unfolding path_in text
@@ -46,4 +46,4 @@ returns c =
     let l = c.loop-i in
     let s = c.args.slot.now in
     rw (keys-text, ← spelled-all name_in key_row max_depth key_text s l.i (search rules))
-    (wrote-both _ _ _ _ _ _ _ _ c.put_byte-to.ensures l.invariant.3)
+    (wrote-both _ _ _ _ _ _ _ _ c.put_byte-to.ensures l.invariant.2)

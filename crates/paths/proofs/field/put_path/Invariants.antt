@@ -1,4 +1,4 @@
-use Prim.Native.Nat.{◌+◌, ◌*◌, ◌-◌, ◌≤◌}
+use Prim.Native.Nat.{◌+◌, ◌*◌, ◌≤◌}
 use mathlib.Core.Path.{◌≡◌}
 use lib.ListN.{length}
 use Rattle.rows.specs.Rows.{Wrote}
@@ -10,7 +10,4 @@ use Rattle.paths.proofs.field.put_path.Given as goal
 
 abbrev pub invariant-loop-i : goal.invariant-loop-i
 invariant-loop-i l =
-    (l.i ≤ l.n) × (l.to ≤ l.initial.to + (max_key + 4) * l.i) × (length l.out ≡ length l.initial.out) × Wrote l.initial.to (spelled name_in key_row max_depth key_text l.slot l.i) l.initial.out l.to l.out
-
-abbrev pub decreases-loop-i : goal.decreases-loop-i
-decreases-loop-i l = l.n - l.i
+    (l.to ≤ l.initial.to + (max_key + 4) * l.i) × (length l.out ≡ length l.initial.out) × Wrote l.initial.to (spelled name_in key_row max_depth key_text l.slot l.i) l.initial.out l.to l.out

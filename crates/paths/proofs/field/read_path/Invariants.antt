@@ -10,7 +10,7 @@ use Rattle.paths.proofs.field.read_path.Given as goal
 
 abbrev pub invariant-loop-at : goal.invariant-loop-at
 invariant-loop-at l =
-    (l.at ≤ length l.s) × (length l.slot ≡ path_slot) × (l.n ≡ length (path_in l.slot)) × (keys_of l.s ≡ left read_key_step (path_in l.slot) (drop l.at l.s)) × CanonicalKeys max_depth l.slot
+    (l.at ≤ length l.s) × (length l.slot ≡ path_slot) × (keys_of l.s ≡ left read_key_step (path_in l.slot) (drop l.at l.s)) × CanonicalKeys max_depth l.slot
 
 abbrev pub decreases-loop-at : goal.decreases-loop-at
 decreases-loop-at l = length l.s - l.at

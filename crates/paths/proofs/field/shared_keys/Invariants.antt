@@ -1,4 +1,3 @@
-use Prim.Native.Nat.{◌-◌, ◌≤◌}
 use mathlib.Core.Path.{◌≡◌}
 use Rattle.paths.specs.Layout.{path_in}
 use Rattle.paths.specs.Fields.{shared}
@@ -6,7 +5,4 @@ use Rattle.paths.proofs.Shared.{shared_from}
 use Rattle.paths.proofs.field.shared_keys.Given as goal
 
 abbrev pub invariant-loop-i : goal.invariant-loop-i
-invariant-loop-i l = (l.i ≤ l.m) × (shared (path_in l.a) (path_in l.b) ≡ shared_from l.i l.a l.b)
-
-abbrev pub decreases-loop-i : goal.decreases-loop-i
-decreases-loop-i l = l.m - l.i
+invariant-loop-i l = shared (path_in l.a) (path_in l.b) ≡ shared_from l.i l.a l.b

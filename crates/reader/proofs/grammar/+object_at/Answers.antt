@@ -1,194 +1,163 @@
-use Prim.Native.Nat.{ℕ, ◌+◌, ◌-◌}
-use mathlib.Core.Path.{◌≡◌, refl, sym, ap, ◌∙◌}
+use Prim.Native.Nat.{ℕ, ◌+◌, ◌-◌, ◌≤◌}
+use mathlib.Core.Path.{◌≡◌, sym, ap, ◌∙◌}
 use Rattle.std.specs.Prelude.{Some}
 use mathlib.Core.Bool.{Bool, ◌||◌}
 use native.Mathlib.Omega.{arith}
-use lib.ListN.{take, drop, set}
+use lib.ListN.{take, set}
 use Rattle.rows.specs.Positions.{Reads, placed}
+use Rattle.rows.proofs.Positions.{none-placed}
 use Rattle.model.specs.RecordText.{Node, member, count, twice}
-use Rattle.values.proofs.Values.{told}
-use Rattle.reader.specs.Tokens.{mapped}
-use Rattle.reader.specs.Summaries.{summary, object_answer, FieldsWithin}
-use Rattle.reader.specs.declared.grammar.ObjectAt.TheVariants.{At}
-use Rattle.reader.proofs.Spaced.{token-moves, open-stands, close-stands, comma-stands, no-open, no-close, no-comma, key-bad, MemberStands, member-stands}
+use Rattle.reader.specs.Tokens.{key_answer, mapped}
+use Rattle.reader.specs.Summaries.{summary, object_answer}
+use Rattle.reader.specs.declared.tokens.Token.TheVariants.{Open, Close, Comma}
+use Rattle.reader.proofs.Spaced.{token-moves, token-absent, token-stands, token-other, MemberStands, member-stands}
 use Rattle.reader.proofs.Mapped.{mapped-is, mapped-bad, mapped-reads}
 use Rattle.reader.proofs.Objects.{read_node, leaves-node, leaves-object, node-leaf, node-mapped, object-none, object-unopened, left-start, left-no-member, left-no-value, left-unclosed, left-last, left-again}
-use Rattle.reader.proofs.Sums.{Sums, node_summary, sums-start, sums_on, sums-room, sums_kept, sums-more, within-earlier}
-use Rattle.reader.proofs.grammar.+object_at.Goals.{In-At, Joined-leaf, in-At-leaf, in-Bad}
+use Rattle.reader.proofs.Sums.{Sums, node_summary, sums-start, sums_on, sums_kept, sums-more}
+use borrow.Author.Rules.{rules}
+use Rattle.reader.proofs.grammar.+object_at.Goals.{In_ok-key, Joined-leaf_at, in-Some, in-None+in_ok-held-in-None}
 use Rattle.reader.proofs.grammar.+object_at.Goals as goal
 
 -- The loop keeps what is left to read and the sums of the members before; an object that a key holds is read with one key less.
 
 -- ── Behind a key and its colon: where the key stands, and where what it holds begins ──
-stands : (t : ℕ) (c : In-At t) → MemberStands c.args.s.now c.loop-from.i c.in-At.from c.in-At.to c.in-At.v
-stands t c =
-    let m = c.member_at.ensures in
-    member-stands _ _ _ m.result_value m.member_in_text c.loop-from.invariant.1.to _ _ _ c.in-At.is
+stands : (t : ℕ) (c : In_ok-key t) → MemberStands c.args.s.now c.loop-key.i c.in_ok-key.key
+stands t c = let m = c.in_ok-key.ensures in member-stands _ _ _ m.result_value m.member_in_text c.loop-key.invariant.1.to
 
 -- ── Behind what the key holds ──
 -- the same, there
-key : (t : ℕ) (c : Joined-leaf t) → MemberStands c.args.s.now c.loop-from.i c.in-At.from c.in-At.to c.in-At.v
-key t c =
-    let m = c.member_at.ensures in
-    member-stands _ _ _ m.result_value m.member_in_text c.loop-from.invariant.1.to _ _ _ c.in-At.is
+key : (t : ℕ) (c : Joined-leaf_at t) → MemberStands c.args.s.now c.loop-key.i c.in_ok-key.key
+key t c = let m = c.in_ok-key.ensures in member-stands _ _ _ m.result_value m.member_in_text c.loop-key.invariant.1.to
 
 -- the answer says the sums of what the key holds, and the positions up to this key's are kept
-held : (t : ℕ) (c : Joined-leaf t)
-    → let l = c.loop-from in
-    (object_answer c.match-leaf.got ≡ placed (mapped node_summary (read_node (c.args.depth - 1))) c.args.s.now c.in-At.v)
-    × FieldsWithin l.i c.match-leaf.got
-    × (take (l.n + 1) c.match-leaf.keys ≡ take (l.n + 1) (set l.keys l.n c.in-At.from))
+held : (t : ℕ) (c : Joined-leaf_at t)
+    → let l = c.loop-key in
+    let h = c.match-leaf_at in
+    (Some (object_answer h.held) ≡ placed (mapped node_summary (read_node (c.args.depth - 1))) c.args.s.now c.in_ok-key.key.next)
+    × (l.i + h.held.fields ≤ h.held.end)
+    × (take (l.n + 1) h.keys ≡ take (l.n + 1) (set l.keys l.n c.in_ok-key.key.from))
 unfolding node_summary summary count twice
 held t c =
     let noted = c.note_key-seen in
     let k = key t c in
-    let l = c.loop-from in
-    let leaf = c.leaf_at-leaf.ensures.result_value in
-    elim c.match-leaf.branch [
-      | in-At-leaf w ↦ let node = node-leaf _ _ _ _ leaf k.reads.to _ _ w.in-At-leaf.is in (
-        ap object_answer w.got-is ∙ mapped-is node_summary (read_node _) _ _ _ _ node,
-        rw w.got-is (omega (arith, k.quote, k.least, k.colon, node.from)),
-        ap (take (l.n + 1)) (w.keys-is ∙ noted.ensures.keys_after),
-      )
-      | in-Bad w ↦ let inner = w.object_at-got in (
-        ap object_answer w.got-is ∙ inner.ensures.result_value ∙ node-mapped _ _ _ _ leaf w.in-Bad.is node_summary,
-        rw w.got-is (within-earlier _ _ k.reads.from inner.result inner.ensures.fields_within),
-        ap (take (l.n + 1)) w.keys-is ∙ inner.ensures.keys_unchanged ∙ ap (take (l.n + 1)) noted.ensures.keys_after,
-      )
+    let l = c.loop-key in
+    let leaf = c.leaf_at.ensures.result_value in
+    elim c.match-leaf_at.branch [
+      | in-Some w ↦ let node = node-leaf _ _ _ _ leaf k.reads.to _ _ w.in-Some.is in
+          rw w.held-is (
+            mapped-is node_summary (read_node _) _ _ _ _ node,
+            omega (arith, k.quote, k.least, k.colon, node.from),
+            ap (take (l.n + 1)) (w.keys-is ∙ noted.ensures.keys_after),
+          )
+      | in-None+in_ok-held-in-None w ↦ let inner = w.in_ok-held-in-None.ensures in
+          rw w.held-is (
+            inner.result_value ∙ node-mapped _ _ _ _ leaf w.in-None.is node_summary,
+            omega (arith, k.reads.from, inner.fields_within),
+            ap (take (l.n + 1)) w.keys-is ∙ inner.keys_unchanged ∙ ap (take (l.n + 1)) noted.ensures.keys_after,
+          )
     ]
 
 -- where it ends, and the sums with one member more
-node-stands : (t : ℕ) (c : Joined-leaf t) (e more : ℕ) (again : Bool) → c.match-leaf.got ≡ At e more again
+node-stands : (t : ℕ) (c : Joined-leaf_at t)
     → let a = c.args in
-    let l = c.loop-from in
-    let k = c.in-At in
-    (node : Node) × Reads (read_node (a.depth - 1)) a.s.now k.v node e
-    × Sums a.s.now a.at a.top a.keys.now c.match-leaf.keys (l.n + 1) (l.fields + more)
-    (c.note_key-seen.result || again || l.twice) (member l.invariant.0 (take (k.to - k.from) (drop k.from a.s.now)) node) e
-node-stands t c e more again is =
+    let l = c.loop-key in
+    let k = c.in_ok-key.key in
+    let h = c.match-leaf_at in
+    (node : Node) × Reads (read_node (a.depth - 1)) a.s.now k.next node h.held.end
+    × Sums a.s.now a.at a.top a.keys.now h.keys (l.n + 1) (l.fields + h.held.fields)
+    (c.note_key-seen.result || h.held.twice || l.twice) (member l.invariant.0 (key_answer a.s.now k).0 node) h.held.end
+node-stands t c =
     let k = key t c in
     let h = held t c in
     let noted = c.note_key-seen in
-    let l = c.loop-from.invariant in
-    let read = told object_answer h.0 is in
-    let (node, reads, sums) = mapped-reads node_summary (read_node _) _ _ (leaves-node _ (leaves-object _)) k.reads.to _ _ read in (
+    let l = c.loop-key.invariant in
+    let (node, reads, sums) = mapped-reads node_summary (read_node _) _ _ (leaves-node _ (leaves-object _)) k.reads.to _ _ (sym h.0) in (
       node,
       reads,
-      sums-more _ _ _ _ _ _ _ _ _ _ l.2 c.requires.2 _ _ _ k _ noted.ensures.value
-          _ (c.match-leaf.auto.keys ∙ noted.auto.keys ∙ l.2.long) h.2 node _ _ _ reads.from (rw is at h.1) sums,
+      sums-more _ _ _ _ _ _ _ _ _ _ l.2 c.requires.2 _ k _ noted.ensures.value
+          _ (c.match-leaf_at.auto.keys ∙ noted.auto.keys ∙ l.2.long) h.2 node _ _ _ reads.from h.1 sums,
     )
 
 -- ── The start ──
-pub returns-then-depth-eq0 : goal.returns-then-depth-eq0
-returns-then-depth-eq0 t c = record { result_value = object-none _ _ _ _ c.if-depth-eq0.true; fields_within = tt; keys_unchanged = refl }
+pub returns-then-depth-eq0-clause-result_value : goal.returns-then-depth-eq0-clause-result_value
+returns-then-depth-eq0-clause-result_value t c = object-none _ _ _ _ c.if-depth-eq0.true
 
-pub token_at-requires : goal.token_at-requires
-token_at-requires t c = c.requires.0
+pub returns-in_err-open-clause-result_value : goal.returns-in_err-open-clause-result_value
+returns-in_err-open-clause-result_value t c =
+    rw c.from_residual.ensures (object-unopened _ _ _ _ (token-absent _ _ c.in_err-open.ensures Open))
 
-pub returns-in_default : goal.returns-in_default
-returns-in_default t c = record { result_value = object-unopened _ _ _ _ (no-open _ _ c.token_at.result c.token_at.ensures c.in_default.not-Open); fields_within = tt; keys_unchanged = refl }
+pub returns-in_default-clause-result_value : goal.returns-in_default-clause-result_value
+returns-in_default-clause-result_value t c = object-unopened _ _ _ _ (token-other _ _ _ _ c.in_ok-open.ensures c.requires.0 Open (search rules))
 
-pub loop-from-init : goal.loop-from-init
-loop-from-init t c =
-    let asks = c.requires in
-    let r = open-stands _ _ _ c.token_at.ensures asks.0 _ c.in-Open.is in
-    (_, left-start _ _ _ c.if-depth-eq0.false _ r, sums-start _ _ _ _ _ asks.3 r.from)
+pub loop-key-init : goal.loop-key-init
+loop-key-init t c =
+    let r = rw c.in-Open-default.is-0 at (token-stands _ _ _ _ c.in_ok-open.ensures c.requires.0) in
+    (_, left-start _ _ _ c.if-depth-eq0.false _ r, sums-start _ _ _ _ _ c.requires.3 r.from)
 
 -- ── A member ──
-pub member_at-requires : goal.member_at-requires
-member_at-requires t c = c.loop-from.invariant.1.to
+pub returns-in_err-key-clause-result_value : goal.returns-in_err-key-clause-result_value
+returns-in_err-key-clause-result_value t c =
+    rw c.from_residual-in_err-key.ensures (left-no-member _ _ _ _ _ c.loop-key.invariant.1 _ (none-placed _ _ _ (sym c.in_err-key.ensures.result_value)))
 
-pub returns-in_default-member_at : goal.returns-in_default-member_at
-returns-in_default-member_at t c =
-    let l = c.loop-from.invariant in record {
-      result_value = left-no-member _ _ _ _ _ l.1 _ (key-bad _ _ _ _ c.member_at.ensures.result_value c.in_default-member_at.is);
-      fields_within = tt;
-      keys_unchanged = l.2.kept;
-    }
+pub returns-in_err-held-in-None-clause-result_value : goal.returns-in_err-held-in-None-clause-result_value
+unfolding node_summary summary count twice
+returns-in_err-held-in-None-clause-result_value t c =
+    let k = stands t (goal.at.returns-in_err-held-in-None-clause-result_value t c).In_ok-key in
+    let inner = c.in_err-held-in-None.ensures.result_value ∙ node-mapped _ _ _ _ c.leaf_at.ensures.result_value c.in-None.is node_summary in
+    rw c.from_residual-in_err-held-in-None.ensures (left-no-value _ _ _ _ _ c.loop-key.invariant.1 _ _ k.reads _ (mapped-bad node_summary (read_node _) _ _ (sym inner)))
 
-pub overflow_add-to : goal.overflow_add-to
-overflow_add-to t c = let k = stands t c in omega (arith, k.colon, k.reads.to, c.requires.1)
+pub returns-in_err-held-in-None-clause-keys_unchanged : goal.returns-in_err-held-in-None-clause-keys_unchanged
+returns-in_err-held-in-None-clause-keys_unchanged t c =
+    let l = c.loop-key in
+    sums_kept _ _ _ _ _ _ _ _ _ _ l.invariant.2 _ _ (c.in_err-held-in-None.ensures.keys_unchanged ∙ ap (take (l.n + 1)) c.note_key-seen.ensures.keys_after)
 
-pub note_key-seen-requires : goal.note_key-seen-requires
-note_key-seen-requires t c =
-    let k = stands t (goal.at.note_key-seen-requires t c).In-At in
-    let asks = c.requires in
-    let l = c.loop-from.invariant.2 in
-    (omega (arith, k.least), omega (arith, k.colon, k.reads.to), asks.1, l.above, sums-room _ _ _ _ _ _ _ _ _ _ l asks.2 _ _ _ k)
+-- ── Behind what the key holds: no comma and no closing brace ──
+pub token_at-requires-in-loop-key : goal.token_at-requires-in-loop-key
+token_at-requires-in-loop-key t c = (node-stands t (goal.at.token_at-requires-in-loop-key t c).Joined-leaf_at).1.to
 
-pub overflow_add-n : goal.overflow_add-n
-overflow_add-n t c = let l = c.loop-from.invariant in omega (arith, l.2.room, l.1.to, c.requires.1)
+pub returns-in_err-next-clause-result_value : goal.returns-in_err-next-clause-result_value
+returns-in_err-next-clause-result_value t c =
+    let p = (goal.at.returns-in_err-next-clause-result_value t c).Joined-leaf_at in
+    let token = token-absent _ _ c.in_err-next.ensures in
+    rw c.from_residual-in_err-next.ensures (left-unclosed _ _ _ _ _ c.loop-key.invariant.1 _ _ (key t p).reads _ _ (node-stands t p).1 _ (token Comma) (token Close))
 
-pub leaf_at-leaf-requires : goal.leaf_at-leaf-requires
-leaf_at-leaf-requires t c = (stands t (goal.at.leaf_at-leaf-requires t c).In-At).reads.to
+pub returns-in_err-next-clause-keys_unchanged : goal.returns-in_err-next-clause-keys_unchanged
+returns-in_err-next-clause-keys_unchanged t c = (node-stands t (goal.at.returns-in_err-next-clause-keys_unchanged t c).Joined-leaf_at).2.kept
 
-pub object_at-got-requires : goal.object_at-got-requires
-object_at-got-requires t c =
-    let asks = c.requires in
-    let l = c.loop-from.invariant.2 in
-    let k = stands t (goal.at.object_at-got-requires t c).In-At in (
-      omega (arith, c.decreases, c.if-depth-eq0.false),
-      (
-        k.reads.to,
-        asks.1,
-        omega (arith, asks.2, c.note_key-seen.auto.keys, l.long),
-        omega (arith, l.room, k.quote, k.least, k.colon),
-      ),
-    )
+pub returns-in_default-2-clause-result_value : goal.returns-in_default-2-clause-result_value
+returns-in_default-2-clause-result_value t c =
+    let p = (goal.at.returns-in_default-2-clause-result_value t c).Joined-leaf_at in
+    let n = (node-stands t p).1 in
+    let token = token-other _ _ _ _ c.in_ok-next.ensures n.to in
+    left-unclosed _ _ _ _ _ c.loop-key.invariant.1 _ _ (key t p).reads _ _ n _ (token Comma (search rules)) (token Close (search rules))
 
-pub returns-in_default-got : goal.returns-in_default-got
-returns-in_default-got t c =
-    let p = (goal.at.returns-in_default-got t c).Joined-leaf in
-    let h = held t p in
-    let l = c.loop-from.invariant in record {
-      result_value = left-no-value _ _ _ _ _ l.1 _ _ (key t p).reads _ (mapped-bad node_summary (read_node _) _ _ (told object_answer h.0 c.in_default-got.is));
-      fields_within = tt;
-      keys_unchanged = sums_kept _ _ _ _ _ _ _ _ _ _ l.2 _ _ h.2;
-    }
+pub returns-in_default-2-clause-keys_unchanged : goal.returns-in_default-2-clause-keys_unchanged
+returns-in_default-2-clause-keys_unchanged t c = (node-stands t (goal.at.returns-in_default-2-clause-keys_unchanged t c).Joined-leaf_at).2.kept
 
-pub overflow_add-fields : goal.overflow_add-fields
-overflow_add-fields t c = let n = node-stands t (goal.at.overflow_add-fields t c).Joined-leaf _ _ _ c.in-At-got.is in omega (arith, n.1.to, n.2.within, c.requires.1)
-
-pub token_at-token-requires : goal.token_at-token-requires
-token_at-token-requires t c = (node-stands t (goal.at.token_at-token-requires t c).Joined-leaf _ _ _ c.in-At-got.is).1.to
-
--- ── The last member ──
-pub returns-in_default-token-2 : goal.returns-in_default-token-2
-returns-in_default-token-2 t c =
-    let p = (goal.at.returns-in_default-token-2 t c).Joined-leaf in
-    let n = node-stands t p _ _ _ c.in-At-got.is in
-    let token = c.token_at-token in record {
-      result_value = left-unclosed _ _ _ _ _ c.loop-from.invariant.1 _ _ (key t p).reads _ _ n.1 _
-          (no-comma _ _ token.result token.ensures c.in_default-token.not-Comma)
-          (no-close _ _ token.result token.ensures c.in_default-token-2.not-Close);
-      fields_within = tt;
-      keys_unchanged = n.2.kept;
-    }
-
-pub returns-in_default-token : goal.returns-in_default-token
-returns-in_default-token t c =
-    let p = (goal.at.returns-in_default-token t c).Joined-leaf in
-    let n = node-stands t p _ _ _ c.in-At-got.is in
-    let token = c.token_at-token in
-    let close = close-stands _ _ _ token.ensures n.1.to _ c.in-Close.is in record {
-      result_value = ap (λ (x : ℕ × Bool). Some (x, c.in-Close.close)) (sym n.2.sums)
-          ∙ left-last _ _ _ _ _ c.loop-from.invariant.1 _ _ (key t p).reads _ _ n.1 _
-          (no-comma _ _ token.result token.ensures c.in_default-token.not-Comma) _ close;
+-- ── A closing brace ──
+pub returns-in-Close-default : goal.returns-in-Close-default
+returns-in-Close-default t c =
+    let p = (goal.at.returns-in-Close-default t c).Joined-leaf_at in
+    let n = node-stands t p in
+    let token = c.in_ok-next.ensures in
+    let close = rw c.in-Close-default.is-0 at (token-stands _ _ _ _ token n.1.to) in record {
+      result_value = ap (λ (x : ℕ × Bool). Some (x, c.in_ok-next.field-0.1)) (sym n.2.sums)
+          ∙ left-last _ _ _ _ _ c.loop-key.invariant.1 _ _ (key t p).reads _ _ n.1 _ (token-other _ _ _ _ token n.1.to Comma (search rules)) _ close;
       fields_within = omega (arith, n.2.within, close.from);
       keys_unchanged = n.2.kept;
     }
 
--- ── Behind a comma ──
-pub loop-from-smaller : goal.loop-from-smaller
-loop-from-smaller t c =
-    let p = (goal.at.loop-from-smaller t c).Joined-leaf in
-    let n = node-stands t p _ _ _ c.in-At-got.is in
-    let r = comma-stands _ _ _ c.token_at-token.ensures n.1.to _ c.in-Comma.is in
+-- ── A comma ──
+pub loop-key-smaller : goal.loop-key-smaller
+loop-key-smaller t c =
+    let p = (goal.at.loop-key-smaller t c).Joined-leaf_at in
+    let n = node-stands t p in
+    let r = rw c.in-Comma-default.is-0 at (token-stands _ _ _ _ c.in_ok-next.ensures n.1.to) in
     omega (arith, (key t p).reads.from, n.1.from, token-moves _ _ _ _ r, r.to)
 
-pub loop-from-preserved : goal.loop-from-preserved
-loop-from-preserved t c =
-    let p = (goal.at.loop-from-preserved t c).Joined-leaf in
-    let n = node-stands t p _ _ _ c.in-At-got.is in
-    let r = comma-stands _ _ _ c.token_at-token.ensures n.1.to _ c.in-Comma.is in
-    (_, left-again _ _ _ _ _ c.loop-from.invariant.1 _ _ (key t p).reads _ _ n.1 _ r, sums_on _ _ _ _ _ _ _ _ _ _ n.2 _ r.from)
+pub loop-key-preserved : goal.loop-key-preserved
+loop-key-preserved t c =
+    let p = (goal.at.loop-key-preserved t c).Joined-leaf_at in
+    let n = node-stands t p in
+    let r = rw c.in-Comma-default.is-0 at (token-stands _ _ _ _ c.in_ok-next.ensures n.1.to) in
+    (_, left-again _ _ _ _ _ c.loop-key.invariant.1 _ _ (key t p).reads _ _ n.1 _ r, sums_on _ _ _ _ _ _ _ _ _ _ n.2 _ r.from)

@@ -1,31 +1,45 @@
 use native.Mathlib.Omega.{arith}
+use mathlib.Core.Path.{sym}
 use Rattle.rows.specs.Positions.{Reads}
-use Rattle.model.specs.Base.{Bytes}
+use Rattle.rows.proofs.Positions.{none-placed, reads-placed}
 use Rattle.model.specs.RecordText.{read_key}
-use Rattle.reader.proofs.Spaced.{key-leaves, token-moves, colon-stands, no-colon, key-bad, key_reads, member-no-key, member-no-colon, member_is}
+use Rattle.reader.specs.Tokens.{read_token, key_answer}
+use Rattle.reader.specs.declared.tokens.Token.TheVariants.{Colon}
+use Rattle.reader.proofs.Spaced.{key-leaves, token-moves, token-absent, token-stands, token-other, member-no-key, member-no-colon, member_is}
 use borrow.Author.Rules.{rules}
-use Rattle.reader.proofs.tokens.member_at.Goals.{In-At}
+use Rattle.reader.proofs.tokens.member_at.Goals.{In_ok-key}
 use Rattle.reader.proofs.tokens.member_at.Goals as goal
 
 -- A key by `key_at` and a colon by `token_at`, one behind the other, are a member.
 
 -- the key stands where `key_at` says
-key : (c : In-At)
-    → let a = c.args in (name : Bytes) × Reads read_key a.s.now a.at name c.in-At.e
-key c = (_, key_reads _ _ _ _ c.key_at.ensures.result_value key-leaves (search rules) _ _ _ c.in-At.is)
+key : (c : In_ok-key) → let k = c.in_ok-key.key in Reads read_key c.args.s.now c.args.at (key_answer c.args.s.now k).0 k.next
+key c = reads-placed _ _ _ key-leaves c.requires _ _ (sym c.in_ok-key.ensures.result_value)
+
+pub returns-in_err-key-clause-result_value : goal.returns-in_err-key-clause-result_value
+returns-in_err-key-clause-result_value c =
+    rw c.from_residual.ensures (member-no-key _ _ (none-placed _ _ _ (sym c.in_err-key.ensures.result_value)))
+
+pub returns-in_err-next-clause-result_value : goal.returns-in_err-next-clause-result_value
+returns-in_err-next-clause-result_value c =
+    rw c.from_residual-in_err-next.ensures (member-no-colon _ _ _ _ (key (goal.at.returns-in_err-next-clause-result_value c).In_ok-key) (token-absent _ _ c.in_err-next.ensures Colon))
 
 pub returns-in_default : goal.returns-in_default
-returns-in_default c = record { result_value = member-no-key _ _ (key-bad _ _ _ _ c.key_at.ensures.result_value c.in_default.is); member_in_text = tt }
+returns-in_default c =
+    let k = key (goal.at.returns-in_default c).In_ok-key in
+    record { result_value = member-no-colon _ _ _ _ k (token-other _ _ _ _ c.in_ok-next.ensures k.to Colon (search rules)); member_in_text = tt }
 
-pub token_at-requires : goal.token_at-requires
-token_at-requires c = (key c).1.to
+-- a colon stands behind it
+colon : (c : goal.In-Colon-default) → Reads (read_token 0x3A) c.args.s.now c.in_ok-key.key.next tt c.in_ok-next.field-0.1
+colon c =
+    let k = reads-placed _ _ _ key-leaves c.requires _ _ (sym c.in_ok-key.ensures.result_value) in
+    rw c.in-Colon-default.is-0 at (token-stands _ _ _ _ c.in_ok-next.ensures k.to)
 
-pub returns-in_default-token_at : goal.returns-in_default-token_at
-returns-in_default-token_at c = record { result_value = member-no-colon _ _ _ _ (key (goal.at.returns-in_default-token_at c).In-At).1 (no-colon _ _ c.token_at.result c.token_at.ensures c.in_default-token_at.not-Colon); member_in_text = tt }
+pub returns-clause-result_value : goal.returns-clause-result_value
+returns-clause-result_value c =
+    member_is _ _ _ _ (key (goal.at.returns-clause-result_value c).In_ok-key) _ (colon c)
 
-pub returns : goal.returns
-unfolding key
-returns c =
-    let inside = rw c.in-At.is at c.key_at.ensures.key_in_text in
-    let colon = colon-stands _ _ _ c.token_at.ensures (key (goal.at.returns c).In-At).1.to _ c.in-Colon.is in
-    record { result_value = member_is _ _ _ _ (key (goal.at.returns c).In-At).1 _ colon; member_in_text = (inside.0, inside.1, omega (arith, inside.2, token-moves _ _ _ _ colon), colon.to) }
+pub returns-clause-member_in_text : goal.returns-clause-member_in_text
+returns-clause-member_in_text c =
+    let (a, b, d, e) = c.in_ok-key.ensures.key_in_text in
+    (a, b, omega (arith, d, token-moves _ _ _ _ (colon c)), (colon c).to)

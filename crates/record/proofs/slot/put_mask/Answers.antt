@@ -5,4 +5,4 @@ use Rattle.record.proofs.slot.put_mask.Goals as goal
 
 pub returns : goal.returns
 returns c =
-    mask-written _ _ _ _ c.requires (rw c.encode_mask-bytes.ensures at c.put.ensures)
+    mask-written _ _ _ _ c.requires (rw c.encode_mask.ensures at c.put.ensures)

@@ -1,25 +1,25 @@
 use Prim.Native.Nat.{◌+◌}
 use mathlib.Core.Path.{◌≡◌, sym, ap, ◌∙◌}
 use native.Mathlib.Omega.{arith}
+use Rattle.model.specs.Limits.{max_fields}
 use lib.ListN.{drop}
 use Rattle.rows.proofs.Positions.{over}
 use borrow.Author.Rules.{rules}
 use Rattle.model.specs.Fields.{by_order}
-use Rattle.lexical.specs.declared.slice.Order.{Order}
-use Rattle.lexical.proofs.Slices.{order_in}
+use Rattle.std.specs.declared.cmp.Ordering as answer
 use Rattle.paths.specs.Layout.{path_in}
 use Rattle.record.specs.declared.table.Place.TheVariants.{At, Before}
 use Rattle.record.specs.Slots.{fields_in}
 use Rattle.record.specs.Search.{place_in}
 use Rattle.record.proofs.Stores.{fields_fit}
-use Rattle.record.proofs.Search.{fields-last, fields-more, place-step}
+use Rattle.record.proofs.Search.{order_in, fields-last, fields-more, place-step}
 use Rattle.record.proofs.table.find.Goals.{After-compare_paths}
 use Rattle.record.proofs.table.find.Goals as goal
 
 -- The first slot whose path is not before the path decides, or the end of the fields; each turn leaves the search from the next slot on.
 
 -- a turn: the slot's path decides, or what stands behind it
-turn : (c : After-compare_paths) {v : Order} → c.compare_paths.result ≡ v
+turn : (c : After-compare_paths) {v : answer.Ordering} → c.compare_paths.result ≡ v
     → let i = c.loop-i.i in
     let a = c.args in
     place_in 0 (path_in a.path.now) (fields_in a.table.now)
@@ -59,4 +59,5 @@ pub returns : goal.returns
 unfolding place_in
 returns c =
     let l = c.loop-i in
-    sym (l.invariant.1 ∙ ap (place_in l.i _) (over _ l.i (omega (arith, fields_fit c.args.table.now))))
+    let end : l.i ≡ max_fields = omega (arith, fields_fit c.args.table.now) in
+    sym (rw end at l.invariant.1 ∙ ap (place_in max_fields _) (over _ max_fields (fields_fit c.args.table.now)))

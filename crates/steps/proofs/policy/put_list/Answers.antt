@@ -31,14 +31,14 @@ met c =
     elim c.if-i-gt0.branch [
       | then-i-gt0 w ↦
           let comma_written = w.put_byte-to-then-i-gt0.ensures in
-          let more = wrote-both _ _ _ _ _ _ _ _ l.invariant.3 comma_written in
-          rw (w.to-is, w.out-is) (omega (arith, comma_written.0), w.put_byte-to-then-i-gt0.auto.out ∙ l.invariant.2, rw (divider-some comma l.i w.if-i-gt0.true) more)
-      | else-i-gt0 w ↦ rw (w.to-is, w.out-is) (omega arith, l.invariant.2, rw (divider-none comma l.i w.if-i-gt0.false, append-nil) l.invariant.3)
+          let more = wrote-both _ _ _ _ _ _ _ _ l.invariant.2 comma_written in
+          rw (w.to-is, w.out-is) (omega (arith, comma_written.0), w.put_byte-to-then-i-gt0.auto.out ∙ l.invariant.1, rw (divider-some comma l.i w.if-i-gt0.true) more)
+      | else-i-gt0 w ↦ rw (w.to-is, w.out-is) (omega arith, l.invariant.1, rw (divider-none comma l.i w.if-i-gt0.false, append-nil) l.invariant.2)
     ]
 
 pub loop-i-init : goal.loop-i-init
 unfolding spelled_names between
-loop-i-init c = (search rules, search rules, refl, wrote_none _ _)
+loop-i-init c = (search rules, refl, wrote_none _ _)
 
 pub put_quoted-to-requires : goal.put_quoted-to-requires
 put_quoted-to-requires c =
@@ -56,12 +56,12 @@ loop-i-preserved c =
     let k = name-length max_key _ name (simp length-take (omega arith)) in
     let quoted = c.put_quoted-to.ensures in
     let all = wrote-both _ _ _ _ _ _ _ _ m.2 quoted in
-    (search rules, omega (arith, simp length-append at quoted.0), search rules, rw (names-step s l.i (search rules), ← name) all)
+    (omega (arith, simp length-append at quoted.0), search rules, rw (names-step s l.i (search rules), ← name) all)
 
 pub returns : goal.returns
 unfolding step_text spelled_names text
 returns c =
     let l = c.loop-i in
     let s = c.args.names.now in
-    let end = wrote-both _ _ _ _ _ _ _ _ l.invariant.3 c.put_byte.ensures in
+    let end = wrote-both _ _ _ _ _ _ _ _ l.invariant.2 c.put_byte.ensures in
     rw (← names-all s l.i (search rules)) (wrote-both _ _ _ _ _ _ _ _ c.put_byte-to.ensures end)

@@ -1,4 +1,4 @@
-use Prim.Native.Nat.{◌+◌, ◌*◌, ◌-◌, ◌≤◌}
+use Prim.Native.Nat.{◌+◌, ◌*◌, ◌≤◌}
 use mathlib.Core.Path.{◌≡◌}
 use lib.ListN.{length, take}
 use Rattle.rows.specs.Rows.{Wrote}
@@ -9,7 +9,4 @@ use Rattle.steps.proofs.policy.put_list.Given as goal
 
 abbrev pub invariant-loop-i : goal.invariant-loop-i
 invariant-loop-i l =
-    (l.i ≤ l.n) × (l.to ≤ l.initial.to + (max_key + 3) * l.i) × (length l.out ≡ length l.initial.out) × Wrote l.initial.to (spelled_names (take l.i (names_in l.names))) l.initial.out l.to l.out
-
-abbrev pub decreases-loop-i : goal.decreases-loop-i
-decreases-loop-i l = l.n - l.i
+    (l.to ≤ l.initial.to + (max_key + 3) * l.i) × (length l.out ≡ length l.initial.out) × Wrote l.initial.to (spelled_names (take l.i (names_in l.names))) l.initial.out l.to l.out

@@ -22,6 +22,6 @@ shape_of-row c = c.put.auto.out ∙ simp length-set
 pub returns : goal.returns
 returns c =
     let a = c.args in
-    let b = c.kind_byte in
+    let b = c.from in
     let k : length a.step.names ≡ names_slot = search rules in
     c.put.ensures.1 ∙ written-cons 0 _ _ _ ∙ row-filled (b.result ∷ a.step.names) a.row.now (omega arith) ∙ ap (◌∷ a.step.names) b.ensures

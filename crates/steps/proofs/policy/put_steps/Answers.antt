@@ -14,7 +14,7 @@ use Rattle.steps.proofs.policy.put_steps.Goals as goal
 
 pub loop-i-init : goal.loop-i-init
 unfolding joined
-loop-i-init c = (search rules, search rules, refl, wrote_none _ _)
+loop-i-init c = (search rules, refl, wrote_none _ _)
 
 pub put_step-to-requires : goal.put_step-to-requires
 put_step-to-requires c =
@@ -29,13 +29,13 @@ loop-i-preserved c =
     let row = c.row_at in
     let put = c.put_step-to.ensures in
     let k = step-length row.result.now in
-    let all = wrote-both _ _ _ _ _ _ _ _ l.invariant.3 put in
-    (search rules, omega arith, search rules, rw (spelled_step_lem step_in step_row max_depth step_text s l.i (search rules), ← row.ensures.0) all)
+    let all = wrote-both _ _ _ _ _ _ _ _ l.invariant.2 put in
+    (omega arith, search rules, rw (spelled_step_lem step_in step_row max_depth step_text s l.i (search rules), ← row.ensures.0) all)
 
 pub returns : goal.returns
 unfolding steps_in steps_text text
 returns c =
     let l = c.loop-i in
     let s = c.args.slot.now in
-    let all = wrote-both _ _ _ _ _ _ _ _ c.put_byte-to.ensures l.invariant.3 in
+    let all = wrote-both _ _ _ _ _ _ _ _ c.put_byte-to.ensures l.invariant.2 in
     record { wrote = rw (← spelled-all step_in step_row max_depth step_text s l.i (search rules)) all; upper_bound = search rules }

@@ -1,4 +1,4 @@
-use Prim.Native.Nat.{◌+◌, ◌*◌, ◌-◌, ◌≤◌}
+use Prim.Native.Nat.{◌+◌, ◌*◌, ◌≤◌}
 use mathlib.Core.Path.{◌≡◌}
 use lib.ListN.{length}
 use Rattle.model.specs.Limits.{max_depth}
@@ -10,7 +10,4 @@ use Rattle.steps.proofs.policy.put_steps.Given as goal
 
 abbrev pub invariant-loop-i : goal.invariant-loop-i
 invariant-loop-i l =
-    (l.i ≤ l.n) × (l.to ≤ l.initial.to + spelled_step * l.i) × (length l.out ≡ length l.initial.out) × Wrote l.initial.to (spelled step_in step_row max_depth step_text l.slot l.i) l.initial.out l.to l.out
-
-abbrev pub decreases-loop-i : goal.decreases-loop-i
-decreases-loop-i l = l.n - l.i
+    (l.to ≤ l.initial.to + spelled_step * l.i) × (length l.out ≡ length l.initial.out) × Wrote l.initial.to (spelled step_in step_row max_depth step_text l.slot l.i) l.initial.out l.to l.out

@@ -8,11 +8,8 @@ use Rattle.layout.specs.Layout.{CanonicalKeys}
 use Rattle.steps.specs.Steps.{names_slot, names_in}
 use Rattle.steps.proofs.step.list_at.Given as goal
 
-abbrev pub invariant-loop-n : goal.invariant-loop-n
-invariant-loop-n l =
-    (l.at ≤ l.from) × (l.from ≤ length l.s) × (length l.names ≡ names_slot) × (l.n ≡ length (names_in l.names))
-    × (read_names max_listed [] (drop l.at l.s) ≡ read_names (max_listed - l.n) (names_in l.names) (drop l.from l.s))
+abbrev pub invariant-loop : goal.invariant-loop
+invariant-loop l =
+    (l.at ≤ l.from) × (l.from ≤ length l.s) × (length l.names ≡ names_slot) × (l.counter ≡ length (names_in l.names))
+    × (read_names max_listed [] (drop l.at l.s) ≡ read_names (max_listed - l.counter) (names_in l.names) (drop l.from l.s))
     × CanonicalKeys max_listed l.names
-
-abbrev pub decreases-loop-n : goal.decreases-loop-n
-decreases-loop-n l = max_listed - l.n

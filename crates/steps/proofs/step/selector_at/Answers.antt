@@ -1,44 +1,22 @@
-use mathlib.Core.Path.{refl, ◌∙◌}
 use Rattle.model.specs.Base.{text}
-use Rattle.model.specs.Paths.{operator_text, read_selector}
-use Rattle.steps.proofs.StepReaders.{first_reads, first-none}
+use Rattle.model.specs.Paths.{equals, is_in, operator_text, read_environment, read_list, read_selector}
+use Rattle.steps.proofs.StepReaders.{either-step}
 use borrow.Author.Rules.{rules}
 use Rattle.steps.proofs.step.selector_at.Goals as goal
 
 -- The first that reads something decides.
 
-pub returns-then-any : goal.returns-then-any
-unfolding read_selector
-returns-then-any c =
-    let any = c.wildcard_at-any.ensures in
-    let ok = c.if-any.true in
-    (first_reads _ _ _ _ (first_reads _ _ _ _ (first_reads _ _ _ _ any.0 _ ok) _ ok) _ ok, any.1)
-
-pub environment_at-equals-requires : goal.environment_at-equals-requires
+pub or_else-requires : goal.or_else-requires
 unfolding operator_text text
-environment_at-equals-requires c = (search rules, refl)
+or_else-requires c = search rules
 
-pub returns-then-equals : goal.returns-then-equals
-unfolding read_selector
-returns-then-equals c =
-    let ok = c.if-equals.true in
-    let equal = c.environment_at-equals.ensures.0 ∙ first-none _ _ _ _ c.wildcard_at-any.ensures.0 _ c.if-any.false in
-    (first_reads _ _ _ _ (first_reads _ _ _ _ equal _ ok) _ ok, c.environment_at-equals.ensures.1)
-
-pub environment_at-inside-requires : goal.environment_at-inside-requires
+pub or_else-requires-2 : goal.or_else-requires-2
 unfolding operator_text text
-environment_at-inside-requires c = (search rules, refl)
-
-pub returns-then-inside : goal.returns-then-inside
-unfolding read_selector
-returns-then-inside c =
-    let equal = c.environment_at-equals.ensures.0 ∙ first-none _ _ _ _ c.wildcard_at-any.ensures.0 _ c.if-any.false in
-    let inside = c.environment_at-inside.ensures.0 ∙ first-none _ _ _ _ equal _ c.if-equals.false in
-    (first_reads _ _ _ _ inside _ c.if-inside.true, c.environment_at-inside.ensures.1)
+or_else-requires-2 c = search rules
 
 pub returns : goal.returns
 unfolding read_selector
 returns c =
-    let equal = c.environment_at-equals.ensures.0 ∙ first-none _ _ _ _ c.wildcard_at-any.ensures.0 _ c.if-any.false in
-    let inside = c.environment_at-inside.ensures.0 ∙ first-none _ _ _ _ equal _ c.if-equals.false in
-    (c.list_at.ensures.0 ∙ first-none _ _ _ _ inside _ c.if-inside.false, c.list_at.ensures.1)
+    let equal = either-step _ (read_environment equals) _ _ _ c.or_else.result c.wildcard_at.ensures (search rules) in
+    let inside = either-step _ (read_environment is_in) _ _ _ c.or_else-2.result equal (search rules) in
+    either-step _ read_list _ _ _ _ inside (search rules)

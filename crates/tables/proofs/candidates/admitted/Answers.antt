@@ -1,5 +1,4 @@
 use mathlib.Core.Path.{sym, ◌∙◌}
-use borrow.Author.Tests.{not-false}
 use Rattle.tables.proofs.Held.{key-beside, covers-held}
 use Rattle.tables.proofs.candidates.admitted.Goals as goal
 
@@ -18,4 +17,4 @@ holders_at-requires c =
 pub returns : goal.returns
 returns c =
     let held = c.holders_at in
-    let asks = sym c.asks.ensures ∙ not-false _ c.if-not-asks.false-raw in record { covers_2 = covers-held _ _ c.requires.path_value.0 c.args.i c.requires.path_value.1 _ c.row_at.ensures.0 asks _ _ _ c.requires.covers c.both.ensures held.ensures.by_index; found_2 = held.ensures.found_2 }
+    let asks = sym c.asks.ensures ∙ c.if-not-asks.false in record { covers_2 = covers-held _ _ c.requires.path_value.0 c.args.i c.requires.path_value.1 _ c.row_at.ensures.0 asks _ _ _ c.requires.covers c.both.ensures held.ensures.by_index; found_2 = held.ensures.found_2 }

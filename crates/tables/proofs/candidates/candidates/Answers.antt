@@ -13,15 +13,15 @@ first_places-mask-requires c =
 
 pub loop-i-init : goal.loop-i-init
 loop-i-init c =
-    (search rules, c.requires.found, covers-all _ _ _ c.requires.steps_slot_in_bounds.2 _ c.first_places-mask.ensures)
+    (c.requires.found, covers-all _ _ _ c.requires.steps_slot_in_bounds.2 _ c.first_places-mask.ensures)
 
 pub admitted-mask-requires : goal.admitted-mask-requires
 admitted-mask-requires c =
     let l = c.loop-i in
-    record { steps_slot_in_bounds = c.requires.steps_slot_in_bounds; path_value = (c.requires.path_value, search rules); found = l.invariant.1; covers = l.invariant.2 }
+    record { steps_slot_in_bounds = c.requires.steps_slot_in_bounds; path_value = (c.requires.path_value, search rules); found = l.invariant.0; covers = l.invariant.1 }
 
 pub loop-i-preserved : goal.loop-i-preserved
-loop-i-preserved c = (search rules, c.admitted-mask.ensures.found_2, c.admitted-mask.ensures.covers_2)
+loop-i-preserved c = (c.admitted-mask.ensures.found_2, c.admitted-mask.ensures.covers_2)
 
 pub returns : goal.returns
-returns c = let l = c.loop-i in record { covers = l.invariant.2; found_2 = l.invariant.1 }
+returns c = let l = c.loop-i in record { covers = l.invariant.1; found_2 = l.invariant.0 }

@@ -1,4 +1,3 @@
-use Prim.Native.Nat.{◌-◌, ◌≤◌}
 use Rattle.paths.specs.Layout.{path_in}
 use Rattle.steps.specs.Steps.{steps_in}
 use Rattle.tables.specs.Memory.{users_in}
@@ -7,7 +6,4 @@ use Rattle.tables.proofs.candidates.candidates.Given as goal
 
 abbrev pub invariant-loop-i : goal.invariant-loop-i
 invariant-loop-i l =
-    (l.i ≤ l.m) × Found (users_in l.tables) (path_in l.path) l.found × Covers (users_in l.tables) (steps_in l.steps) (path_in l.path) l.mask
-
-abbrev pub decreases-loop-i : goal.decreases-loop-i
-decreases-loop-i l = l.m - l.i
+    Found (users_in l.tables) (path_in l.path) l.found × Covers (users_in l.tables) (steps_in l.steps) (path_in l.path) l.mask

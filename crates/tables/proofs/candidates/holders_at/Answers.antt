@@ -4,10 +4,10 @@ use Rattle.tables.proofs.candidates.holders_at.Goals as goal
 
 -- What was found out is answered again; what was not is found out, and kept at its place.
 
-pub returns-then-held-lt-NOT_ASKED : goal.returns-then-held-lt-NOT_ASKED
-returns-then-held-lt-NOT_ASKED c =
+pub returns-in-Some : goal.returns-in-Some
+returns-in-Some c =
     let known = c.requires.found in
-    record { by_index = known.holders _ (search rules) (search rules); found_2 = known }
+    record { by_index = known.holders _ _ c.in-Some.is; found_2 = known }
 
 pub returns : goal.returns
 returns c =

@@ -1,10 +1,5 @@
-use Prim.Native.Nat.{◌-◌}
-use Rattle.model.specs.Limits.{max_depth}
 use Rattle.tables.proofs.Held.{KeptFirst}
 use Rattle.tables.proofs.candidates.keep_first.Given as goal
 
 abbrev pub invariant-loop-i : goal.invariant-loop-i
 invariant-loop-i l = KeptFirst l.n l.initial.found l.i l.found
-
-abbrev pub decreases-loop-i : goal.decreases-loop-i
-decreases-loop-i l = max_depth - l.i

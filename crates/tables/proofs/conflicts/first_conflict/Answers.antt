@@ -1,6 +1,6 @@
 use Rattle.std.specs.Prelude.{if◌then◌else◌}
 use Prim.Native.Nat.{◌+◌}
-use mathlib.Core.Path.{◌≡◌, refl, ◌∙◌}
+use mathlib.Core.Path.{◌≡◌, ◌∙◌}
 use mathlib.Core.Bool.{◌&&◌}
 use Rattle.std.specs.Prelude.{Some}
 use mathlib.Core.List.{[]}
@@ -12,8 +12,7 @@ use Rattle.model.specs.Rights.{conflicts_with}
 use Rattle.model.specs.Opening.{conflict_from}
 use Rattle.tables.specs.Memory.{rule_in, policy_in}
 use Rattle.tables.proofs.Policy.{rule-inside, conflict-from, rules-over}
-use Rattle.tables.proofs.conflicts.first_conflict.Goals.{After-is_write}
-use Rattle.tables.proofs.conflicts.first_conflict.Goals.{then-is_write+else-has_conflict, else-is_write}
+use Rattle.tables.proofs.conflicts.first_conflict.Goals.{After-is_write, else-is_write-via-then-is_write+else-has_conflict, else-is_write-via-else-is_write}
 use Rattle.tables.proofs.conflicts.first_conflict.Goals as goal
 
 -- Each turn leaves the question for the lines behind the one that it asked, with the lines up to there before them.
@@ -28,11 +27,8 @@ turn : (c : After-is_write)
     else conflict_from (i + 1 + 2) (take (i + 1) p) (drop (i + 1) p))
 turn c =
     let l = c.loop-i in
-    l.invariant.1
+    l.invariant
     ∙ conflict-from _ c.row_count-n.ensures l.i c.loop-i-test.true c.row_at-rule.ensures.0 c.is_write.ensures
-
-pub loop-i-init : goal.loop-i-init
-loop-i-init c = (search rules, refl)
 
 pub row_at-rule-requires : goal.row_at-rule-requires
 row_at-rule-requires c = rule-inside _ c.row_count-n.ensures c.loop-i.i c.loop-i-test.true (search rules)
@@ -47,13 +43,11 @@ returns-then-has_conflict c =
 
 pub returns : goal.returns
 unfolding conflict_from
-returns c = let l = c.loop-i in rw (l.invariant.1, rules-over _ c.row_count-n.ensures l.i (search rules))
+returns c = let l = c.loop-i in rw (l.invariant, rules-over _ c.row_count-n.ensures l.i (search rules))
 
 pub loop-i-preserved : goal.loop-i-preserved
-loop-i-preserved c = (
-  search rules,
-  turn (goal.at.loop-i-preserved c).After-is_write ∙ elim c.if-is_write.branch [
-    | then-is_write+else-has_conflict w ↦ rw (w.if-is_write.true, ← w.rule_path.ensures.result_value, ← w.has_conflict.ensures, w.if-has_conflict.false)
-    | else-is_write w ↦ rw w.if-is_write.false
-  ],
-)
+loop-i-preserved c =
+    turn (goal.at.loop-i-preserved c).After-is_write ∙ elim c.else-is_write.branch [
+      | else-is_write-via-then-is_write+else-has_conflict w ↦ rw (w.if-is_write.true, ← w.rule_path.ensures.result_value, ← w.has_conflict.ensures, w.if-has_conflict.false)
+      | else-is_write-via-else-is_write w ↦ rw w.if-is_write.false
+    ]

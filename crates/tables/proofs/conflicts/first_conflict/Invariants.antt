@@ -1,4 +1,4 @@
-use Prim.Native.Nat.{◌+◌, ◌-◌, ◌≤◌}
+use Prim.Native.Nat.{◌+◌}
 use mathlib.Core.Path.{◌≡◌}
 use mathlib.Core.List.{[]}
 use lib.ListN.{take, drop}
@@ -8,7 +8,4 @@ use Rattle.tables.proofs.conflicts.first_conflict.Given as goal
 
 abbrev pub invariant-loop-i : goal.invariant-loop-i
 invariant-loop-i l =
-    (l.i ≤ l.n) × (conflict_from 2 [] (policy_in l.policy) ≡ conflict_from (l.i + 2) (take l.i (policy_in l.policy)) (drop l.i (policy_in l.policy)))
-
-abbrev pub decreases-loop-i : goal.decreases-loop-i
-decreases-loop-i l = l.n - l.i
+    conflict_from 2 [] (policy_in l.policy) ≡ conflict_from (l.i + 2) (take l.i (policy_in l.policy)) (drop l.i (policy_in l.policy))

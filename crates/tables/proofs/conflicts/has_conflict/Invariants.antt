@@ -1,4 +1,4 @@
-use Prim.Native.Nat.{◌-◌, ◌≤◌}
+use Prim.Native.Nat.{◌-◌}
 use mathlib.Core.Path.{◌≡◌}
 use lib.ListN.{take, drop}
 use Rattle.model.specs.Base.{any}
@@ -9,7 +9,4 @@ use Rattle.tables.proofs.conflicts.has_conflict.Given as goal
 
 abbrev pub invariant-loop-i : goal.invariant-loop-i
 invariant-loop-i l =
-    (l.i ≤ l.all) × (any (conflicts_with (steps_in l.steps)) (take l.n (policy_in l.policy)) ≡ any (conflicts_with (steps_in l.steps)) (take (l.n - l.i) (drop l.i (policy_in l.policy))))
-
-abbrev pub decreases-loop-i : goal.decreases-loop-i
-decreases-loop-i l = l.all - l.i
+    any (conflicts_with (steps_in l.steps)) (take l.n (policy_in l.policy)) ≡ any (conflicts_with (steps_in l.steps)) (take (l.n - l.i) (drop l.i (policy_in l.policy)))

@@ -10,4 +10,4 @@ use Rattle.tables.proofs.memory.is_write.Goals as goal
 
 pub returns : goal.returns
 unfolding is_write is_writing rule_in
-returns c = by_cases (eqb (get_or c.args.rule.now name_row 0) 1) (λ e. rw e) (λ e. rw e)
+returns c = rw c.from.ensures (by_cases (eqb (get_or c.args.rule.now name_row 0) 1) (λ e. rw e) (λ e. rw e))

@@ -1,14 +1,8 @@
-use mathlib.Core.Path.{ap}
-use native.Mathlib.Omega.{arith}
-use lib.ListN.{length}
 use Rattle.buffers.proofs.Writers.{wrote-both}
 use Rattle.tables.proofs.Pushed.{rule-put}
 use Rattle.tables.proofs.push.put_rule.Goals as goal
 
 -- The access and the steps, and then the role before them, are written into a row of zeros: nothing else is there.
-
-pub slice_bounds-put_name-end : goal.slice_bounds-put_name-end
-slice_bounds-put_name-end c = omega (arith, ap length c.requires.0)
 
 pub returns : goal.returns
 returns c =

@@ -1,20 +1,8 @@
-use mathlib.Core.Path.{ap}
-use native.Mathlib.Omega.{arith}
-use lib.ListN.{length}
 use Rattle.buffers.proofs.Writers.{wrote-both}
 use Rattle.tables.proofs.Pushed.{user-put}
 use Rattle.tables.proofs.push.put_user.Goals as goal
 
 -- The quota, an empty first line, the key, the role and the name are written into a row of zeros, from its end on: nothing else is there.
-
-pub slice_bounds-put_name-end : goal.slice_bounds-put_name-end
-slice_bounds-put_name-end c = omega (arith, ap length c.requires)
-
-pub slice_bounds-put_name-end-2 : goal.slice_bounds-put_name-end-2
-slice_bounds-put_name-end-2 c = omega (arith, ap length c.requires)
-
-pub slice_bounds-put_name-end-3 : goal.slice_bounds-put_name-end-3
-slice_bounds-put_name-end-3 c = omega (arith, ap length c.requires)
 
 pub returns : goal.returns
 returns c =

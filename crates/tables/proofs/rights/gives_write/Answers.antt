@@ -1,6 +1,5 @@
 use mathlib.Core.Path.{sym, ◌∙◌}
 use mathlib.Core.Bool.{and-false}
-use borrow.Author.Tests.{not-true, not-false}
 use Rattle.tables.specs.Grants.{gives_write}
 use Rattle.tables.proofs.rights.gives_write.Goals as goal
 
@@ -8,14 +7,14 @@ use Rattle.tables.proofs.rights.gives_write.Goals as goal
 
 pub returns-then-not-is_write : goal.returns-then-not-is_write
 unfolding gives_write
-returns-then-not-is_write c = rw (sym c.is_write.ensures ∙ not-true _ c.if-not-is_write.true-raw, and-false)
+returns-then-not-is_write c = rw (sym c.is_write.ensures ∙ c.if-not-is_write.true, and-false)
 
 pub returns-then-not-is_for : goal.returns-then-not-is_for
 unfolding gives_write
-returns-then-not-is_for c = rw (sym c.is_for.ensures ∙ not-true _ c.if-not-is_for.true-raw)
+returns-then-not-is_for c = rw (sym c.is_for.ensures ∙ c.if-not-is_for.true)
 
 pub returns : goal.returns
 unfolding gives_write
 returns c =
     let m = rw (c.bindings.ensures.result_value, c.rule_path.ensures.result_value) at c.matches.ensures in
-    rw (sym c.is_for.ensures ∙ not-false _ c.if-not-is_for.false-raw, sym c.is_write.ensures ∙ not-false _ c.if-not-is_write.false-raw) m
+    rw (sym c.is_for.ensures ∙ c.if-not-is_for.false, sym c.is_write.ensures ∙ c.if-not-is_write.false) m

@@ -1,4 +1,4 @@
-use Prim.Native.Nat.{◌-◌, ◌≤◌}
+use Prim.Native.Nat.{◌≤◌}
 use mathlib.Core.Path.{◌≡◌}
 use lib.ListN.{length, drop}
 use Rattle.layout.specs.Layout.{in_use}
@@ -13,6 +13,3 @@ use Rattle.tables.proofs.rights.may_write.Given as goal
 abbrev pub invariant-loop-i : goal.invariant-loop-i
 invariant-loop-i l =
     (l.i ≤ length (in_use rule_row max_rules l.policy)) × (may_write (policy_in l.policy) (user_in l.user) (path_in l.path) ≡ any (gives_write (user_in l.user) (path_in l.path)) (drop l.i (policy_in l.policy)))
-
-abbrev pub decreases-loop-i : goal.decreases-loop-i
-decreases-loop-i l = max_rules - l.i

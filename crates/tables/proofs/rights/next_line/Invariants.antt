@@ -1,4 +1,3 @@
-use Prim.Native.Nat.{◌-◌, ◌≤◌}
 use mathlib.Core.Path.{◌≡◌}
 use Rattle.std.specs.Prelude.{Option}
 use lib.ListN.{drop}
@@ -10,7 +9,4 @@ use Rattle.tables.proofs.rights.next_line.Given as goal
 
 abbrev pub invariant-loop-i : goal.invariant-loop-i
 invariant-loop-i l =
-    (l.from ≤ l.i) × (l.i ≤ l.n) × ((o : Option User) → reads_by (drop l.from (policy_in l.policy)) o (path_in l.path) ≡ reads_by (drop l.i (policy_in l.policy)) o (path_in l.path))
-
-abbrev pub decreases-loop-i : goal.decreases-loop-i
-decreases-loop-i l = l.n - l.i
+    (o : Option User) → reads_by (drop l.from (policy_in l.policy)) o (path_in l.path) ≡ reads_by (drop l.i (policy_in l.policy)) o (path_in l.path)

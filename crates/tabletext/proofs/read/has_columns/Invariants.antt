@@ -1,4 +1,3 @@
-use Prim.Native.Nat.{◌-◌}
 use mathlib.Core.Path.{◌≡◌}
 use Rattle.model.specs.Table.{split}
 use Rattle.tabletext.proofs.Lined.{has_from}
@@ -6,6 +5,3 @@ use Rattle.tabletext.proofs.read.has_columns.Given as goal
 
 abbrev pub invariant-loop-j : goal.invariant-loop-j
 invariant-loop-j l = has_from (split l.head) (split l.columns) 0 ≡ has_from (split l.head) (split l.columns) l.j
-
-abbrev pub decreases-loop-j : goal.decreases-loop-j
-decreases-loop-j l = l.n - l.j

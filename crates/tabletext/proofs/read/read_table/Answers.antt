@@ -1,29 +1,25 @@
 use mathlib.Core.Path.{sym, ◌∙◌}
 use native.Mathlib.Omega.{arith}
-use lib.ListN.{length-take, length-drop}
+use lib.ListN.{length-take}
 use borrow.Author.Rules.{rules}
-use borrow.Author.Tests.{not-true, not-false}
 use Rattle.rows.proofs.Positions.{run-within}
 use Rattle.tabletext.proofs.Lined.{head-broken, head-other, head-right, left-none, left-broken, left-refused, left-done}
 use Rattle.tabletext.proofs.read.read_table.Goals as goal
 
 -- At each turn the line n stands at the position `at`: the lines before it made the tables what they are, and the rest is left to read; what is written as its meaning is stays so.
 
-pub returns-then-end-s : goal.returns-then-end-s
-returns-then-end-s c = record { reads_table = head-broken _ _ _ _ c.until-end.ensures c.if-end-s.true; keeps = λ h. h }
+pub returns-then-end-s-clause-reads_table : goal.returns-then-end-s-clause-reads_table
+returns-then-end-s-clause-reads_table c = head-broken _ _ _ _ c.until-end.ensures c.if-end-s.true
 
 pub slice_bounds-head-end : goal.slice_bounds-head-end
 slice_bounds-head-end c =
     let w = run-within _ _ _ _ c.until-end.ensures (search rules) in
     simp length-take (omega arith)
 
-pub is_head-requires : goal.is_head-requires
-is_head-requires c = simp length-take (omega arith)
-
-pub returns-then-not-is_head : goal.returns-then-not-is_head
-returns-then-not-is_head c =
+pub returns-then-not-is_head-clause-reads_table : goal.returns-then-not-is_head-clause-reads_table
+returns-then-not-is_head-clause-reads_table c =
     let w = run-within _ _ _ _ c.until-end.ensures (search rules) in
-    record { reads_table = head-other _ _ _ _ c.until-end.ensures (omega arith) (sym c.is_head.ensures ∙ not-true _ c.if-not-is_head.true-raw); keeps = λ h. h }
+    head-other _ _ _ _ c.until-end.ensures (omega arith) (sym c.is_head.ensures ∙ c.if-not-is_head.true)
 
 pub overflow_add-at : goal.overflow_add-at
 overflow_add-at c = let w = run-within _ _ _ _ c.until-end.ensures (search rules) in omega arith
@@ -31,12 +27,12 @@ overflow_add-at c = let w = run-within _ _ _ _ c.until-end.ensures (search rules
 pub loop-at-init : goal.loop-at-init
 loop-at-init c =
     let w = run-within _ _ _ _ c.until-end.ensures (search rules) in
-    (omega arith, omega arith, head-right _ _ _ _ c.until-end.ensures (omega arith) (sym c.is_head.ensures ∙ not-false _ c.if-not-is_head.false-raw), λ h. h)
+    (omega arith, omega arith, head-right _ _ _ _ c.until-end.ensures (omega arith) (sym c.is_head.ensures ∙ c.if-not-is_head.false), λ h. h)
 
-pub returns-then-to-s : goal.returns-then-to-s
-returns-then-to-s c =
+pub returns-then-to-s-clause-reads_table : goal.returns-then-to-s-clause-reads_table
+returns-then-to-s-clause-reads_table c =
     let inv = c.loop-at.invariant in
-    record { reads_table = left-broken _ _ _ _ _ _ _ inv.2 _ c.until-to.ensures c.loop-at-test.true c.if-to-s.true; keeps = inv.3 }
+    left-broken _ _ _ _ _ _ _ inv.2 _ c.until-to.ensures c.loop-at-test.true c.if-to-s.true
 
 pub slice_bounds-read_row-count : goal.slice_bounds-read_row-count
 slice_bounds-read_row-count c = (run-within _ _ _ _ c.until-to.ensures (search rules)).0
@@ -47,18 +43,12 @@ slice_bounds-read_row-start c = slice_bounds-read_row-count c
 pub slice_bounds-read_row-end : goal.slice_bounds-read_row-end
 slice_bounds-read_row-end c = (run-within _ _ _ _ c.until-to.ensures (search rules)).1
 
-pub read_row-requires : goal.read_row-requires
-read_row-requires c = (simp length-take (omega arith), simp (length-take, length-drop) (omega arith))
-
-pub returns-in-Refused : goal.returns-in-Refused
-returns-in-Refused c =
+pub returns-in-Err-clause-reads_table : goal.returns-in-Err-clause-reads_table
+returns-in-Err-clause-reads_table c =
     let l = c.loop-at in
     let w = run-within _ _ _ _ c.until-to.ensures l.invariant.0 in
     let row = c.read_row.ensures in
-    record { reads_table = left-refused _ _ _ _ _ _ _ l.invariant.2 _ c.until-to.ensures (omega arith) _ _ c.read_row.ensures.adds.0 c.read_row.ensures.adds.1 _ c.in-Refused.is; keeps = λ h. c.read_row.ensures.keeps (l.invariant.3 h) }
-
-pub overflow_add-at-in-loop-at : goal.overflow_add-at-in-loop-at
-overflow_add-at-in-loop-at c = let w = run-within _ _ _ _ c.until-to.ensures (search rules) in omega arith
+    left-refused _ _ _ _ _ _ _ l.invariant.2 _ c.until-to.ensures (omega arith) _ _ c.read_row.ensures.adds.0 c.read_row.ensures.adds.1 _ c.in-Err.is
 
 pub loop-at-smaller : goal.loop-at-smaller
 loop-at-smaller c = let w = run-within _ _ _ _ c.until-to.ensures (search rules) in omega arith
@@ -71,5 +61,5 @@ loop-at-preserved c =
     let next = left-done _ _ _ _ _ _ _ l.invariant.2 _ c.until-to.ensures (omega arith) _ _ c.read_row.ensures.adds.0 c.read_row.ensures.adds.1 c.in_default.is in
     (omega arith, omega arith, next, λ h. c.read_row.ensures.keeps (l.invariant.3 h))
 
-pub returns : goal.returns
-returns c = let inv = c.loop-at.invariant in record { reads_table = left-none _ _ _ _ _ _ _ inv.2 c.loop-at-test.false; keeps = inv.3 }
+pub returns-clause-reads_table : goal.returns-clause-reads_table
+returns-clause-reads_table c = let inv = c.loop-at.invariant in left-none _ _ _ _ _ _ _ inv.2 c.loop-at-test.false

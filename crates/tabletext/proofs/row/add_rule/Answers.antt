@@ -1,4 +1,4 @@
-use mathlib.Core.Path.{◌≡◌}
+use mathlib.Core.Path.{◌≡◌, sym}
 use mathlib.Core.Bool.{true}
 use Rattle.std.specs.Prelude.{Some}
 use native.Mathlib.Omega.{arith}
@@ -10,10 +10,10 @@ use Rattle.model.specs.Table.{split, under}
 use Rattle.model.specs.Tables.{access_of}
 use Rattle.model.proofs.Spelling.{name-named}
 use Rattle.steps.specs.Steps.{steps_in}
-use Rattle.tables.specs.Memory.{access_in, access_byte}
-use Rattle.tabletext.proofs.Added.{passed, failed, refuses, access-unknown, access-known, path-unread, path-read, rules-counted}
+use Rattle.tables.specs.Memory.{access_is}
+use Rattle.tabletext.proofs.Added.{passed, failed, refuses, access-told, access-byte, rules-counted}
 use Rattle.tabletext.proofs.Added.{rule-unnamed, rule-bad, rule-unread, rule-full, rule-added}
-use Rattle.tabletext.proofs.row.add_rule.Goals.{Else-not-is_name, Else-not-path, In-Is}
+use Rattle.tabletext.proofs.row.add_rule.Goals.{Else-not-is_name, In-Some, In-Some-read_steps}
 use Rattle.tabletext.proofs.row.add_rule.Goals as goal
 
 -- The tests are made in the order of the definition: each exit is at the first that fails, and a line that passes them all finds room.
@@ -27,13 +27,13 @@ role : (c : Else-not-is_name) → is_name (val c.args.head.now c.args.line.now (
 unfolding text
 role c = rw (← c.value_under-role.ensures) (passed c.is_name.ensures c.if-not-is_name.false)
 
-access : (c : In-Is) → let b = c.in-Is.b in (access_of (val c.args.head.now c.args.line.now (text "access")) ≡ Some (access_in b)) × (b ≡ access_byte (access_in b))
+access : (c : In-Some) → access_of (val c.args.head.now c.args.line.now (text "access")) ≡ Some (access_is c.in-Some.kind)
 unfolding text
-access c = access-known c.value_under.ensures c.access.ensures c.in-Is.is
+access c = access-told c.value_under.ensures c.access.ensures c.in-Some.is
 
-path : (c : Else-not-path) → steps_of (val c.args.head.now c.args.line.now (text "path")) ≡ Some (steps_in c.read_steps-path.result.slot)
+path : (c : In-Some-read_steps) → steps_of (val c.args.head.now c.args.line.now (text "path")) ≡ Some (steps_in c.in-Some-read_steps.path)
 unfolding text
-path c = path-read c.read_steps-path.result c.value_under-2.ensures c.read_steps-path.ensures.0 c.if-not-path.false
+path c = rw (← c.value_under-2.ensures) (sym c.in-Some-read_steps.ensures.0)
 
 pub returns-then-not-is_name-clause-adds : goal.returns-then-not-is_name-clause-adds
 unfolding text
@@ -44,18 +44,18 @@ returns-then-not-is_name-clause-adds c =
 pub returns-in_default-clause-adds : goal.returns-in_default-clause-adds
 unfolding text
 returns-in_default-clause-adds c =
-    let bad = access-unknown c.value_under.ensures c.access.ensures c.in_default.is in
+    let bad = access-told c.value_under.ensures c.access.ensures c.in_default.is in
     refuses _ (rule-bad _ _ (role (goal.at.returns-in_default-clause-adds c).Else-not-is_name) bad)
 
-pub returns-then-not-path-clause-adds : goal.returns-then-not-path-clause-adds
+pub returns-in_default-read_steps-clause-adds : goal.returns-in_default-read_steps-clause-adds
 unfolding text
-returns-then-not-path-clause-adds c =
-    let bad = path-unread c.read_steps-path.result c.value_under-2.ensures c.read_steps-path.ensures.0 c.if-not-path.true in
-    refuses _ (rule-unread _ _ (role (goal.at.returns-then-not-path-clause-adds c).Else-not-is_name) (access (goal.at.returns-then-not-path-clause-adds c).In-Is).0 bad)
+returns-in_default-read_steps-clause-adds c =
+    let bad = sym c.in_default-read_steps.ensures.0 in
+    refuses _ (rule-unread _ _ (role (goal.at.returns-in_default-read_steps-clause-adds c).Else-not-is_name) (access (goal.at.returns-in_default-read_steps-clause-adds c).In-Some) (rw (← c.value_under-2.ensures) bad))
 
 pub returns-then-row_count-ge-RULES-clause-adds : goal.returns-then-row_count-ge-RULES-clause-adds
 returns-then-row_count-ge-RULES-clause-adds c =
-    refuses _ (rule-full _ _ (role (goal.at.returns-then-row_count-ge-RULES-clause-adds c).Else-not-is_name) (access (goal.at.returns-then-row_count-ge-RULES-clause-adds c).In-Is).0 (path (goal.at.returns-then-row_count-ge-RULES-clause-adds c).Else-not-path) (rules-counted _ c.row_count.ensures) (omega (arith, c.if-row_count-ge-RULES.true)))
+    refuses _ (rule-full _ _ (role (goal.at.returns-then-row_count-ge-RULES-clause-adds c).Else-not-is_name) (access (goal.at.returns-then-row_count-ge-RULES-clause-adds c).In-Some) (path (goal.at.returns-then-row_count-ge-RULES-clause-adds c).In-Some-read_steps) (rules-counted _ c.row_count.ensures) (omega (arith, c.if-row_count-ge-RULES.true)))
 
 pub slice_bounds-push_rule-end : goal.slice_bounds-push_rule-end
 slice_bounds-push_rule-end c = search rules
@@ -66,4 +66,10 @@ push_rule-requires c = (search rules, (name-named _ (passed c.is_name.ensures c.
 pub returns : goal.returns
 unfolding text
 returns c =
-    let push = c.push_rule in record { adds = rule-added _ _ (role (goal.at.returns c).Else-not-is_name) (access (goal.at.returns c).In-Is).0 (path (goal.at.returns c).Else-not-path) (rules-counted _ c.row_count.ensures) (omega (arith, c.if-row_count-ge-RULES.false)) c.value_under-role.ensures push.ensures.policy_after; keeps = push.ensures.keeps c.read_steps-path.ensures.1 (access (goal.at.returns c).In-Is).1 }
+    let push = c.push_rule in
+    let kind = access-byte c.in-Some.kind in
+    let lines = rw (c.from.ensures, kind) at push.ensures.policy_after in
+    record {
+      adds = rule-added _ _ (role (goal.at.returns c).Else-not-is_name) (access (goal.at.returns c).In-Some) (path (goal.at.returns c).In-Some-read_steps) (rules-counted _ c.row_count.ensures) (omega (arith, c.if-row_count-ge-RULES.false)) c.value_under-role.ensures lines;
+      keeps = push.ensures.keeps c.in-Some-read_steps.ensures.1 (rw (c.from.ensures, kind));
+    }

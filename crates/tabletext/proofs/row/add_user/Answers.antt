@@ -8,14 +8,12 @@ use Rattle.model.specs.Names.{is_name}
 use Rattle.model.specs.Table.{split, under}
 use Rattle.model.specs.Tables.{every_role, user_named}
 use Rattle.model.proofs.Spelling.{name-named}
-use Rattle.lexical.specs.Numbers.{number_answer}
-use Rattle.values.proofs.Values.{told}
 use Rattle.lexical.proofs.Decimals.{number-some}
 use Rattle.tables.specs.Memory.{users_in}
 use Rattle.tabletext.proofs.Standing.{user-known, user-unknown}
 use Rattle.tabletext.proofs.Added.{passed, failed, refuses, users-counted, user_names}
 use Rattle.tabletext.proofs.Added.{user-unnamed, user-every, user-bad, user-doubled, user-full, user-added}
-use Rattle.tabletext.proofs.row.add_user.Goals.{After-is_name-2, Else-not-is_name, Else-not-is_name-2, Else-not-is_name-3, Else-same, In-Is, In_default-find_user}
+use Rattle.tabletext.proofs.row.add_user.Goals.{After-is_name-2, Else-not-is_name, Else-not-is_name-2, Else-not-is_name-3, Else-same, In-Some, In_default-find_user}
 use Rattle.tabletext.proofs.row.add_user.Goals as goal
 
 -- The tests are made in the order of the definition: each exit is at the first that fails, and a line that passes them all finds room.
@@ -45,9 +43,9 @@ one-role : (c : Else-same) → (val c.args.head.now c.args.line.now (text "role"
 unfolding text every_role
 one-role c = rw (← c.value_under-role.ensures) (sym c.same.ensures ∙ c.if-same.false)
 
-quota : (c : In-Is) → number max_quota (val c.args.head.now c.args.line.now (text "allowance")) ≡ Some c.in-Is.quota
+quota : (c : In-Some) → number max_quota (val c.args.head.now c.args.line.now (text "allowance")) ≡ Some c.in-Some.quota
 unfolding text
-quota c = rw (← c.value_under.ensures) (told number_answer c.number.ensures c.in-Is.is)
+quota c = rw (← c.value_under.ensures) (sym c.in-Some.ensures)
 
 new : (c : In_default-find_user) → user_named (val c.args.head.now c.args.line.now (text "user")) (users_in c.args.users.now) ≡ None
 unfolding text
@@ -78,27 +76,27 @@ returns-then-same-clause-adds c = refuses _ (user-every _ _ (names (goal.at.retu
 pub returns-in_default-clause-adds : goal.returns-in_default-clause-adds
 unfolding text
 returns-in_default-clause-adds c =
-    let bad = told number_answer c.number.ensures c.in_default.is in
+    let bad = sym c.number.ensures ∙ c.in_default.is in
     refuses _ (user-bad _ _ (names (goal.at.returns-in_default-clause-adds c).Else-not-is_name-3) (one-role (goal.at.returns-in_default-clause-adds c).Else-same) (rw (← c.value_under.ensures) bad))
 
 pub find_user-requires : goal.find_user-requires
 find_user-requires c = omega (arith, c.requires.0)
 
-pub returns-in-At-clause-adds : goal.returns-in-At-clause-adds
+pub returns-in-Some-find_user-clause-adds : goal.returns-in-Some-find_user-clause-adds
 unfolding text
-returns-in-At-clause-adds c =
-    refuses _ (user-doubled _ _ (names (goal.at.returns-in-At-clause-adds c).Else-not-is_name-3) (one-role (goal.at.returns-in-At-clause-adds c).Else-same) (quota (goal.at.returns-in-At-clause-adds c).In-Is)
-    (user-known _ {n = val c.args.head.now c.args.line.now (text "user")} c.value_under-name.ensures c.find_user.ensures c.in-At.is).1)
+returns-in-Some-find_user-clause-adds c =
+    refuses _ (user-doubled _ _ (names (goal.at.returns-in-Some-find_user-clause-adds c).Else-not-is_name-3) (one-role (goal.at.returns-in-Some-find_user-clause-adds c).Else-same) (quota (goal.at.returns-in-Some-find_user-clause-adds c).In-Some)
+    (user-known _ {n = val c.args.head.now c.args.line.now (text "user")} c.value_under-name.ensures c.find_user.ensures c.in-Some-find_user.is).1)
 
 pub row_count-requires : goal.row_count-requires
 row_count-requires c = (omega arith, omega (arith, c.requires.0))
 
 pub returns-then-row_count-ge-USERS-clause-adds : goal.returns-then-row_count-ge-USERS-clause-adds
 returns-then-row_count-ge-USERS-clause-adds c =
-    refuses _ (user-full _ _ (names (goal.at.returns-then-row_count-ge-USERS-clause-adds c).Else-not-is_name-3) (one-role (goal.at.returns-then-row_count-ge-USERS-clause-adds c).Else-same) (quota (goal.at.returns-then-row_count-ge-USERS-clause-adds c).In-Is) (new (goal.at.returns-then-row_count-ge-USERS-clause-adds c).In_default-find_user) (users-counted _ c.row_count.ensures) (omega (arith, c.if-row_count-ge-USERS.true)))
+    refuses _ (user-full _ _ (names (goal.at.returns-then-row_count-ge-USERS-clause-adds c).Else-not-is_name-3) (one-role (goal.at.returns-then-row_count-ge-USERS-clause-adds c).Else-same) (quota (goal.at.returns-then-row_count-ge-USERS-clause-adds c).In-Some) (new (goal.at.returns-then-row_count-ge-USERS-clause-adds c).In_default-find_user) (users-counted _ c.row_count.ensures) (omega (arith, c.if-row_count-ge-USERS.true)))
 
 pub overflow_cast-quota : goal.overflow_cast-quota
-overflow_cast-quota c = record { fits = omega (arith, (number-some _ _ _ (quota (goal.at.overflow_cast-quota c).In-Is)).2) }
+overflow_cast-quota c = record { fits = omega (arith, (number-some _ _ _ (quota (goal.at.overflow_cast-quota c).In-Some)).2) }
 
 pub push_user-requires : goal.push_user-requires
 push_user-requires c = (omega (arith, c.requires.0), (name-named _ (passed c.is_name.ensures c.if-not-is_name.false)).low)
@@ -108,7 +106,7 @@ unfolding text
 returns c =
     let push = c.push_user in
     record {
-      adds = user-added _ _ (names (goal.at.returns c).Else-not-is_name-3) (one-role (goal.at.returns c).Else-same) (quota (goal.at.returns c).In-Is) (new (goal.at.returns c).In_default-find_user) (users-counted _ c.row_count.ensures) (omega (arith, c.if-row_count-ge-USERS.false))
+      adds = user-added _ _ (names (goal.at.returns c).Else-not-is_name-3) (one-role (goal.at.returns c).Else-same) (quota (goal.at.returns c).In-Some) (new (goal.at.returns c).In_default-find_user) (users-counted _ c.row_count.ensures) (omega (arith, c.if-row_count-ge-USERS.false))
           c.value_under-name.ensures c.value_under-role.ensures c.value_under-key.ensures push.ensures.users_after;
       keeps = push.ensures.keeps;
     }

@@ -1,5 +1,5 @@
 use Prim.Native.Nat.{◌≤◌, ◌+◌, ◌*◌}
-use mathlib.Core.Path.{refl, sym, ◌∙◌}
+use mathlib.Core.Path.{sym, ◌∙◌}
 use native.Mathlib.Omega.{arith}
 use borrow.Author.Rules.{rules}
 use Rattle.steps.specs.Environments.{binding_row, bindings_bytes}
@@ -11,10 +11,7 @@ use Rattle.tabletext.proofs.row.has_binding.Goals as goal
 
 -- the row at i is inside
 inside : (c : In-loop-i) → c.loop-i.i * binding_row + binding_row ≤ bindings_bytes
-inside c = binding-inside _ c.row_count-n.ensures c.loop-i.i c.loop-i-test.true
-
-pub loop-i-init : goal.loop-i-init
-loop-i-init c = (search rules, refl)
+inside c = binding-inside _ c.row_count-i-end.ensures c.loop-i.i c.loop-i-test.true
 
 pub overflow_mul-at : goal.overflow_mul-at
 overflow_mul-at c = omega (arith, inside c)
@@ -31,21 +28,19 @@ name_from-requires-then-same c = omega (arith, inside (goal.at.name_from-require
 pub returns-then-same-2 : goal.returns-then-same-2
 returns-then-same-2 c =
     let l = c.loop-i in
-    sym (l.invariant.1
-    ∙ binding-left _ c.row_count-n.ensures l.i _ c.loop-i-test.true c.name_from.ensures c.same.ensures
+    sym (l.invariant
+    ∙ binding-left _ c.row_count-i-end.ensures l.i _ c.loop-i-test.true c.name_from.ensures c.same.ensures
     ∙ rw (c.if-same.true, ← c.name_from-then-same.ensures, ← c.same-then-same.ensures, c.if-same-2.true))
 
 pub loop-i-preserved : goal.loop-i-preserved
 loop-i-preserved c =
-    let l = c.loop-i in (
-      search rules,
-      l.invariant.1
-          ∙ binding-left _ c.row_count-n.ensures l.i _ c.loop-i-test.true c.name_from.ensures c.same.ensures
-          ∙ elim c.if-same.branch [
-            | then-same+else-same-2 w ↦ rw (w.if-same.true, ← w.name_from-then-same.ensures, ← w.same-then-same.ensures, w.if-same-2.false)
-            | else-same w ↦ rw w.if-same.false
-          ],
-    )
+    let l = c.loop-i in
+    l.invariant
+    ∙ binding-left _ c.row_count-i-end.ensures l.i _ c.loop-i-test.true c.name_from.ensures c.same.ensures
+    ∙ elim c.if-same.branch [
+      | then-same+else-same-2 w ↦ rw (w.if-same.true, ← w.name_from-then-same.ensures, ← w.same-then-same.ensures, w.if-same-2.false)
+      | else-same w ↦ rw w.if-same.false
+    ]
 
 pub returns : goal.returns
-returns c = let l = c.loop-i in sym (l.invariant.1 ∙ binding-over _ c.row_count-n.ensures l.i _ (search rules))
+returns c = let l = c.loop-i in sym (l.invariant ∙ binding-over _ c.row_count-i-end.ensures l.i _ (search rules))

@@ -1,4 +1,3 @@
-use Prim.Native.Nat.{◌-◌, ◌≤◌}
 use mathlib.Core.Path.{◌≡◌}
 use lib.ListN.{drop}
 use Rattle.model.specs.Base.{any}
@@ -8,7 +7,4 @@ use Rattle.tabletext.proofs.row.has_binding.Given as goal
 
 abbrev pub invariant-loop-i : goal.invariant-loop-i
 invariant-loop-i l =
-    (l.i ≤ l.n) × (any (same_binding (record { name = l.name; value = l.value })) (bindings_in l.lines) ≡ any (same_binding (record { name = l.name; value = l.value })) (drop l.i (bindings_in l.lines)))
-
-abbrev pub decreases-loop-i : goal.decreases-loop-i
-decreases-loop-i l = l.n - l.i
+    any (same_binding (record { name = l.name; value = l.value })) (bindings_in l.lines) ≡ any (same_binding (record { name = l.name; value = l.value })) (drop l.i (bindings_in l.lines))

@@ -1,47 +1,43 @@
 use mathlib.Core.Path.{◌∙◌}
+use native.Mathlib.Omega.{arith}
 use Rattle.rows.specs.Positions.{behind, placed}
-use Rattle.model.specs.Base.{text}
-use Rattle.values.specs.Starts.{read_as}
-use Rattle.values.specs.declared.value.Start.TheVariants.{True, False, Text, Positive, Negative, Other}
-use Rattle.values.proofs.Values.{value-over, value-is}
+use Rattle.std.specs.Prelude.{None}
+use Rattle.model.specs.Base.{text, is_digit}
+use Rattle.model.specs.Values.{read_string, read_pos, read_neg}
+use Rattle.model.proofs.Reading.{within-yes}
+use Rattle.lexical.proofs.Runs.{within-below, within-above}
+use Rattle.values.proofs.Values.{value-over, value-is, true-first, false-first, quote-first, minus-first, digit-first, other-first}
 use Rattle.values.proofs.value.value_at.Goals as goal
 
--- The first byte's kind says which reader reads the value, and what that one answers is the answer.
+-- The first byte says which reader reads the value, and what that one answers is the answer.
 
-pub returns-then-s-at : goal.returns-then-s-at
-returns-then-s-at c = record { result_value = value-over _ _ c.if-s-at.true; answer_in_text = tt }
+pub returns-then-s-at-clause-result_value : goal.returns-then-s-at-clause-result_value
+returns-then-s-at-clause-result_value c = value-over _ _ c.if-s-at.true
 
-pub returns-in-True : goal.returns-in-True
-unfolding text read_as
-returns-in-True c =
-    let a = c.word_at.ensures in
-    record { result_value = a.0 ∙ value-is _ _ c.if-s-at.false _ True c.start_of-start.ensures c.in-True.is; answer_in_text = a.1 }
+pub returns-in-116-clause-result_value : goal.returns-in-116-clause-result_value
+unfolding text
+returns-in-116-clause-result_value c = c.word_at.ensures.0 ∙ value-is _ _ c.if-s-at.false _ (λ r. rw c.in-116.is (true-first r))
 
-pub returns-in-False : goal.returns-in-False
-unfolding text read_as
-returns-in-False c =
-    let a = c.word_at-in-False.ensures in
-    record { result_value = a.0 ∙ value-is _ _ c.if-s-at.false _ False c.start_of-start.ensures c.in-False.is; answer_in_text = a.1 }
+pub returns-in-102-clause-result_value : goal.returns-in-102-clause-result_value
+unfolding text
+returns-in-102-clause-result_value c = c.word_at-in-102.ensures.0 ∙ value-is _ _ c.if-s-at.false _ (λ r. rw c.in-102.is (false-first r))
 
-pub returns-in-Text : goal.returns-in-Text
-unfolding text read_as
-returns-in-Text c =
-    let a = c.text_at.ensures in
-    record { result_value = a.0 ∙ value-is _ _ c.if-s-at.false _ Text c.start_of-start.ensures c.in-Text.is; answer_in_text = a.1 }
+pub returns-in-34-clause-result_value : goal.returns-in-34-clause-result_value
+returns-in-34-clause-result_value c = c.text_at.ensures.0 ∙ value-is _ _ c.if-s-at.false read_string (λ r. rw c.in-34.is (quote-first r))
 
-pub returns-in-Positive : goal.returns-in-Positive
-unfolding text read_as
-returns-in-Positive c =
-    let a = c.positive_at.ensures in
-    record { result_value = a.0 ∙ value-is _ _ c.if-s-at.false _ Positive c.start_of-start.ensures c.in-Positive.is; answer_in_text = a.1 }
+pub returns-in-45-clause-result_value : goal.returns-in-45-clause-result_value
+returns-in-45-clause-result_value c = c.negative_at.ensures.0 ∙ value-is _ _ c.if-s-at.false read_neg (λ r. rw c.in-45.is (minus-first r))
 
-pub returns-in-Negative : goal.returns-in-Negative
-unfolding text read_as
-returns-in-Negative c =
-    let a = c.negative_at.ensures in
-    record { result_value = a.0 ∙ value-is _ _ c.if-s-at.false _ Negative c.start_of-start.ensures c.in-Negative.is; answer_in_text = a.1 }
+pub returns-in-48-to-57-clause-result_value : goal.returns-in-48-to-57-clause-result_value
+unfolding is_digit
+returns-in-48-to-57-clause-result_value c = c.positive_at.ensures.0 ∙ value-is _ _ c.if-s-at.false read_pos (λ r. digit-first _ r (within-yes 48 57 _ (omega arith) (omega arith)))
 
-pub returns-in-Other : goal.returns-in-Other
-unfolding read_as placed behind
-returns-in-Other c =
-    record { result_value = value-is _ _ c.if-s-at.false _ Other c.start_of-start.ensures c.in-Other.is; answer_in_text = tt }
+pub returns-in_default-clause-result_value : goal.returns-in_default-clause-result_value
+unfolding is_digit placed behind
+returns-in_default-clause-result_value c =
+    value-is _ _ c.if-s-at.false (λ s. None) (other-first _ (omega arith) (omega arith) (omega arith) (omega arith) (within-below 48 57 _ (omega arith)))
+
+pub returns-in_default-2-clause-result_value : goal.returns-in_default-2-clause-result_value
+unfolding is_digit placed behind
+returns-in_default-2-clause-result_value c =
+    value-is _ _ c.if-s-at.false (λ s. None) (other-first _ (omega arith) (omega arith) (omega arith) (omega arith) (within-above 48 57 _ (omega arith)))

@@ -1,4 +1,4 @@
-use mathlib.Core.Path.{refl, sym, ◌∙◌}
+use mathlib.Core.Path.{sym, ◌∙◌}
 use borrow.Author.Rules.{rules}
 use native.Mathlib.Omega.{arith}
 use Rattle.layout.proofs.Used.{used-fit, used-more}
@@ -9,16 +9,10 @@ use Rattle.writer.proofs.saved.next_shown.Goals as goal
 
 -- Each turn passes a slot that is not shown; the slots in use end at an empty one or behind the last.
 
-pub loop-j-init : goal.loop-j-init
-loop-j-init c = (c.requires.0, refl)
-
 pub returns-then-is_empty : goal.returns-then-is_empty
 returns-then-is_empty c =
     let l = c.loop-j in
     sym (l.invariant.1 ∙ shown-stop _ _ l.j (search rules) l.invariant.0 c.slot_at-slot.ensures.0 (sym c.is_empty.ensures ∙ c.if-is_empty.true))
-
-pub is_shown-requires : goal.is_shown-requires
-is_shown-requires c = (search rules, c.requires.1)
 
 pub returns-then-is_shown : goal.returns-then-is_shown
 returns-then-is_shown c =

@@ -1,4 +1,4 @@
-use Prim.Native.Nat.{◌-◌, ◌≤◌}
+use Prim.Native.Nat.{◌≤◌}
 use mathlib.Core.Path.{◌≡◌}
 use lib.ListN.{length}
 use Rattle.layout.specs.Layout.{in_use}
@@ -11,6 +11,3 @@ use Rattle.writer.proofs.saved.next_shown.Given as goal
 abbrev pub invariant-loop-j : goal.invariant-loop-j
 invariant-loop-j l =
     (l.j ≤ length (in_use slot_bytes max_fields l.table)) × (shown_from l.shown l.i (slots_from l.i l.table) ≡ shown_from l.shown l.j (slots_from l.j l.table))
-
-abbrev pub decreases-loop-j : goal.decreases-loop-j
-decreases-loop-j l = max_fields - l.j

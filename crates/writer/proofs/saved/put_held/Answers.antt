@@ -16,7 +16,7 @@ returns-in_default c =
 
 pub slice_bounds-put-end-2 : goal.slice_bounds-put-end-2
 slice_bounds-put-end-2 c =
-    held-end _ _ c.value_text-text.ensures.result_value _ c.value_at.ensures.result_value c.in-At.field-0 c.in-At.end c.in-At.is
+    held-end _ _ c.value_text-text.ensures.result_value _ c.value_at.ensures.result_value _ _ c.in-Some.is
 
 pub put-requires-2 : goal.put-requires-2
 put-requires-2 c = rw length-take (search rules)
@@ -24,6 +24,6 @@ put-requires-2 c = rw length-take (search rules)
 pub returns : goal.returns
 returns c =
     let s = c.args.slot.now in
-    let e = held-some s _ c.value_text-text.ensures.result_value _ c.value_at.ensures.result_value c.in-At.field-0 c.in-At.end c.in-At.is in
+    let e = held-some s _ c.value_text-text.ensures.result_value _ c.value_at.ensures.result_value _ _ c.in-Some.is in
     let w = rw e at c.put-2.ensures in
     record { wrote = w; upper_bound = omega (arith, value-short s) }

@@ -17,10 +17,10 @@ use Rattle.writer.proofs.saved.put_saved.Given as goal
 abbrev behind : ℕ → Shown → Bytes → Bytes
 behind i shown table = saved_behind (path_in (take slot_bytes (drop (i * slot_bytes) table))) (fields_from (i + 1) shown table)
 
-abbrev pub invariant-loop-shown : goal.invariant-loop-shown
-invariant-loop-shown l =
+abbrev pub invariant-loop-next : goal.invariant-loop-next
+invariant-loop-next l =
     (l.i < max_fields) × (l.i < length (in_use slot_bytes max_fields l.table)) × (l.to ≤ l.at + saved_field * (l.i + 1)) × (length l.out ≡ length l.initial.out)
     × Remains l.initial.to (behind l.initial.i l.shown l.table) l.initial.out l.to (behind l.i l.shown l.table) l.out
 
-abbrev pub decreases-loop-shown : goal.decreases-loop-shown
-decreases-loop-shown l = max_fields - l.i
+abbrev pub decreases-loop-next : goal.decreases-loop-next
+decreases-loop-next l = max_fields - l.i

@@ -1,6 +1,5 @@
 use Prim.Native.Nat.{suc, ◌+◌, ◌-◌}
-use mathlib.Core.Path.{◌≡◌, refl}
-use native.Mathlib.Nat.{add-zero, sub-zero}
+use mathlib.Core.Path.{◌≡◌}
 use native.Mathlib.Omega.{arith}
 use borrow.Author.Rules.{rules}
 use Rattle.buffers.proofs.Writers.{wrote_none}
@@ -9,19 +8,16 @@ use Rattle.writer.proofs.turn.put_braces.Goals as goal
 
 -- Each turn writes one of the braces that remain.
 
-pub loop-i-init : goal.loop-i-init
-loop-i-init c = (search rules, refl, rw (add-zero, sub-zero) (refl, refl))
-
 pub loop-i-preserved : goal.loop-i-preserved
 loop-i-preserved c =
     let l = c.loop-i in
     let n = c.args.n in
     let e : n - l.i ≡ suc (n - (l.i + 1)) = omega arith in
-    (search rules, search rules, remains-step _ _ _ _ _ _ _ _ _ (rw e at l.invariant.2) (search rules, c.put_byte.ensures.1))
+    (search rules, remains-step _ _ _ _ _ _ _ _ _ (rw e at l.invariant.1) (search rules, c.put_byte.ensures.1))
 
 pub returns : goal.returns
 returns c =
     let l = c.loop-i in
     let n = c.args.n in
     let e : n - l.i ≡ 0 = omega arith in
-    remains-end _ _ _ _ _ _ _ _ (rw e at l.invariant.2) (omega arith, (wrote_none _ _).1)
+    remains-end _ _ _ _ _ _ _ _ (rw e at l.invariant.1) (omega arith, (wrote_none _ _).1)

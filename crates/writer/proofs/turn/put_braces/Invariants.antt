@@ -1,4 +1,4 @@
-use Prim.Native.Nat.{◌+◌, ◌-◌, ◌≤◌}
+use Prim.Native.Nat.{◌+◌, ◌-◌}
 use mathlib.Core.Path.{◌≡◌}
 use lib.ListN.{length, replicate}
 use Rattle.writer.proofs.Remains.{Remains}
@@ -6,7 +6,4 @@ use Rattle.writer.proofs.turn.put_braces.Given as goal
 
 abbrev pub invariant-loop-i : goal.invariant-loop-i
 invariant-loop-i l =
-    (l.i ≤ l.n) × (length l.out ≡ length l.initial.out) × Remains l.at (replicate l.n 0x7D) l.initial.out (l.at + l.i) (replicate (l.n - l.i) 0x7D) l.out
-
-abbrev pub decreases-loop-i : goal.decreases-loop-i
-decreases-loop-i l = l.n - l.i
+    (length l.out ≡ length l.initial.out) × Remains l.at (replicate l.n 0x7D) l.initial.out (l.at + l.i) (replicate (l.n - l.i) 0x7D) l.out

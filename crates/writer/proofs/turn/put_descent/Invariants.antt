@@ -11,6 +11,3 @@ abbrev pub invariant-loop-i : goal.invariant-loop-i
 invariant-loop-i l =
     (l.to + (max_key + 4) * (l.n - l.i) ≤ l.at + (max_key + 4) * (l.n - l.from)) × (length l.out ≡ length l.initial.out)
     × Remains l.at (descend (drop l.from (path_in l.path))) l.initial.out l.to (descend (drop l.i (path_in l.path))) l.out
-
-abbrev pub decreases-loop-i : goal.decreases-loop-i
-decreases-loop-i l = l.n - l.i

@@ -1,0 +1,2 @@
+-- Laws that the proofs cite: no refusal has the number 0.
+pub mod Positive
