@@ -1,8 +1,7 @@
 -- Numbers say what the answer says that they were taken from.
 use Prim.Native.Nat.{ℕ}
-use mathlib.Core.Path.{◌≡◌, refl}
+use mathlib.Core.Path.{◌≡◌, refl, ap, ◌∙◌}
 use mathlib.Core.List.{List}
-use native.Mathlib.Omega.{arith}
 use Rattle.model.specs.Base.{Bytes}
 use Rattle.model.specs.Refusals.{Result, refused, done}
 use Rattle.model.specs.Opening.{State, Fault, Texts, fault, opened}
@@ -10,13 +9,13 @@ use Rattle.std.specs.Prelude as std
 use Rattle.std.specs.Prelude.{Ok, Err}
 use Rattle.refusals.specs.Numbers as refusals
 use Rattle.refusals.specs.Numbers.{answer_by, bare}
-use Rattle.refusals.proofs.Positive.{above_zero}
 use Rattle.opening.specs.declared.answer.Fault as code
 use Rattle.opening.specs.Answers.{fault_of, Opens}
 use Rattle.model.specs.Serving.{Outcome}
 use Rattle.opening.specs.Memory.{Arrays}
 use Rattle.server.specs.Masked.{Effect}
 use Rattle.server.specs.Replies.{Given, answer_in, told_in, outcome_in, Outputs, Leaves}
+use Rattle.exports.proofs.Accepted.{zero-accepted}
 use Rattle.exports.specs.Numbers.{fault_number, fault_text, fault_line, kind_of, number_of, OpensAs, Tells, ServesAs}
 
 -- a reply's kind and number, where the reply with what it left is an outcome
@@ -42,16 +41,10 @@ unfolding fault_number fault_text fault_line fault
 refused_as (refused g) f e = (cc, cc, cc)
 refused_as (done s) f e = cc
 
--- 0 is no refusal's number, so it says that the opening was accepted
-zero-accepted : (o : Result Fault State) (answer : std.Result (Unit {0}) code.Fault) {n : ℕ} → answer_by fault_of answer ≡ bare o → n ≡ fault_number o → n ≡ 0
-    → ((s : State) × (o ≡ done s)) × (answer ≡ Ok tt)
-unfolding fault_number fault
-zero-accepted (done s) (Ok u) told is empty = ((s, refl), refl)
-zero-accepted (done s) (Err f) told is empty = cc
-zero-accepted (refused g) (Ok u) told is empty = cc
-zero-accepted (refused g) (Err f) told is empty =
-    let same : refusals.number_of f.refusal ≡ g.number = cc in
-    absurd (omega (arith, above_zero f.refusal))
+-- the opening was accepted, and the answer says so
+answered : (o : Result Fault State) (answer : std.Result (Unit {0}) code.Fault) → answer_by fault_of answer ≡ bare o → (s : State) × (o ≡ done s) → answer ≡ Ok tt
+answered o (Ok u) told accepted = refl
+answered o (Err f) told accepted = let no : refused (fault_of f) ≡ done tt = told ∙ ap bare accepted.1 in cc
 
 -- either, as numbers
 pub opens_as : {before after : Arrays} {texts : Texts} {answer : std.Result (Unit {0}) code.Fault} {r t l : ℕ} → Opens before texts answer after
@@ -62,6 +55,6 @@ opens_as {texts = texts} {answer} o (n, t, l) = record {
   line = l;
   state = o.state;
   bytes = o.bytes;
-  zero_done = λ z. (zero-accepted (opened texts) answer o.answered n z).0;
-  agrees = λ z. o.agrees (zero-accepted (opened texts) answer o.answered n z).1;
+  zero_done = zero-accepted texts n;
+  agrees = λ z. o.agrees (answered (opened texts) answer o.answered (zero-accepted texts n z));
 }
