@@ -32,7 +32,7 @@ use Rattle.opening.proofs.Zeros
 use Rattle.server.specs.Masked.{mask_at, mask_for, masks_after, effect_by_policy}
 use Rattle.server.specs.Replies.{outcome_in, act, event_of}
 use Rattle.server.specs.Calls as claims
-use Rattle.server.specs.Calls.{AsRun, acts_of, None, requested, saved}
+use Rattle.server.specs.Calls.{AsRun, acts_of, none, requested, saved}
 use Rattle.server.proofs.Agree.{memory-agrees, masked-said}
 
 pub set-exactly : claims.SetExactly
@@ -86,7 +86,7 @@ step a b c x o es is left later =
 
 pub calls-run : claims.CallsRun
 unfolding events end outcome_in effect_by_policy
-calls-run a b es agree (None x) = record { happened = refl; ends = refl; agrees = agree }
+calls-run a b es agree (none x) = record { happened = refl; ends = refl; agrees = agree }
 calls-run a b es agree (requested x y z text given left r rest same served calls) =
     let (by-policy, again) = masked-said x y text given left r same served agree in
     step x y z (act text given) _ rest by-policy.is refl (calls-run y z rest again calls)

@@ -27,7 +27,7 @@ use Rattle.server.specs.Replies.{Given, outcome_in, Outputs, act, event_of, Serv
 -- ── Calls ──
 -- requests and saves, each on what the one before returned: what happened at each, and the arrays at the end. No request writes the tables
 pub data Calls : Arrays → List Event → Arrays → Type 0 where
-  None : (a : Arrays) → Calls a [] a
+  none : (a : Arrays) → Calls a [] a
   requested : (a b c : Arrays) (text : Bytes) (given left : Outputs) (r : Given) (es : List Event)
       → b.tables ≡ a.tables → ServedByMasks a text given r b left → Calls b es c
       → Calls a (event_of (state_of a) (act text given) (outcome_in r (state_of b) left.buffer left.list) ∷ es) c
