@@ -4,7 +4,8 @@
 ghost use Rattle.std.specs.Prelude.{◌≡◌, ◌+◌, ◌≤◌, length};
 ghost use Rattle.rows.specs.Rows.{Wrote};
 ghost use Rattle.model.specs.Limits.{max_copy};
-ghost use Rattle.model.specs.Program.{print_answer};
+ghost use Rattle.model.specs.Opening.{fault};
+ghost use Rattle.model.specs.Program.{print_answer, print_fault};
 ghost use Rattle.opening.specs.Memory.{arrays};
 ghost use Rattle.server.specs.Replies.{answer_in, outputs};
 ghost use Rattle.printing.specs.Printed.{mark_length, most_numbered, most_fault, numbered, opening_text, Inside, RespondsByMasks, RespondsByPolicy};
@@ -84,7 +85,21 @@ pub fn respond(
     put_deliveries(out, to, list, told, &line[at..])
 }
 
-// `NO;number;text;line` for a refused opening; nothing for an accepted one.
+// `NO;number;text;line`, whatever the three numbers are.
+pub fn put_fault(out: &mut [u8], number: usize, text: usize, line: usize) -> usize
+    ensures wrote { Wrote 0 (print_fault (fault number text line)) out.old result out.new }
+    ensures upper_bound { result ≤ most_fault }
+{
+    let mut to = put(out, 0, b"NO;");
+    to = put_decimal(out, to, number);
+    to = put_byte(out, to, b';');
+    to = put_decimal(out, to, text);
+    to = put_byte(out, to, b';');
+    to = put_decimal(out, to, line);
+    put_byte(out, to, b'\n')
+}
+
+// The same of a refused opening; nothing for an accepted one.
 pub fn put_opening(out: &mut [u8], opened: Result<(), Fault>) -> usize
     ensures wrote { Wrote 0 (opening_text opened) out.old result out.new }
     ensures upper_bound { result ≤ most_fault }
@@ -92,11 +107,5 @@ pub fn put_opening(out: &mut [u8], opened: Result<(), Fault>) -> usize
     let Err(fault) = opened else {
         return 0;
     };
-    let mut to = put(out, 0, b"NO;");
-    to = put_decimal(out, to, fault.refusal.number());
-    to = put_byte(out, to, b';');
-    to = put_decimal(out, to, fault.text);
-    to = put_byte(out, to, b';');
-    to = put_decimal(out, to, fault.line);
-    put_byte(out, to, b'\n')
+    put_fault(out, fault.refusal.number(), fault.text, fault.line)
 }
