@@ -1,6 +1,5 @@
 // The functions of `lexical`, `values` and `buffers`.
-use crate::show;
-use crate::table::each;
+use crate::{each, show};
 use buffers::{put, put_byte, put_decimal};
 use lexical::class::{
     Class, between, is_blank, is_digit, is_identifier_byte, is_key, is_name, is_name_byte,

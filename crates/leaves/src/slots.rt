@@ -1,6 +1,5 @@
 // The functions of `layout`, `paths`, `steps` and `matching`.
-use crate::show;
-use crate::table::each;
+use crate::{each, show};
 use buffers::put;
 use layout::counted::count;
 use layout::name::{KEY_ROW, NAME_ROW, name, name_from, put_name};

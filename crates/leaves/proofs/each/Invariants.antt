@@ -1,5 +1,5 @@
 use Rattle.std.proofs.Common.{◌≤◌}
-use Rattle.leaves.proofs.table.each.Given as goal
+use Rattle.leaves.proofs.each.Given as goal
 
 -- a line begins behind the last one that was passed
 
