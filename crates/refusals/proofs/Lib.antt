@@ -1,2 +1,2 @@
--- Laws that the proofs cite: no refusal has the number 0.
+-- A law of the numbers: no refusal has 0.
 pub mod Positive
